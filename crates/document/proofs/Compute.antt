@@ -1,0 +1,128 @@
+-- Opens every definition that the answer of a read or of printing goes through, module by module: a statement that is computed says `unfolding computes`.
+use lib.Count.{leadingZeros}
+use Rattle.utf8.specs.Scalar
+use Rattle.utf8.specs.Sequence
+use Rattle.utf8.specs.Position
+use Rattle.kind.specs.Bytes
+use Rattle.kind.specs.Class
+use Rattle.kind.specs.Rules
+use Rattle.kind.specs.Inside
+use Rattle.lexer.specs.Byte
+use Rattle.lexer.specs.Syntax
+use Rattle.lexer.specs.Expression
+use Rattle.lexer.specs.Scan
+use Rattle.document.specs.Value
+use Rattle.document.specs.Document
+use Rattle.document.specs.Spelling
+use Rattle.document.specs.Meaning
+use Rattle.document.specs.Imperative
+use Rattle.document.specs.Table
+use Rattle.document.specs.WellFormed
+use Rattle.document.specs.Answer
+use Rattle.document.specs.Canonical
+use Rattle.document.specs.Printing
+
+unfoldable scalar : Unit {0}
+unfolding Scalar.isScalar Scalar.encode Scalar.encodeAll Scalar.allScalar
+scalar = tt
+
+unfoldable sequence : Unit {0}
+unfolding Sequence.leadingOnes Sequence.within Sequence.forms Sequence.begins Sequence.firstForm Sequence.sequenceLength Sequence.validFrom
+    Sequence.validUpTo
+sequence = tt
+
+unfoldable position : Unit {0}
+unfolding Position.hasLineFeed Position.lineFeeds Position.lineOf Position.lastLine Position.isContinuation Position.characters Position.columnOf
+position = tt
+
+unfoldable bytes : Unit {0}
+unfolding Bytes.codes Bytes.same Bytes.among
+bytes = tt
+
+unfoldable class : Unit {0}
+unfolding Class.as-name Class.names Class.classIn Class.classOf Class.nameIn Class.nameOf Class.isKind Class.isElement Class.kindOf Class.keywordOf
+    Class.isBlock Class.significance
+class = tt
+
+unfoldable rules : Unit {0}
+unfolding Rules.rules Rules.ruleIn Rules.ruleOf
+rules = tt
+
+unfoldable inside : Unit {0}
+unfolding Inside.sort Inside.isInclude Inside.allows Inside.firstChild Inside.nextChild Inside.nextParameter Inside.step Inside.start
+    Inside.noneRequired Inside.mayBeEmpty Inside.ended
+inside = tt
+
+unfoldable byte : Unit {0}
+unfolding Byte.byteClass Byte.openByte Byte.closeByte Byte.sameBracket Byte.blankClass Byte.ordinaryClass Byte.isBlank Byte.isOrdinary Byte.isRaw
+byte = tt
+
+unfoldable syntax : Unit {0}
+unfolding Syntax.pieceBefore Syntax.piecesBefore Syntax.leafBefore Syntax.bytesBefore Syntax.bytesOf Syntax.isHex Syntax.hexDigit Syntax.hexValue
+    Syntax.isPiece Syntax.arePieces Syntax.areOrdinary Syntax.isLeaf Syntax.after Syntax.mayFollow Syntax.levels Syntax.letterValue Syntax.pieceValue
+    Syntax.piecesValue
+syntax = tt
+
+unfoldable expression : Unit {0}
+unfolding Expression.place Expression.locateLeaf Expression.locate Expression.depth
+expression = tt
+
+unfoldable scan : Unit {0}
+unfolding Scan.ordinaryRun Scan.escapeAt Scan.piece Scan.quotedFrom Scan.quotedItem Scan.itemAt Scan.itemsFrom Scan.addLeaf Scan.wrap Scan.endLevel
+    Scan.atEnd Scan.oneMore Scan.oneLess Scan.build Scan.outermost Scan.scan
+scan = tt
+
+unfoldable value : Unit {0}
+unfolding Value.nonEmpty Value.every Value.isDigit Value.isLetter Value.typeCharacter Value.idCharacter Value.uriCharacter Value.namesBlock
+    Value.targetCharacter Value.isValue Value.isText Value.isSize Value.decimalAfter Value.isDecimal
+value = tt
+
+unfoldable document : Unit {0}
+unfolding Document.treeClass Document.goesOn Document.keyOf Document.typeOf Document.widthOr Document.heightOr Document.keyIn Document.typeIn
+    Document.widthIn Document.heightIn Document.isNode Document.isDocument Document.keepsRules Document.says
+document = tt
+
+unfoldable spelling : Unit {0}
+unfolding Spelling.holdsText Spelling.leadClass Spelling.listClass Spelling.exprClass Spelling.isBlockParameter Spelling.parameters Spelling.join
+    Spelling.spelledAs Spelling.mostLevels Spelling.flatten
+spelling = tt
+
+unfoldable meaning : Unit {0}
+unfolding Meaning.textBytes Meaning.symbolBytes Meaning.onlyOne Meaning.numberOf Meaning.sizeTree Meaning.valueTree Meaning.faultAt Meaning.advance
+    Meaning.finish Meaning.judgeValue Meaning.judgeRoot Meaning.treeOf Meaning.judge Meaning.places
+meaning = tt
+
+unfoldable imperative : Unit {0}
+unfolding Imperative.notAllowed Imperative.inCommand Imperative.loose Imperative.isCommand Imperative.block Imperative.stillOpen Imperative.childOf
+    Imperative.opened Imperative.atInnermost Imperative.contentsOf Imperative.innermost Imperative.regroup
+imperative = tt
+
+unfoldable table : Unit {0}
+unfolding Table.offset Table.tableOf Table.count Table.pool Table.rows
+table = tt
+
+unfoldable wellformed : Unit {0}
+unfolding WellFormed.orElse WellFormed.childCount WellFormed.headCells WellFormed.cellsIn WellFormed.differs WellFormed.cellsBelow WellFormed.hasId
+    WellFormed.isAmong WellFormed.repeatedId WellFormed.idsWhere WellFormed.unknownTarget WellFormed.unknownLink WellFormed.unknownFootnote
+    WellFormed.checkedBy WellFormed.check WellFormed.badRow WellFormed.entries
+wellformed = tt
+
+unfoldable answer : Unit {0}
+unfolding Answer.answerAt Answer.refusal Answer.noRoom Answer.over Answer.filled Answer.tooDeep Answer.judged Answer.oneExpression Answer.afterScan
+    Answer.reading Answer.nodeRoom Answer.checked Answer.stored Answer.afterReading Answer.outcome
+answer = tt
+
+unfoldable canonical : Unit {0}
+unfolding Canonical.valueBefore Canonical.sizeBefore Canonical.keyClass Canonical.nodeFirst Canonical.placeValues Canonical.hexByte
+    Canonical.unicodeBefore Canonical.byteBefore Canonical.bytesBefore Canonical.quotedBefore Canonical.digit Canonical.digits
+    Canonical.bracketsBefore Canonical.stringBefore Canonical.canonical Canonical.layout Canonical.spelledBefore Canonical.treeLevels
+canonical = tt
+
+unfoldable printing : Unit {0}
+unfolding Printing.part Printing.below Printing.notBelow Printing.addRecord Printing.rebuild Printing.candidate Printing.isSound Printing.hasTable
+    Printing.treeOfTable Printing.written Printing.printing
+printing = tt
+
+unfoldable pub computes : Unit {0}
+unfolding leadingZeros scalar sequence position bytes class rules inside byte syntax expression scan value document spelling meaning imperative table wellformed answer canonical printing
+computes = tt

@@ -1,0 +1,32 @@
+-- Demand 3, as a statement about the rules alone: which texts are read, and what is then in the lent memory. No reader is in it.
+use Prim.Native.Nat.{ℕ, _*_, _≤_}
+use mathlib.Core.Path.{_≡_}
+use mathlib.Core.List.{List}
+use lib.ListN.{length}
+use Rattle.document.specs.Document.{Node}
+use Rattle.document.specs.Spelling.{Spelling, Spells}
+use Rattle.document.specs.Table.{recordLength, count, pool, tableOf}
+use Rattle.document.specs.WellFormed.{WellFormed}
+use Rattle.document.specs.Answer.{Memory, Outcome, over}
+
+-- "Room is enough if the lent node words, place list and pool can hold the document."
+pub record Fits (d : Node) (m : Memory) : Type 0 where
+  pub node-words : recordLength * count d ≤ length (m .nodes)
+  pub place-list : count d ≤ length (m .places)
+  pub pool-bytes : length (pool d) ≤ length (m .pool)
+
+-- The text is within the limits and spells the well-formed document d, for which the room is enough.
+pub record Readable (s : Spelling) (text : List ℕ) (m : Memory) (d : Node) : Type 0 where
+  pub short : length text ≤ 65536
+  pub spells : Spells s d text
+  pub well-formed : WellFormed d
+  pub few-nodes : count d ≤ 4096
+  pub fits : Fits d m
+
+-- The answer is 0, and node words, pool and both counts are those of d.
+pub record Read (m : Memory) (o : Outcome) (d : Node) : Type 0 where
+  pub accepted : o .answer .number ≡ 0
+  pub nodes : o .answer .nodes ≡ count d
+  pub bytes : o .answer .pool ≡ length (pool d)
+  pub node-words : o .memory .nodes ≡ over (tableOf d) (m .nodes)
+  pub pool-bytes : o .memory .pool ≡ over (pool d) (m .pool)

@@ -1,0 +1,68 @@
+-- The nested expression that an imperative text stands for. Document 01, "Imperative": each command takes what follows it, up to the next command that ends it;
+-- what may not stand where it stands is put as an expression that is allowed nowhere, so that the nested meaning refuses it at its own place.
+use Prim.Native.Nat.{ℕ}
+use mathlib.Core.Bool.{Bool, not, cond, _&&_, _||_}
+use mathlib.Core.List.{List, [], _∷_, map}
+use lib.Dec.{eqb, leb}
+use Rattle.kind.specs.Class as Class
+use Rattle.lexer.specs.Expression.{Expr, symbol, quoted, list, Exprs, none, and, place}
+use Rattle.document.specs.Spelling.{exprClass, isBlockParameter, join}
+
+-- The empty list is allowed nowhere.
+unfoldable pub notAllowed : Expr → Expr
+notAllowed e = list (place e) none
+
+-- A command "holds its parameters only; anything more in it is 8 there, include and import too".
+unfoldable pub inCommand : Exprs → Exprs
+inCommand none = none
+inCommand (and e es) = and (cond (isBlockParameter (exprClass e)) e (notAllowed e)) (inCommand es)
+
+-- "Other expressions, a loose `[id x]` too, are content of the innermost open block and never parameters", and "a second document command" is 8.
+unfoldable pub loose : Expr → Expr
+loose e = cond (isBlockParameter (exprClass e) || eqb (exprClass e) Class.document) (notAllowed e) e
+
+unfoldable pub isCommand : Expr → Bool
+isCommand e = Class.isBlock (exprClass e) && not (eqb (exprClass e) Class.document)
+
+-- The nested form of a command whose block holds `content`.
+unfoldable pub block : Expr → Exprs → Expr
+block (symbol at s) content = symbol at s
+block (quoted at s) content = quoted at s
+block (list at none) content = list at none
+block (list at (and e es)) content = list at (and e (join (inCommand es) content))
+
+-- "A command ends each open block of lesser or equal significance": those left, by their significance, the innermost first.
+unfoldable pub stillOpen : ℕ → List ℕ → List ℕ
+stillOpen s [] = []
+stillOpen s (o ∷ os) = cond (leb o s) (stillOpen s os) (o ∷ os)
+
+-- "then opens a child of the innermost block left": `contents` are those of the new block, of the innermost left, and so on outwards.
+unfoldable pub childOf : Expr → List Exprs → List Exprs
+childOf e [] = []
+childOf e (inside ∷ []) = []
+childOf e (inside ∷ (rest ∷ others)) = and (block e inside) rest ∷ others
+
+unfoldable pub opened : ℕ → Expr → List Exprs → List ℕ → List Exprs
+opened s e contents [] = []
+opened s e contents (o ∷ os) = cond (leb o s) (none ∷ opened s e contents os) (childOf e contents)
+
+unfoldable pub atInnermost : Expr → List Exprs → List Exprs
+atInnermost e [] = []
+atInnermost e (es ∷ others) = and e es ∷ others
+
+-- What each open block gets of the expressions that follow, the innermost first.
+unfoldable pub contentsOf : List ℕ → Exprs → List Exprs
+contentsOf blocks none = map (λ o. none) blocks
+contentsOf blocks (and e es) =
+    let s = Class.significance (exprClass e) in
+    let command = opened s e (contentsOf (s ∷ stillOpen s blocks) es) blocks in
+    let content = atInnermost (loose e) (contentsOf blocks es) in
+    cond (isCommand e) command content
+
+unfoldable pub innermost : List Exprs → Exprs
+innermost [] = none
+innermost (es ∷ others) = es
+
+-- The nested form of a text whose first expression is e: the document is open from there to the end.
+unfoldable pub regroup : Expr → Exprs → Expr
+regroup e es = block e (innermost (contentsOf (Class.significance Class.document ∷ []) es))

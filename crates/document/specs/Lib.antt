@@ -1,0 +1,13 @@
+pub mod Value
+pub mod Document
+pub mod Spelling
+pub mod Meaning
+pub mod Imperative
+pub mod Table
+pub mod WellFormed
+pub mod Answer
+pub mod Canonical
+pub mod Printing
+pub mod Examples
+pub mod Faults
+pub mod Demand

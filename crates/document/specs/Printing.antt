@@ -1,0 +1,104 @@
+-- What printing answers and leaves in the output, for any words, pool, counts and output. Document 01, "Printing returns number and length."
+use Prim.Native.Nat.{ℕ, zero, suc, _*_, _+_}
+use mathlib.Core.Path.{_≡_}
+use mathlib.Core.Bool.{Bool, true, false, cond, _&&_}
+use mathlib.Core.List.{List, [], _∷_}
+use lib.Dec.{T, leb, ltb}
+use lib.ListN.{length, getD, take, drop}
+use Rattle.kind.specs.Bytes.{same}
+use Rattle.document.specs.Document.{Tree, Node, node, Nodes, childless, child, missing, isDocument, says, Document}
+use Rattle.document.specs.Table.{recordLength, tableOf, pool, count}
+use Rattle.document.specs.WellFormed.{Check, sound, unsound, check, WellFormed}
+use Rattle.document.specs.Answer.{over}
+use Rattle.document.specs.Canonical.{layout, treeLevels, canonical}
+
+-- These words and this pool are the node table of the document d, well-formed and "within the limits
+-- (at most 4,096 nodes, canonical nesting at most 64, pool at most 65,536)".
+pub record IsTableOf (d : Node) (words bytes : List ℕ) : Type 0 where
+  pub document : Document d
+  pub well-formed : WellFormed d
+  pub node-words : tableOf d ≡ words
+  pub pool-bytes : pool d ≡ bytes
+  pub few-nodes : T (leb (count d) 4096)
+  pub nests-within : T (leb (treeLevels (layout d)) 64)
+  pub short-pool : T (leb (length (pool d)) 65536)
+
+-- The test for it looks for the one document that could have this table: each record becomes a node with the strings that its offsets and lengths name,
+-- and takes as children the nodes after it whose numbers are below its end. Whether that document has this table is then tested.
+pub record Numbered : Type 0 where
+  pub number : ℕ
+  pub made : Node
+
+unfoldable pub part : List ℕ → ℕ → ℕ → List ℕ
+part bytes from size = take size (drop from bytes)
+
+unfoldable pub below : ℕ → List Numbered → Nodes
+below e [] = childless
+below e (n ∷ ns) = cond (ltb (n .number) e) (child (n .made) (below e ns)) childless
+
+unfoldable pub notBelow : ℕ → List Numbered → List Numbered
+notBelow e [] = []
+notBelow e (n ∷ ns) = cond (ltb (n .number) e) (notBelow e ns) (n ∷ ns)
+
+-- The record r of node number i, and the nodes after it that have no parent yet.
+unfoldable pub addRecord : List ℕ → ℕ → List ℕ → List Numbered → List Numbered
+addRecord bytes i r later =
+    record {
+      number = i;
+      made = node (getD r 0 0) (part bytes (getD r 3 0) (getD r 4 0)) (part bytes (getD r 5 0) (getD r 6 0))
+          (part bytes (getD r 7 0) (getD r 8 0)) (getD r 9 0) (getD r 10 0) (below (getD r 2 0) later);
+    }
+    ∷ notBelow (getD r 2 0) later
+
+-- The nodes of n records from number i on.
+unfoldable pub rebuild : ℕ → ℕ → List ℕ → List ℕ → List Numbered
+rebuild zero i words bytes = []
+rebuild (suc n) i words bytes =
+    addRecord bytes i (take recordLength words) (rebuild n (i + 1) (drop recordLength words) bytes)
+
+unfoldable pub candidate : List Numbered → Node
+candidate [] = node 0 [] [] [] missing missing childless
+candidate (n ∷ ns) = n .made
+
+unfoldable pub isSound : Check → Bool
+isSound sound = true
+isSound (unsound n i) = false
+
+-- The document d, laid out as the tree t, has this table and is within the limits.
+unfoldable pub hasTable : Tree → Node → List ℕ → List ℕ → Bool
+hasTable t d words bytes =
+    isDocument t
+    && isSound (check d)
+    && same (tableOf d) words
+    && same (pool d) bytes
+    && leb (count d) 4096
+    && leb (treeLevels t) 64
+    && leb (length (pool d)) 65536
+
+-- The tree of the one document that could have this table.
+unfoldable pub treeOfTable : ℕ → List ℕ → List ℕ → Tree
+treeOfTable n words bytes = layout (candidate (rebuild n 0 words bytes))
+
+pub record Printed : Type 0 where
+  pub number : ℕ
+  pub length : ℕ
+  pub out : List ℕ
+
+-- 21: "output too short; length needed". 0: "the spelling, its length, later bytes unaltered."
+unfoldable pub written : List ℕ → List ℕ → Printed
+written s out =
+    cond (ltb (lib.ListN.length out) (lib.ListN.length s)) (record { number = 21; length = lib.ListN.length s; out = out })
+    (record { number = 0; length = lib.ListN.length s; out = over s out })
+
+-- 20: "not the node table of a well-formed document within the limits ..., or a count beyond what is lent; length 0".
+unfoldable pub printing : List ℕ → ℕ → List ℕ → ℕ → List ℕ → Printed
+printing words n bytes m out =
+    let w = take (recordLength * n) words in
+    let b = take m bytes in
+    let t = treeOfTable n w b in
+    let spelled = written (canonical (says t)) out in
+    let refused : Printed = record { number = 20; length = 0; out = out } in
+    cond
+    (leb (recordLength * n) (lib.ListN.length words) && leb m (lib.ListN.length bytes) && hasTable t (says t) w b)
+    spelled
+    refused

@@ -1,0 +1,67 @@
+-- The characters of ids, types and targets, and the numbers of a size. Document 01, "Elements".
+use Prim.Native.Nat.{ℕ, _+_, _*_, _-_}
+use mathlib.Core.Bool.{Bool, true, false, cond, _&&_, _||_}
+use mathlib.Core.List.{List, [], _∷_}
+use lib.Dec.{eqb, leb}
+use lib.ListN.{length}
+use Rattle.utf8.specs.Sequence.{validUpTo}
+use Rattle.kind.specs.Class as Class
+
+unfoldable pub nonEmpty : List ℕ → Bool
+nonEmpty [] = false
+nonEmpty (x ∷ xs) = true
+
+unfoldable pub every : (ℕ → Bool) → List ℕ → Bool
+every p [] = true
+every p (x ∷ xs) = p x && every p xs
+
+-- "Letters and numbers in ids and types are ASCII only."
+unfoldable pub isDigit : ℕ → Bool
+isDigit b = leb 0x30 b && leb b 0x39
+
+unfoldable pub isLetter : ℕ → Bool
+isLetter b = (leb 0x41 b && leb b 0x5A) || (leb 0x61 b && leb b 0x7A)
+
+-- "Type characters: letters, digits, `_`"
+unfoldable pub typeCharacter : ℕ → Bool
+typeCharacter b = isLetter b || isDigit b || eqb b 0x5F
+
+-- "ids and the targets of link and footnote-ref add `-` and `.`"
+unfoldable pub idCharacter : ℕ → Bool
+idCharacter b = typeCharacter b || eqb b 0x2D || eqb b 0x2E
+
+-- "A URI target is one or more bytes 0x21 to 0x7E."
+unfoldable pub uriCharacter : ℕ → Bool
+uriCharacter b = leb 0x21 b && leb b 0x7E
+
+-- The targets of link and footnote-ref name a block; those of image and link-ext are URIs.
+unfoldable pub namesBlock : ℕ → Bool
+namesBlock k = eqb k Class.link || eqb k Class.footnote-ref
+
+unfoldable pub targetCharacter : ℕ → ℕ → Bool
+targetCharacter k b = cond (namesBlock k) (idCharacter b) (uriCharacter b)
+
+-- These bytes may be the value of a parameter of class c in an element of kind k.
+unfoldable pub isValue : ℕ → ℕ → List ℕ → Bool
+isValue k c s =
+    nonEmpty s
+    && cond (eqb c Class.type) (every typeCharacter s)
+    (cond (eqb c Class.id) (every idCharacter s)
+    (cond (eqb c Class.target) (every (targetCharacter k) s) false))
+
+-- "each text one or more code points"
+unfoldable pub isText : List ℕ → Bool
+isText s = nonEmpty s && eqb (validUpTo s) (length s)
+
+-- "at most 65,535 each"
+unfoldable pub isSize : ℕ → ℕ → Bool
+isSize w h = leb w 65535 && leb h 65535
+
+-- The number that decimal digits stand for, after the number n of those before.
+unfoldable pub decimalAfter : ℕ → List ℕ → ℕ
+decimalAfter n [] = n
+decimalAfter n (d ∷ ds) = decimalAfter (n * 10 + (d - 0x30)) ds
+
+-- "one to five decimal digits"
+unfoldable pub isDecimal : List ℕ → Bool
+isDecimal ds = nonEmpty ds && leb (length ds) 5 && every isDigit ds

@@ -1,0 +1,4 @@
+pub mod Same
+pub mod ByLength
+pub mod Tried
+pub mod Names

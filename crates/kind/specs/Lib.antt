@@ -1,0 +1,5 @@
+pub mod Bytes
+pub mod Class
+pub mod ByLength
+pub mod Rules
+pub mod Inside

@@ -1,0 +1,144 @@
+// The names of the language and their numbers (document 01, "Elements").
+mod words; // words.rt: the comparisons with the names
+
+ghost use mathlib.Core.Path.{_≡_};
+ghost use Rattle.kind.specs.Class.{classOf, kindOf, keywordOf, significance};
+
+// An element's kind: "Kinds are numbered 1 to 25". Number 0 is no kind.
+pub struct Kind {
+    pub number: u8,
+}
+
+// A name that leads a list which is no element: a parameter's value, include and import.
+pub struct Keyword {
+    pub number: u8,
+}
+
+impl Kind {
+    pub const DOCUMENT: Kind = Kind { number: 1 };
+
+    pub const PART: Kind = Kind { number: 2 };
+
+    pub const SECTION: Kind = Kind { number: 3 };
+
+    pub const SUBSECTION: Kind = Kind { number: 4 };
+
+    pub const PARAGRAPH: Kind = Kind { number: 5 };
+
+    pub const FORMAL_ITEM: Kind = Kind { number: 6 };
+
+    pub const FOOTNOTE: Kind = Kind { number: 7 };
+
+    pub const TITLE: Kind = Kind { number: 8 };
+
+    pub const TEXT: Kind = Kind { number: 9 };
+
+    pub const TERM: Kind = Kind { number: 10 };
+
+    pub const IMAGE: Kind = Kind { number: 11 };
+
+    pub const VERBATIM: Kind = Kind { number: 12 };
+
+    pub const LINK: Kind = Kind { number: 13 };
+
+    pub const LINK_EXT: Kind = Kind { number: 14 };
+
+    pub const FOOTNOTE_REF: Kind = Kind { number: 15 };
+
+    pub const LIST_ORDERED: Kind = Kind { number: 16 };
+
+    pub const LIST_UNORDERED: Kind = Kind { number: 17 };
+
+    pub const ITEM: Kind = Kind { number: 18 };
+
+    pub const TABLE: Kind = Kind { number: 19 };
+
+    pub const SUMMARY: Kind = Kind { number: 20 };
+
+    pub const HEAD: Kind = Kind { number: 21 };
+
+    pub const NAME: Kind = Kind { number: 22 };
+
+    pub const BODY: Kind = Kind { number: 23 };
+
+    pub const ROW: Kind = Kind { number: 24 };
+
+    pub const CELL: Kind = Kind { number: 25 };
+
+    // The kind that a name leads.
+    pub fn of_name(name: &[u8]) -> Kind
+        ensures { λ r. ⌜ r .number ≡ kindOf (now (name .entry)) ⌝ }
+    {
+        let class = class_of(name);
+        // The kinds end at 25, and the keywords begin at 26.
+        if class <= 25 {
+            return Kind { number: class };
+        }
+        Kind { number: 0 }
+    }
+
+    // "document 4, part 3, section 2, subsection 1, the other three 0"
+    pub fn significance(self) -> u8
+        ensures { λ r. ⌜ r ≡ significance (self .number) ⌝ }
+    {
+        let number = self.number;
+        if number == Kind::DOCUMENT.number {
+            return 4;
+        }
+        if number == Kind::PART.number {
+            return 3;
+        }
+        if number == Kind::SECTION.number {
+            return 2;
+        }
+        if number == Kind::SUBSECTION.number {
+            return 1;
+        }
+        0
+    }
+}
+
+impl Keyword {
+    pub const ID: Keyword = Keyword { number: 26 };
+
+    pub const TYPE: Keyword = Keyword { number: 27 };
+
+    pub const TARGET: Keyword = Keyword { number: 28 };
+
+    pub const SIZE: Keyword = Keyword { number: 29 };
+
+    pub const INCLUDE: Keyword = Keyword { number: 30 };
+
+    pub const IMPORT: Keyword = Keyword { number: 31 };
+
+    // The keyword that a name is.
+    pub fn of_name(name: &[u8]) -> Keyword
+        ensures { λ r. ⌜ r .number ≡ keywordOf (now (name .entry)) ⌝ }
+    {
+        let class = class_of(name);
+        if 26 <= class {
+            return Keyword { number: class };
+        }
+        Keyword { number: 0 }
+    }
+}
+
+// The class of a list led by a name: its kind's number, its keyword's, or 0.
+pub fn class_of(name: &[u8]) -> u8
+    ensures { λ r. ⌜ r ≡ classOf (now (name .entry)) ⌝ }
+{
+    let n = name.len();
+    if n <= 3 {
+        return words::up_to_3(name);
+    }
+    if n == 4 {
+        return words::of_4(name);
+    }
+    if n <= 6 {
+        return words::of_5_or_6(name);
+    }
+    if n <= 8 {
+        return words::of_7_or_8(name);
+    }
+    words::from_9(name)
+}

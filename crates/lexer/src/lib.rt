@@ -1,0 +1,1 @@
+// The scan of a text into expressions: so far its definitions alone (specs/).

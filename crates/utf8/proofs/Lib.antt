@@ -1,0 +1,5 @@
+pub mod Rows
+pub mod Walk
+pub mod Column
+pub mod Decode
+pub mod Agree

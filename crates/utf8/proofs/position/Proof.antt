@@ -1,0 +1,95 @@
+-- `utf8::position` meets its contract. The loop's invariant: line and column, counted on through what is left before the place, are the answer.
+-- Assumes nothing.
+use mathlib.Core.Path.{_≡_, refl, sym, _∙_}
+use mathlib.Core.Logic.{⊎-elim}
+use Prim.Native.Nat.{_+_, _-_, _≤_, _<_, min}
+use native.Mathlib.Omega.{arith}
+use borrow.Author.Needs.{needs}
+use borrow.Author.Tests.{eq-eqb, ne-eqb, not-true, not-false}
+use lib.ListN.{length, take, drop, getD}
+use Rattle.utf8.specs.Position.{lineOf, columnOf, lineFeeds}
+use Rattle.utf8.proofs.Column.{nextLine, nextColumn, columnAfter, column-start, column-end, column-step, line-step, next-line-bound, next-column-bound, left-step, left-end}
+use Rattle.utf8.proofs.position.Statement.{statement}
+use Rattle.utf8.proofs.position.Tie as tie
+
+abbrev Inv-loop : tie.InvT-loop
+Inv-loop text place end line₀ column₀ i₀ line column i =
+    (i ≤ end) × (end ≡ min place (length text)) × (line ≤ i + 1) × (column ≤ i + 1)
+    × (line + lineFeeds (drop i (take place text)) ≡ lineOf text place)
+    × (columnAfter column (drop i (take place text)) ≡ columnOf text place)
+
+abbrev μ-loop : tie.MeasureT-loop
+μ-loop text place end line₀ column₀ i₀ line column i = end - i
+
+least-requires : tie.Need-least-requires Inv-loop μ-loop
+least-requires c κs = search needs
+
+loop-holds : tie.Need-loop-holds Inv-loop μ-loop
+unfolding lineOf columnOf
+loop-holds c = (omega arith, c .least .ensures, omega arith, omega arith, refl, column-start _)
+
+shared-slice-read-b : tie.Need-shared-slice-read-b Inv-loop μ-loop
+shared-slice-read-b c = search needs
+
+add-line : tie.Need-add-line Inv-loop μ-loop
+add-line c = search needs
+
+is-continuation-requires : tie.Need-is-continuation-requires Inv-loop μ-loop
+is-continuation-requires c κs = search needs
+
+add-column : tie.Need-add-column Inv-loop μ-loop
+add-column c = search needs
+
+add-i : tie.Need-add-i Inv-loop μ-loop
+add-i c = search needs
+
+loop-less : tie.Need-loop-less Inv-loop μ-loop
+loop-less c = search needs
+
+-- The arms of the branch on the byte.
+next : (c : tie.Joined1 Inv-loop μ-loop)
+    → let b = getD (c .before .before .before .before .before .before .args .text .now) (c .before .before .before .loop .i) 0 in
+    (c .if1 .line ≡ nextLine b (c .before .before .before .loop .line)) × (c .if1 .column ≡ nextColumn b (c .before .before .before .loop .column))
+next c =
+    ⊎-elim
+    (λ w. let e = eq-eqb _ _ (w .0 .taken) in (rw e (w .1), rw e (w .2)))
+    (⊎-elim
+    (λ w. let e = ne-eqb _ _ (w .0 .left) in (rw e (w .3), rw (e, ← w .1 .ensures, not-true (w .1 .result) (w .2 .taken)) (w .4)))
+    (λ w. let e = ne-eqb _ _ (w .0 .left) in (rw e (w .3), rw (e, ← w .1 .ensures, not-false (w .1 .result) (w .2 .left)) (w .4))))
+    (c .if1 .came)
+
+loop-again : tie.Need-loop-again Inv-loop μ-loop
+loop-again c =
+    let h : c .before .before .before .loop .i < min (c .before .before .before .before .before .before .args .place) (length (c .before .before .before .before .before .before .args .text .now)) = omega arith in
+    let e = left-step (c .before .before .before .before .before .before .args .text .now) (c .before .before .before .before .before .before .args .place) (c .before .before .before .loop .i) h in
+    let b = getD (c .before .before .before .before .before .before .args .text .now) (c .before .before .before .loop .i) 0 in (
+      omega arith,
+      c .before .before .before .loop .inv .1,
+      omega (arith, next c, next-line-bound b (c .before .before .before .loop .line)),
+      omega (arith, next c, next-column-bound b (c .before .before .before .loop .column)),
+      rw (next c .0, ← line-step, ← e) (c .before .before .before .loop .inv .4),
+      rw (next c .1, ← column-step, ← e) (c .before .before .before .loop .inv .5),
+    )
+
+returns : tie.Need-returns Inv-loop μ-loop
+unfolding lineFeeds
+returns c =
+    let done = left-end (c .before .before .before .before .args .text .now) (c .before .before .before .before .args .place) (c .before .loop .i) (omega arith) in
+    (omega (arith, rw done at (c .before .loop .inv .4)), sym (column-end (c .before .loop .column)) ∙ (rw done at (c .before .loop .inv .5)))
+
+pub position-spec : {M : Type 1} → statement M
+position-spec =
+    tie.close
+    (tie.spec
+    Inv-loop
+    μ-loop
+    least-requires
+    loop-holds
+    shared-slice-read-b
+    add-line
+    is-continuation-requires
+    add-column
+    add-i
+    loop-less
+    loop-again
+    returns)

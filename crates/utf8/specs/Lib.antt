@@ -1,0 +1,3 @@
+pub mod Scalar
+pub mod Sequence
+pub mod Position
