@@ -66,9 +66,15 @@ pub record Fine (k : ℕ) (e : Expr) : Type 0 where
   pub writes : Writes tree e
   pub lawful : T (keepsRules k tree)
 
--- An element that has begun so may end.
+-- None of these parameters is required.
+pub data NoneRequired : List Slot → Type 0 where
+  no-more : NoneRequired []
+  optional : {n : ℕ} {ps : List Slot} → NoneRequired ps → NoneRequired (may n ∷ ps)
+  both-optional : {ps : List Slot} → NoneRequired ps → NoneRequired (id-type ∷ ps)
+
+-- An element that has begun so may end: with a child, or where no required parameter is left and its content may be empty.
 pub data MayEnd (k : ℕ) : Begun → Type 0 where
-  no-child : {ps : List Slot} {ks : List ℕ} → NoneDue ps 0 → ruleOf k .content ≡ any-of ks → MayEnd k (due ps)
+  no-child : {ps : List Slot} {ks : List ℕ} → NoneRequired ps → ruleOf k .content ≡ any-of ks → MayEnd k (due ps)
   some-child : {s : ℕ} → MayEnd k (children s)
 
 mutual

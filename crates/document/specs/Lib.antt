@@ -6,8 +6,9 @@ pub mod Imperative
 pub mod Table
 pub mod WellFormed
 pub mod Answer
+pub mod Demand
+pub mod Faults
+pub mod Account
 pub mod Canonical
 pub mod Printing
 pub mod Examples
-pub mod Faults
-pub mod Demand

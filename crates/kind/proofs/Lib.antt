@@ -2,3 +2,4 @@ pub mod Same
 pub mod ByLength
 pub mod Tried
 pub mod Names
+pub mod Rows

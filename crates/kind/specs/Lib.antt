@@ -3,3 +3,4 @@ pub mod Class
 pub mod ByLength
 pub mod Rules
 pub mod Inside
+pub mod Examples

@@ -54,3 +54,14 @@ turn-fits text i n h e = omega (arith, sequence-fits (drop i text), length-drop 
 
 pub turn : (text : List ℕ) (i n : ℕ) → n ≡ sequenceLength (drop i text) → i + n + validFrom 0 (drop (i + n) text) ≡ i + validFrom 0 (drop i text)
 turn text i n e = rw (← drop-drop n i text) (omega (arith, walk n (drop i text) (sym e)))
+
+-- What is well formed is within the text.
+pub valid-within : (skip : ℕ) (text : List ℕ) → validFrom skip text ≤ length text
+unfolding validFrom
+valid-within skip [] = omega arith
+valid-within zero (b ∷ text) = go (sequenceLength (b ∷ text)) (λ k. valid-within k text)
+  where
+    go : (n : ℕ) → ((k : ℕ) → validFrom k text ≤ length text) → elim n [ zero ↦ 0 | suc k ↦ suc (validFrom k text) ] ≤ suc (length text)
+    go zero h = omega arith
+    go (suc k) h = omega (arith, h k)
+valid-within (suc k) (b ∷ text) = omega (arith, valid-within k text)

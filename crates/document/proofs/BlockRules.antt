@@ -1,0 +1,169 @@
+-- What a block takes: title, id and type, and then children that are no parameters, each of one sort.
+-- What is said of the rows of the rules is one test that antt computes over the seven blocks. Assumes nothing.
+use Prim.Native.Nat.{ℕ, zero, suc, _≤_, _<_}
+use mathlib.Core.Path.{_≡_, refl, subst, sym}
+use mathlib.Core.Logic.{⊎-elim}
+use mathlib.Core.Bool.{Bool, true, false, not, cond, _&&_}
+use mathlib.Core.List.{List, [], _∷_}
+use native.Mathlib.Nat.{le-of-suc-le-suc, not-suc-le-zero, eq-or-lt-of-le}
+use native.Mathlib.Omega.{arith}
+use lib.Dec.{T, eqb, leb, ltb, leb→le, ltb→lt, eqb→eq}
+use borrow.Author.Tests.{eqb-true}
+use Rattle.laws.proofs.Booleans.{cond-case, both, or-true, true-T, T-true, not-true}
+use Rattle.kind.specs.Bytes.{among}
+use Rattle.kind.specs.Class as Class
+use Rattle.kind.specs.Rules.{Slot, must, may, id-type, Content, any-of, exactly-one, rules, ruleIn, ruleOf}
+use Rattle.kind.specs.Inside.{State, expecting, holding, Step, go, bad, sort, isInclude, allows, firstChild, nextChild, nextParameter, step, start}
+use Rattle.document.specs.Value.{every}
+use Rattle.document.specs.Spelling.{isBlockParameter}
+
+-- A test that holds of every number below k holds of each.
+module _ (test : ℕ → Bool) where
+  below : ℕ → Bool
+  below zero = true
+  below (suc k) = test k && below k
+
+  each-below : (k c : ℕ) → c < k → T (below k) → T (test c)
+  unfolding below
+  each-below zero c h t = absurd (not-suc-le-zero h)
+  each-below (suc k) c h t =
+      let (now, later) = both (test k) (below k) t in
+      ⊎-elim
+      (λ (e : c ≡ k). subst (λ (m : ℕ). T (test m)) (sym e) now)
+      (λ (l : c < k). each-below k c l later)
+      (eq-or-lt-of-le (le-of-suc-le-suc h))
+
+  -- A test that holds of every member of a list holds of each number that stands there.
+  each-among : (ks : List ℕ) (c : ℕ) → T (every test ks) → T (among c ks) → T (test c)
+  unfolding every among
+  each-among [] c t h = absurd h
+  each-among (k ∷ ks) c t h =
+      let (now, later) = both (test k) (every test ks) t in
+      ⊎-elim
+      (λ (e : T (eqb c k)). subst (λ (m : ℕ). T (test m)) (sym (eqb→eq c k e)) now)
+      (λ (l : T (among c ks)). each-among ks c later l)
+      (or-true (eqb c k) (among c ks) h)
+
+-- Parameters that a block may have.
+unfoldable pub ofBlock : List Slot → Bool
+ofBlock [] = true
+ofBlock (must n ∷ ps) = isBlockParameter n && ofBlock ps
+ofBlock (may n ∷ ps) = isBlockParameter n && ofBlock ps
+ofBlock (id-type ∷ ps) = ofBlock ps
+
+-- In a block of kind k a child of the class c is a block of lesser significance, or no block, which only blocks of significance 0 hold.
+abbrev fits : ℕ → ℕ → Bool
+fits k c = cond (Class.isBlock c) (ltb (Class.significance c) (Class.significance k)) (eqb (Class.significance k) 0)
+
+isChild : ℕ → ℕ → Bool
+isChild k c = not (isBlockParameter c) && (not (eqb c Class.document) && fits k c)
+
+pub record Child (k c : ℕ) : Type 0 where
+  pub no-parameter : isBlockParameter c ≡ false
+  pub no-document : eqb c Class.document ≡ false
+  pub lesser : T (Class.isBlock c) → Class.significance c < Class.significance k
+  pub alone : Class.isBlock c ≡ false → Class.significance k ≡ 0
+
+child : (k c : ℕ) → T (isChild k c) → Child k c
+unfolding isChild
+child k c h =
+    let (p, h₁) = both (not (isBlockParameter c)) (not (eqb c Class.document) && fits k c) h in
+    let (d, f) = both (not (eqb c Class.document)) (fits k c) h₁ in
+    record {
+      no-parameter = not-true _ (T-true _ p);
+      no-document = not-true _ (T-true _ d);
+      lesser = λ b. ltb→lt _ _ (rw (T-true (Class.isBlock c) b) at f);
+      alone = λ n. eqb→eq _ _ (rw n at f);
+    }
+
+abbrev children : ℕ → Content → Bool
+children k (any-of ks) = every (isChild k) ks
+children k (exactly-one c) = false
+
+abbrev named : ℕ → Bool
+named k = ofBlock (ruleOf k .parameters)
+
+abbrev filled : ℕ → Bool
+filled k = children k (ruleOf k .content)
+
+-- The test of every block's row: its parameters, and what its content allows.
+rows : T (below (λ k. named k && filled k) 8)
+unfolding below ofBlock isChild isBlockParameter rules ruleIn ruleOf every Class.isBlock Class.significance
+rows = tt
+
+pub block-range : (c : ℕ) → T (Class.isBlock c) → (1 ≤ c) × (c ≤ 7)
+unfolding Class.isBlock
+block-range c b = let (low, high) = both (leb 1 c) (leb c 7) b in (leb→le 1 c low, leb→le c 7 high)
+
+row : (k : ℕ) → T (Class.isBlock k) → T (named k) × T (filled k)
+row k b =
+    let h = block-range k b in
+    both (named k) (filled k) (each-below (λ k. named k && filled k) 8 k (omega arith) rows)
+
+-- How far a block is read: only parameters of blocks are still to come.
+unfoldable pub Within : State → Type 0
+Within (expecting ps) = T (ofBlock ps)
+Within (holding s) = Unit {0}
+
+-- What leads on to a state is a parameter, or a child of the sort that is held there.
+unfoldable pub LeadsTo : ℕ → ℕ → State → Type 0
+LeadsTo k c (expecting ps) = T (isBlockParameter c)
+LeadsTo k c (holding s) = Child k c × (Class.significance c ≡ s)
+
+-- The sort that is held stays.
+unfoldable pub Follows : State → State → Type 0
+Follows (expecting ps) s′ = Unit {0}
+Follows (holding s) s′ = holding s ≡ s′
+
+unfoldable pub Takes : ℕ → State → ℕ → Step → Type 0
+Takes k s c (bad n) = Unit {0}
+Takes k s c (go s′) = Within s′ × LeadsTo k c s′ × Follows s s′
+
+module _ (k c : ℕ) where
+  first-takes : (ps : List Slot) (t : Content) → T (children k t) → Takes k (expecting ps) c (firstChild t c)
+  unfolding Takes Within LeadsTo Follows firstChild sort allows
+  first-takes ps (any-of ks) ok =
+      cond-case (Takes k (expecting ps) c) (isInclude c) (λ i. tt)
+      (λ i. cond-case (Takes k (expecting ps) c) (among c ks)
+      (λ a. (tt, (child k c (each-among (isChild k) ks c ok (true-T a)), refl), tt))
+      (λ a. tt))
+  first-takes ps (exactly-one n) ok = absurd ok
+
+  next-takes : (t : Content) (s : ℕ) → T (children k t) → Takes k (holding s) c (nextChild t s c)
+  unfolding Takes Within LeadsTo Follows nextChild sort
+  next-takes (any-of ks) s ok =
+      cond-case (Takes k (holding s) c) (isInclude c) (λ i. tt)
+      (λ i. cond-case (Takes k (holding s) c) (among c ks)
+      (λ a. cond-case (Takes k (holding s) c) (eqb (Class.significance c) s)
+      (λ e. (tt, (child k c (each-among (isChild k) ks c ok (true-T a)), eqb-true _ s e), refl))
+      (λ e. tt))
+      (λ a. tt))
+  next-takes (exactly-one n) s ok = absurd ok
+
+  parameter : (n : ℕ) → eqb c n ≡ true → T (isBlockParameter n) → T (isBlockParameter c)
+  parameter n e t = rw (eqb-true c n e) t
+
+  parameter-takes : (qs ps : List Slot) (t : Content) → T (ofBlock ps) → T (children k t) → Takes k (expecting qs) c (nextParameter ps t c)
+  unfolding Takes Within LeadsTo Follows nextParameter ofBlock isBlockParameter
+  parameter-takes qs [] t ps-ok ok = first-takes qs t ok
+  parameter-takes qs (must n ∷ ps) t ps-ok ok =
+      let (now, later) = both (isBlockParameter n) (ofBlock ps) ps-ok in
+      cond-case (Takes k (expecting qs) c) (eqb c n) (λ e. (later, parameter n e now, tt)) (λ e. tt)
+  parameter-takes qs (may n ∷ ps) t ps-ok ok =
+      let (now, later) = both (isBlockParameter n) (ofBlock ps) ps-ok in
+      cond-case (Takes k (expecting qs) c) (eqb c n) (λ e. (later, parameter n e now, tt)) (λ e. parameter-takes qs ps t later ok)
+  parameter-takes qs (id-type ∷ ps) t ps-ok ok =
+      cond-case (Takes k (expecting qs) c) (eqb c Class.id) (λ e. (ps-ok, parameter Class.id e tt, tt))
+      (λ e. cond-case (Takes k (expecting qs) c) (eqb c Class.type)
+      (λ e′. (ps-ok, parameter Class.type e′ tt, tt))
+      (λ e′. parameter-takes qs ps t ps-ok ok))
+
+-- A block takes its parameters, and then children of one sort.
+pub step-takes : (k : ℕ) → T (Class.isBlock k) → (s : State) → Within s → (c : ℕ) → Takes k s c (step k s c)
+unfolding step Within
+step-takes k b (expecting ps) w c = parameter-takes k c ps ps (ruleOf k .content) w (row k b .1)
+step-takes k b (holding s) w c = next-takes k c (ruleOf k .content) s (row k b .1)
+
+pub start-within : (k : ℕ) → T (Class.isBlock k) → Within (start k)
+unfolding start Within
+start-within k b = row k b .0

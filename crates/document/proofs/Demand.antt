@@ -1,0 +1,62 @@
+-- Demand 3: reading answers 0 exactly when the text is within the limits and spells a well-formed document that fits the room; node words, pool and counts
+-- are then that document's; and no text spells two documents. Assumes nothing.
+use Prim.Native.Nat.{ℕ, _≤_, _*_, _/_, min}
+use mathlib.Core.Path.{_≡_, refl}
+use mathlib.Core.List.{List}
+use native.Mathlib.Omega.{arith}
+use lib.ListN.{length}
+use Rattle.document.specs.Document.{Node}
+use Rattle.document.specs.Spelling.{Spelling, Spells}
+use Rattle.document.specs.Table.{count, pool, tableOf}
+use Rattle.document.specs.WellFormed.{First, nowhere, at-node, Check, sound, unsound, checkedBy, check, WellFormed}
+use Rattle.document.specs.Answer.{answerAt, Memory, Outcome, refusal, noRoom, filled, nodeRoom, outcome}
+use Rattle.document.specs.Account as Account
+use Rattle.document.specs.Account.{RefusedFor, no-syntax, no-expression, second-expression, against-rules, too-deep, Answers, too-long, ill-formed}
+use Rattle.document.specs.Account.{no-node-room, no-pool-room, has-fault, accepted}
+use Rattle.document.specs.Demand.{Fits, Readable, Read}
+use Rattle.document.proofs.Reading.{spelled-once}
+use Rattle.document.proofs.Account.{answers, answers-only}
+use Rattle.document.proofs.Numbers.{refused-number, check-number}
+
+-- How many nodes there is room for, and that a document fits, are the same.
+few : (m : Memory) (d : Node) → count d ≤ nodeRoom m → length (pool d) ≤ length (m .pool) → (count d ≤ 4096) × Fits d m
+unfolding nodeRoom
+few m d nodes bytes = (omega arith, record { node-words = omega arith; place-list = omega arith; pool-bytes = bytes })
+
+room : (m : Memory) (d : Node) → count d ≤ 4096 → Fits d m → count d ≤ nodeRoom m
+unfolding nodeRoom
+room m d most f = omega (arith, f .node-words, f .place-list)
+
+-- An answer of 0 is that of a document.
+zero : (s : Spelling) (text : List ℕ) (m : Memory) (o : Outcome) → Answers s text m o → o .answer .number ≡ 0 → (d : Node) × Readable s text m d × Read m o d
+unfolding refusal noRoom filled answerAt WellFormed
+zero s text m o (too-long long) z = absurd (omega arith)
+zero s text m o (ill-formed short f) z = absurd (omega arith)
+zero s text m o (Account.refused short utf8 f) z = absurd (omega (arith, refused-number f))
+zero s text m o (no-node-room short sp none) z = absurd (omega arith)
+zero s text m o (no-pool-room short sp nodes none) z = absurd (omega arith)
+zero s text m o (has-fault {d = d} {n = n} {i = i} short sp nodes bytes e) z = absurd (omega (arith, check-number d n i e))
+zero s text m o (accepted {d = d} short sp nodes bytes e) z =
+    let (most, fits) = few m d nodes bytes in (
+      d,
+      record { short = short; spells = sp; well-formed = e; few-nodes = most; fits = fits },
+      record { accepted = refl; nodes = refl; bytes = refl; node-words = refl; pool-bytes = refl },
+    )
+
+pub accepted-document : (s : Spelling) (text : List ℕ) (m : Memory) → outcome s text m .answer .number ≡ 0
+    → (d : Node) × Readable s text m d × Read m (outcome s text m) d
+accepted-document s text m z = zero s text m (outcome s text m) (answers s text m) z
+
+pub document-accepted : (s : Spelling) (text : List ℕ) (m : Memory) (d : Node) → Readable s text m d → Read m (outcome s text m) d
+unfolding WellFormed filled answerAt
+document-accepted s text m d r =
+    let a = accepted (r .short) (r .spells) (room m d (r .few-nodes) (r .fits)) (r .fits .pool-bytes) (r .well-formed) in
+    rw (answers-only s text m _ a)
+    (record { accepted = refl; nodes = refl; bytes = refl; node-words = refl; pool-bytes = refl })
+
+-- Demand 3, whole.
+pub demand-3 : (s : Spelling) (text : List ℕ) (m : Memory)
+    → (outcome s text m .answer .number ≡ 0 → (d : Node) × Readable s text m d × Read m (outcome s text m) d)
+    × ((d : Node) → Readable s text m d → Read m (outcome s text m) d)
+    × ((d d′ : Node) → Spells s d text → Spells s d′ text → d ≡ d′)
+demand-3 s text m = (accepted-document s text m, document-accepted s text m, λ d d′ a b. spelled-once a b)

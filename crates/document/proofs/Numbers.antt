@@ -1,0 +1,145 @@
+-- Which numbers a refusal can have: the scan answers from 3 on, the walk 8 to 12, the check from 15 on. Assumes nothing.
+use Prim.Native.Nat.{ℕ, _≤_}
+use mathlib.Core.Path.{_≡_, refl}
+use mathlib.Core.Bool.{Bool, true, false, cond}
+use mathlib.Core.List.{List, [], _∷_}
+use native.Mathlib.Omega.{arith}
+use lib.Dec.{T, eqb}
+use Rattle.laws.proofs.Booleans.{cond-case}
+use Rattle.kind.specs.Bytes.{among}
+use Rattle.kind.specs.Class as Class
+use Rattle.kind.specs.Rules.{Slot, must, may, id-type, Content, any-of, exactly-one, ruleOf}
+use Rattle.kind.specs.Inside.{State, expecting, holding, Step, go, bad, step, start, ended, firstChild, nextChild, nextParameter, isInclude, allows, sort}
+use Rattle.lexer.specs.Expression.{Expr, symbol, quoted, list, Exprs, none, and, place}
+use Rattle.lexer.specs.Fault.{Opened, Hit, control, lone-return, bad-escape, empty-string, unclosed-string, unopened, other-partner, left-open, too-deep}
+use Rattle.document.specs.Document.{Node, keepsRules}
+use Rattle.document.specs.Faults.{RootFault}
+use Rattle.document.specs.Account as Account
+use Rattle.document.specs.Account.{RefusedFor}
+use Rattle.document.specs.WellFormed.{First, nowhere, at-node, Check, sound, unsound, checkedBy, check}
+use Rattle.document.proofs.Faults.{named-fault}
+use Rattle.document.specs.Spelling.{Spelling, leadClass, exprClass}
+use Rattle.document.specs.Meaning.{Verdict, fine, fault, Progress, reached, stopped, faultAt, advance, finish, judgeValue, judge, judgeRoot, valueTree}
+
+abbrev pub OfWalk : ℕ → Type 0
+OfWalk n = (8 ≤ n) × (n ≤ 12)
+
+abbrev StepNumber : Step → Type 0
+StepNumber (go s) = Unit {0}
+StepNumber (bad n) = OfWalk n
+
+first-child : (t : Content) (c : ℕ) → StepNumber (firstChild t c)
+unfolding firstChild
+first-child t c =
+    cond-case StepNumber (isInclude c) (λ _. omega arith) (λ _. cond-case StepNumber (allows t c) (λ _. tt) (λ _. omega arith))
+
+next-child : (t : Content) (s c : ℕ) → StepNumber (nextChild t s c)
+unfolding nextChild
+next-child (any-of ks) s c =
+    cond-case StepNumber (isInclude c) (λ _. omega arith)
+    (λ _. cond-case StepNumber (among c ks)
+    (λ _. cond-case StepNumber (eqb (sort c) s) (λ _. tt) (λ _. omega arith))
+    (λ _. omega arith))
+next-child (exactly-one k) s c = cond-case StepNumber (isInclude c) (λ _. omega arith) (λ _. omega arith)
+
+next-parameter : (ps : List Slot) (t : Content) (c : ℕ) → StepNumber (nextParameter ps t c)
+unfolding nextParameter
+next-parameter [] t c = first-child t c
+next-parameter (must n ∷ ps) t c = cond-case StepNumber (eqb c n) (λ _. tt) (λ _. omega arith)
+next-parameter (may n ∷ ps) t c = cond-case StepNumber (eqb c n) (λ _. tt) (λ _. next-parameter ps t c)
+next-parameter (id-type ∷ ps) t c =
+    cond-case StepNumber (eqb c Class.id) (λ _. tt)
+    (λ _. cond-case StepNumber (eqb c Class.type) (λ _. tt) (λ _. next-parameter ps t c))
+
+step-number : (k : ℕ) (s : State) (c : ℕ) → StepNumber (step k s c)
+unfolding step
+step-number k (expecting ps) c = next-parameter ps (ruleOf k .content) c
+step-number k (holding s) c = next-child (ruleOf k .content) s c
+
+abbrev pub VerdictNumber : Verdict → Type 0
+VerdictNumber fine = Unit {0}
+VerdictNumber (fault n p) = OfWalk n
+
+abbrev ProgressNumber : Progress → Type 0
+ProgressNumber (reached s) = Unit {0}
+ProgressNumber (stopped n p) = OfWalk n
+
+fault-at : (n at e : ℕ) → OfWalk n → ProgressNumber (faultAt n at e)
+unfolding faultAt
+fault-at n at e h = cond-case ProgressNumber (eqb n 9) (λ _. h) (λ _. h)
+
+advanced : (at e : ℕ) (t : Step) (v : Verdict) (next : State → Progress) → StepNumber t → VerdictNumber v → ((s : State) → ProgressNumber (next s))
+    → ProgressNumber (advance at e t v next)
+unfolding advance
+advanced at e (bad n) v next h i j = fault-at n at e h
+advanced at e (go s) fine next h i j = j s
+advanced at e (go s) (fault n p) next h i j = i
+
+finished : (at k : ℕ) (p : Progress) → ProgressNumber p → VerdictNumber (finish at k p)
+unfolding finish
+finished at k (stopped n p) h = h
+finished at k (reached s) h = cond-case VerdictNumber (ended k s) (λ _. tt) (λ _. omega arith)
+
+mutual
+  unfolding judge judgeValue
+
+  pub judge-number : (k : ℕ) (e : Expr) → VerdictNumber (judge k e)
+  judge-number k (symbol at s) = tt
+  judge-number k (quoted at s) = tt
+  judge-number k (list at es) = list-number k at es
+
+  list-number : (k at : ℕ) (es : Exprs) → VerdictNumber (Rattle.document.specs.Meaning.judgeList k at es)
+  list-number k at none = omega arith
+  list-number k at (and e es) =
+      cond-case VerdictNumber (Class.isElement (leadClass e))
+      (λ _. finished at (leadClass e) _ (run-number at (leadClass e) (start (leadClass e)) es))
+      (λ _. cond-case VerdictNumber (keepsRules k (valueTree (leadClass e) es)) (λ _. tt) (λ _. omega arith))
+
+  run-number : (at k : ℕ) (s : State) (es : Exprs) → ProgressNumber (Rattle.document.specs.Meaning.run at k s es)
+  run-number at k s none = tt
+  run-number at k s (and e es) =
+      advanced at (place e) (step k s (exprClass e)) (judge k e) _ (step-number k s (exprClass e)) (judge-number k e) (λ s′. run-number at k s′ es)
+
+pub root-number : (e : Expr) → VerdictNumber (judgeRoot e)
+unfolding judgeRoot
+root-number e = cond-case VerdictNumber (eqb (exprClass e) Class.document) (λ _. judge-number 0 e) (λ _. omega arith)
+
+-- The numbers of the other groups.
+hit-number : {room : ℕ} {o : Opened} {rest : List ℕ} {n p : ℕ} → Hit room o rest n p → 3 ≤ n
+hit-number (control c) = omega arith
+hit-number (lone-return c) = omega arith
+hit-number (bad-escape ps s a e) = omega arith
+hit-number empty-string = omega arith
+hit-number (unclosed-string ps a) = omega arith
+hit-number (unopened b) = omega arith
+hit-number (other-partner c e) = omega arith
+hit-number left-open = omega arith
+hit-number (too-deep b e) = omega arith
+
+root-fault-number : (e : Expr) (n p : ℕ) → RootFault e n p → 8 ≤ n
+root-fault-number e n p f =
+    let h : VerdictNumber (fault n p) = rw (named-fault e n p f) at (root-number e) in
+    h .0
+
+pub refused-number : {s : Spelling} {text : List ℕ} {n p : ℕ} → RefusedFor s text n p → 3 ≤ n
+refused-number (Account.no-syntax f) = hit-number (f .hit)
+refused-number (Account.no-expression x) = omega arith
+refused-number (Account.second-expression e x) = omega arith
+refused-number (Account.against-rules {e = e} {n = n} {p = p} x form f) = omega (arith, root-fault-number e n p f)
+refused-number (Account.too-deep i x form w l deep) = omega arith
+
+abbrev CheckNumber : Check → Type 0
+CheckNumber sound = Unit {0}
+CheckNumber (unsound n i) = 15 ≤ n
+
+by-number : (n : ℕ) (f : First) (next : Check) → 15 ≤ n → CheckNumber next → CheckNumber (checkedBy n f next)
+unfolding checkedBy
+by-number n nowhere next h i = i
+by-number n (at-node j) next h i = h
+
+pub check-number : (d : Node) (n i : ℕ) → check d ≡ unsound n i → 15 ≤ n
+unfolding check
+check-number d n i e =
+    let numbers : CheckNumber (check d) =
+    by-number 15 _ _ (omega arith) (by-number 16 _ _ (omega arith) (by-number 17 _ _ (omega arith) (by-number 18 _ _ (omega arith) tt))) in
+    rw e at numbers
