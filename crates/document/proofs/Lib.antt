@@ -17,3 +17,8 @@ pub mod Reading
 pub mod Numbers
 pub mod Account
 pub mod Demand
+pub mod Determined
+pub mod Records
+pub mod BadRow
+pub mod Prose
+pub mod TableRows

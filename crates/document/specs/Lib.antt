@@ -7,6 +7,7 @@ pub mod Table
 pub mod WellFormed
 pub mod Answer
 pub mod Demand
+pub mod Prose
 pub mod Faults
 pub mod Account
 pub mod Canonical
