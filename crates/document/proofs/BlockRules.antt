@@ -1,48 +1,20 @@
 -- What a block takes: title, id and type, and then children that are no parameters, each of one sort.
 -- What is said of the rows of the rules is one test that antt computes over the seven blocks. Assumes nothing.
-use Prim.Native.Nat.{ℕ, zero, suc, _≤_, _<_}
-use mathlib.Core.Path.{_≡_, refl, subst, sym}
-use mathlib.Core.Logic.{⊎-elim}
+use Prim.Native.Nat.{ℕ, _≤_, _<_}
+use mathlib.Core.Path.{_≡_, refl}
 use mathlib.Core.Bool.{Bool, true, false, not, cond, _&&_}
 use mathlib.Core.List.{List, [], _∷_}
-use native.Mathlib.Nat.{le-of-suc-le-suc, not-suc-le-zero, eq-or-lt-of-le}
 use native.Mathlib.Omega.{arith}
 use lib.Dec.{T, eqb, leb, ltb, leb→le, ltb→lt, eqb→eq}
 use borrow.Author.Tests.{eqb-true}
-use Rattle.laws.proofs.Booleans.{cond-case, both, or-true, true-T, T-true, not-true}
+use Rattle.laws.proofs.Tables.{every, below, each-below}
+use Rattle.laws.proofs.Booleans.{cond-case, both, true-T, T-true, not-true}
 use Rattle.kind.specs.Bytes.{among}
 use Rattle.kind.specs.Class as Class
 use Rattle.kind.specs.Rules.{Slot, must, may, id-type, Content, any-of, exactly-one, rules, ruleIn, ruleOf}
 use Rattle.kind.specs.Inside.{State, expecting, holding, Step, go, bad, sort, isInclude, allows, firstChild, nextChild, nextParameter, step, start}
-use Rattle.document.specs.Value.{every}
+use Rattle.kind.proofs.Same.{each-among}
 use Rattle.document.specs.Spelling.{isBlockParameter}
-
--- A test that holds of every number below k holds of each.
-module _ (test : ℕ → Bool) where
-  below : ℕ → Bool
-  below zero = true
-  below (suc k) = test k && below k
-
-  each-below : (k c : ℕ) → c < k → T (below k) → T (test c)
-  unfolding below
-  each-below zero c h t = absurd (not-suc-le-zero h)
-  each-below (suc k) c h t =
-      let (now, later) = both (test k) (below k) t in
-      ⊎-elim
-      (λ (e : c ≡ k). subst (λ (m : ℕ). T (test m)) (sym e) now)
-      (λ (l : c < k). each-below k c l later)
-      (eq-or-lt-of-le (le-of-suc-le-suc h))
-
-  -- A test that holds of every member of a list holds of each number that stands there.
-  each-among : (ks : List ℕ) (c : ℕ) → T (every test ks) → T (among c ks) → T (test c)
-  unfolding every among
-  each-among [] c t h = absurd h
-  each-among (k ∷ ks) c t h =
-      let (now, later) = both (test k) (every test ks) t in
-      ⊎-elim
-      (λ (e : T (eqb c k)). subst (λ (m : ℕ). T (test m)) (sym (eqb→eq c k e)) now)
-      (λ (l : T (among c ks)). each-among ks c later l)
-      (or-true (eqb c k) (among c ks) h)
 
 -- Parameters that a block may have.
 unfoldable pub ofBlock : List Slot → Bool
@@ -88,7 +60,7 @@ filled k = children k (ruleOf k .content)
 
 -- The test of every block's row: its parameters, and what its content allows.
 rows : T (below (λ k. named k && filled k) 8)
-unfolding below ofBlock isChild isBlockParameter rules ruleIn ruleOf every Class.isBlock Class.significance
+unfolding ofBlock isChild isBlockParameter rules ruleIn ruleOf Class.isBlock Class.significance
 rows = tt
 
 pub block-range : (c : ℕ) → T (Class.isBlock c) → (1 ≤ c) × (c ≤ 7)
@@ -125,7 +97,7 @@ module _ (k c : ℕ) where
   first-takes ps (any-of ks) ok =
       cond-case (Takes k (expecting ps) c) (isInclude c) (λ i. tt)
       (λ i. cond-case (Takes k (expecting ps) c) (among c ks)
-      (λ a. (tt, (child k c (each-among (isChild k) ks c ok (true-T a)), refl), tt))
+      (λ a. (tt, (child k c (each-among (isChild k) c ks (true-T a) ok), refl), tt))
       (λ a. tt))
   first-takes ps (exactly-one n) ok = absurd ok
 
@@ -135,7 +107,7 @@ module _ (k c : ℕ) where
       cond-case (Takes k (holding s) c) (isInclude c) (λ i. tt)
       (λ i. cond-case (Takes k (holding s) c) (among c ks)
       (λ a. cond-case (Takes k (holding s) c) (eqb (Class.significance c) s)
-      (λ e. (tt, (child k c (each-among (isChild k) ks c ok (true-T a)), eqb-true _ s e), refl))
+      (λ e. (tt, (child k c (each-among (isChild k) c ks (true-T a) ok), eqb-true _ s e), refl))
       (λ e. tt))
       (λ a. tt))
   next-takes (exactly-one n) s ok = absurd ok

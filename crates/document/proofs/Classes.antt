@@ -3,13 +3,14 @@
 use Prim.Native.Nat.{ℕ}
 use mathlib.Core.Bool.{Bool, true, not, _&&_, _||_}
 use mathlib.Core.List.{List, [], _∷_}
-use mathlib.Core.Logic.{⊎-elim}
-use lib.Dec.{T, eqb, eqb→eq}
-use Rattle.laws.proofs.Booleans.{cond-case, both, or-true}
-use Rattle.kind.specs.Bytes.{among, same}
+use lib.Dec.{T, eqb}
+use Rattle.laws.proofs.Booleans.{cond-case, both}
+use Rattle.laws.proofs.Tables.{every}
+use Rattle.kind.specs.Bytes.{same}
 use Rattle.kind.specs.Class as Class
 use Rattle.kind.specs.Class.{Named, names, classIn, classOf}
 use Rattle.kind.specs.Rules.{Slot, must, may, id-type, Content, any-of, exactly-one, Rule, rules, ruleIn, ruleOf}
+use Rattle.kind.proofs.Same.{each-among}
 use Rattle.lexer.specs.Expression.{Expr, symbol, quoted, list}
 use Rattle.document.specs.Spelling.{leadClass}
 use Rattle.document.specs.Faults.{Next, Begun, due, children, Allowed, Taken}
@@ -27,11 +28,6 @@ allLead (id-type ∷ ps) = allLead ps
 -- The class may be a child's.
 abbrev pub isChild : ℕ → Bool
 isChild c = Class.isElement c || eqb c Class.text
-
-module _ {A : Type 0} (test : A → Bool) where
-  abbrev every : List A → Bool
-  every [] = true
-  every (x ∷ xs) = test x && every xs
 
 abbrev allChildren : Content → Bool
 allChildren (any-of ks) = every isChild ks
@@ -79,15 +75,8 @@ taken-leading (Taken.parameter r) t = next-leading r t .1
 taken-leading (Taken.first-child d i a) t = tt
 taken-leading (Taken.next-child i a e) t = tt
 
-among-every : (test : ℕ → Bool) (c : ℕ) (ks : List ℕ) → T (among c ks) → T (every test ks) → T (test c)
-unfolding among
-among-every test c [] a t = absurd a
-among-every test c (k ∷ ks) a t =
-    let t′ = both (test k) (every test ks) t in
-    ⊎-elim (λ e. rw (eqb→eq c k e) (t′ .0)) (λ b. among-every test c ks b (t′ .1)) (or-true (eqb c k) (among c ks) a)
-
 allowed-in : {t : Content} {c : ℕ} {b : Begun} → Allowed c t b → T (allChildren t) → T (isChild c)
-allowed-in {c} (Allowed.one-of {ks} a) t = among-every isChild c ks a t
+allowed-in {c} (Allowed.one-of {ks} a) t = each-among isChild c ks a t
 allowed-in Allowed.the-one t = t
 
 -- What an element's content allows is an element or a text.

@@ -40,11 +40,6 @@ open-child : (s : ℕ) (blocks : List ℕ) (e : Expr) (es : Exprs) → isCommand
 unfolding contentsOf opened stillOpen
 open-child s blocks e es c l = rw (c, lt-leb s (Class.significance (exprClass e)) l)
 
-child-innermost : (e : Expr) (inside : Exprs) (others : List Exprs) → childOf e (inside ∷ others) ≡ atInnermost (block e inside) others
-unfolding childOf atInnermost
-child-innermost e inside [] = refl
-child-innermost e inside (rest ∷ others) = refl
-
 -- Reading a block goes on past an expression that it takes.
 taken : (k : ℕ) → T (Class.isBlock k) → (at : ℕ) (s : State) → Within s → (e : Expr) (es : Exprs) → Read at k s (and e es)
     → (s′ : State) × Within s′ × LeadsTo k (exprClass e) s′ × Follows s s′ × (judge k e ≡ fine) × Read at k s′ es
@@ -138,12 +133,12 @@ leaf-law e k c b blocks r = rw (flatten-leaf e b) (rw (b, c .no-parameter, c .no
 block-law : (at k : ℕ) (e : Expr) (es : Exprs) → Child k (leadClass e) → T (Class.isBlock (leadClass e)) → join (parameters es) (content es) ≡ es
     → (blocks : List ℕ) (r : Exprs) → ContentLaw (Class.significance (leadClass e)) es (Class.significance k ∷ blocks) r
     → ChildLaw (Class.significance k) (list at (and e es)) blocks r
-unfolding flatten join exprClass listClass block
+unfolding flatten join exprClass listClass block childOf
 block-law at k e es c b parts blocks r law =
     let command = list at (and e (parameters es)) in
     rw (T-true (Class.isBlock (leadClass e)) b)
     (open-child (Class.significance k) blocks command _ (is-command command b (c .no-document)) (c .lesser b)
-    ∙ rw (law, child-innermost, in-command, parts))
+    ∙ rw (law, in-command, parts))
 
 flatten-parameter : (e : Expr) (es : Exprs) → isBlockParameter (exprClass e) ≡ true → flattenContent (and e es) ≡ flattenContent es
 unfolding flatten

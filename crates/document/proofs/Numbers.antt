@@ -11,7 +11,7 @@ use Rattle.kind.specs.Class as Class
 use Rattle.kind.specs.Rules.{Slot, must, may, id-type, Content, any-of, exactly-one, ruleOf}
 use Rattle.kind.specs.Inside.{State, expecting, holding, Step, go, bad, step, start, ended, firstChild, nextChild, nextParameter, isInclude, allows, sort}
 use Rattle.lexer.specs.Expression.{Expr, symbol, quoted, list, Exprs, none, and, place}
-use Rattle.lexer.specs.Fault.{Opened, Hit, control, lone-return, bad-escape, empty-string, unclosed-string, unopened, other-partner, left-open, too-deep}
+use Rattle.lexer.specs.Fault.{Opened, Hit, control, lone-return, no-escape, empty-string, unclosed-string, unopened, other-partner, left-open, too-deep}
 use Rattle.document.specs.Document.{Node, keepsRules}
 use Rattle.document.specs.Faults.{RootFault}
 use Rattle.document.specs.Account as Account
@@ -108,7 +108,7 @@ root-number e = cond-case VerdictNumber (eqb (exprClass e) Class.document) (λ _
 hit-number : {room : ℕ} {o : Opened} {rest : List ℕ} {n p : ℕ} → Hit room o rest n p → 3 ≤ n
 hit-number (control c) = omega arith
 hit-number (lone-return c) = omega arith
-hit-number (bad-escape ps s a e) = omega arith
+hit-number (no-escape ps s a e) = omega arith
 hit-number empty-string = omega arith
 hit-number (unclosed-string ps a) = omega arith
 hit-number (unopened b) = omega arith

@@ -17,7 +17,7 @@ use Rattle.document.specs.Value.{nonEmpty}
 use Rattle.document.specs.Table.{count}
 use Rattle.document.specs.WellFormed.{First, nowhere, at-node, orElse, childCount, Cells, any-number, exactly, cellsIn, cellsBelow, differs, badRow, badRowAmong, Entry, entries, hasId, isAmong, repeatedId, idsWhere, unknownTarget, unknownLink, unknownFootnote, Check, sound, unsound, checkedBy, check, WellFormed}
 use Rattle.document.specs.Prose.{nodeKind, nodeChildren, In, InSome, RowAt, RowAmong, RowsMatch, IdsDifferAmong, HasIdAmong, IdsDiffer, LinksFound, RefsFound, Prose}
-use Rattle.document.proofs.Leads.{same-equal}
+use Rattle.kind.proofs.Same.{same-equal}
 use Rattle.document.proofs.Records.{upFrom, entry-numbers}
 use Rattle.document.proofs.BadRow.{rowEntries, FirstBad, BadAnswer, bad-row-answer, BadRowAt, first-bad-row}
 

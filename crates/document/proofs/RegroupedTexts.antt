@@ -37,22 +37,21 @@ abbrev AllContents : List Exprs → Type 0
 AllContents [] = Unit {0}
 AllContents (es ∷ others) = AllTexts es × AllContents others
 
+text-innermost : (e : Expr) (contents : List Exprs) → AllText e → AllContents contents → AllContents (atInnermost e contents)
+unfolding AtomsOf atInnermost
+text-innermost e [] t u = tt
+text-innermost e (es ∷ others) t u = ((t, u .0), u .1)
+
 text-child : (e : Expr) (contents : List Exprs) → AllText e → AllContents contents → AllContents (childOf e contents)
-unfolding AtomsOf childOf
+unfolding childOf
 text-child e [] t u = tt
-text-child e (inside ∷ []) t u = tt
-text-child e (inside ∷ (rest ∷ others)) t u = ((text-block e inside t (u .0), u .1 .0), u .1 .1)
+text-child e (inside ∷ others) t u = text-innermost (block e inside) others (text-block e inside t (u .0)) (u .1)
 
 text-opened : (s : ℕ) (e : Expr) (contents : List Exprs) (blocks : List ℕ) → AllText e → AllContents contents → AllContents (opened s e contents blocks)
 unfolding AtomsOf opened
 text-opened s e contents [] t u = tt
 text-opened s e contents (o ∷ blocks) t u =
     cond-case AllContents (leb o s) (λ _. (tt, text-opened s e contents blocks t u)) (λ _. text-child e contents t u)
-
-text-innermost : (e : Expr) (contents : List Exprs) → AllText e → AllContents contents → AllContents (atInnermost e contents)
-unfolding AtomsOf atInnermost
-text-innermost e [] t u = tt
-text-innermost e (es ∷ others) t u = ((t, u .0), u .1)
 
 no-texts : (blocks : List ℕ) → AllContents (map (λ (o : ℕ). none) blocks)
 unfolding AtomsOf

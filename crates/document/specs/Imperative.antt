@@ -36,19 +36,19 @@ unfoldable pub stillOpen : ℕ → List ℕ → List ℕ
 stillOpen s [] = []
 stillOpen s (o ∷ os) = cond (leb o s) (stillOpen s os) (o ∷ os)
 
+-- An expression is put in front of what the innermost block gets.
+unfoldable pub atInnermost : Expr → List Exprs → List Exprs
+atInnermost e [] = []
+atInnermost e (es ∷ others) = and e es ∷ others
+
 -- "then opens a child of the innermost block left": `contents` are those of the new block, of the innermost left, and so on outwards.
 unfoldable pub childOf : Expr → List Exprs → List Exprs
 childOf e [] = []
-childOf e (inside ∷ []) = []
-childOf e (inside ∷ (rest ∷ others)) = and (block e inside) rest ∷ others
+childOf e (inside ∷ others) = atInnermost (block e inside) others
 
 unfoldable pub opened : ℕ → Expr → List Exprs → List ℕ → List Exprs
 opened s e contents [] = []
 opened s e contents (o ∷ os) = cond (leb o s) (none ∷ opened s e contents os) (childOf e contents)
-
-unfoldable pub atInnermost : Expr → List Exprs → List Exprs
-atInnermost e [] = []
-atInnermost e (es ∷ others) = and e es ∷ others
 
 -- What each open block gets of the expressions that follow, the innermost first.
 unfoldable pub contentsOf : List ℕ → Exprs → List Exprs

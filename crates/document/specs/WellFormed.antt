@@ -70,6 +70,11 @@ unfoldable mutual
 unfoldable pub hasId : Entry → Bool
 hasId e = Class.isBlock (e .kind) && nonEmpty (e .key)
 
+-- The ids of blocks of any kind, or of one kind.
+unfoldable pub idsWhere : (ℕ → Bool) → List Entry → List (List ℕ)
+idsWhere p [] = []
+idsWhere p (e ∷ es) = cond (p (e .kind) && hasId e) (e .key ∷ idsWhere p es) (idsWhere p es)
+
 unfoldable pub isAmong : List ℕ → List (List ℕ) → Bool
 isAmong s [] = false
 isAmong s (t ∷ ts) = same s t || isAmong s ts
@@ -81,11 +86,6 @@ repeatedId seen (e ∷ es) =
     let with-id = cond (isAmong (e .key) seen) (at-node (e .number)) (repeatedId (e .key ∷ seen) es) in
     let without = repeatedId seen es in
     cond (hasId e) with-id without
-
--- The ids of blocks of any kind, or of one kind.
-unfoldable pub idsWhere : (ℕ → Bool) → List Entry → List (List ℕ)
-idsWhere p [] = []
-idsWhere p (e ∷ es) = cond (p (e .kind) && hasId e) (e .key ∷ idsWhere p es) (idsWhere p es)
 
 -- The first node of kind k whose target is none of these ids.
 unfoldable pub unknownTarget : ℕ → List (List ℕ) → List Entry → First

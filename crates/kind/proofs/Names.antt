@@ -1,46 +1,17 @@
--- A name and its class tell each other: what is printed of a class is read back as that class.
+-- A name and its class tell each other: what is printed of a class is read back as that class, and what has a class is printed of it.
 -- Each theorem is one test that antt computes over all names. Assumes nothing.
-use Prim.Native.Nat.{ℕ, zero, suc, _≤_, _<_}
-use mathlib.Core.Path.{_≡_, subst⁻¹}
-use mathlib.Core.Logic.{⊎-elim}
-use mathlib.Core.Bool.{Bool, true, false, _&&_, _||_}
-use mathlib.Core.List.{List, [], _∷_, List·Memᴰ, List·Memᴰ·head, List·Memᴰ·tail}
-use native.Mathlib.Nat.{le-of-suc-le-suc, not-suc-le-zero, eq-or-lt-of-le}
+use Prim.Native.Nat.{ℕ, _≤_}
+use mathlib.Core.Path.{_≡_, refl, sym, _∙_}
+use mathlib.Core.Bool.{Bool, _||_}
+use mathlib.Core.List.{List, [], _∷_, List·Memᴰ}
 use native.Mathlib.Omega.{arith}
 use borrow.Author.Tests.{ne-eqb}
 use lib.Dec.{T, eqb, eqb→eq}
+use Rattle.laws.proofs.Booleans.{cond-case, both, true-T}
+use Rattle.laws.proofs.Tables.{every, each, below, each-below}
 use Rattle.kind.specs.Bytes.{same}
 use Rattle.kind.specs.Class.{Named, names, text, classIn, classOf, nameIn, nameOf}
-
-and-left : (a b : Bool) → T (a && b) → T a
-and-left true b t = tt
-and-left false b t = t
-
-and-right : (a b : Bool) → T (a && b) → T b
-and-right true b t = t
-and-right false b t = absurd t
-
-module _ (test : Named → Bool) where
-  abbrev every : List Named → Bool
-  every [] = true
-  every (n ∷ ns) = test n && every ns
-
-  each : {n : Named} {ns : List Named} → List·Memᴰ n ns → T (every ns) → T (test n)
-  each (List·Memᴰ·head {x = m} {xs = ns} e) t = subst⁻¹ (λ (k : Named). T (test k)) e (and-left (test m) (every ns) t)
-  each (List·Memᴰ·tail {x = m} {xs = ns} h) t = each h (and-right (test m) (every ns) t)
-
-module _ (test : ℕ → Bool) where
-  abbrev below : ℕ → Bool
-  below zero = true
-  below (suc k) = test k && below k
-
-  at : (k c : ℕ) → c < k → T (below k) → T (test c)
-  at zero c h t = absurd (not-suc-le-zero h)
-  at (suc k) c h t =
-      ⊎-elim
-      (λ e. subst⁻¹ (λ (m : ℕ). T (test m)) e (and-left (test k) (below k) t))
-      (λ l. at k c l (and-right (test k) (below k) t))
-      (eq-or-lt-of-le (le-of-suc-le-suc h))
+use Rattle.kind.proofs.Same.{same-equal}
 
 abbrev reads-back : Named → Bool
 reads-back n = eqb (classOf (n .spelled)) (n .class)
@@ -60,5 +31,30 @@ all-print = tt
 -- Every class but that of a text, which leads no list, has a name of its own.
 pub name-of-class : (c : ℕ) → 1 ≤ c → c ≤ 31 → (c ≡ text → ⊥) → classOf (nameOf c) ≡ c
 name-of-class c low high other =
-    let tested : T (prints c) = at prints 32 c (omega arith) all-print in
+    let tested : T (prints c) = each-below prints 32 c (omega arith) all-print in
     eqb→eq _ _ (rw (ne-eqb c 0 (λ e. omega arith), ne-eqb c text other) at tested)
+
+-- The name is what is printed of its class.
+abbrev printed : Named → Bool
+printed n = same (nameOf (n .class)) (n .spelled)
+
+named-in : (ns : List Named) (s : List ℕ) → T (every printed ns) → (classIn ns s ≡ 0 → ⊥) → nameOf (classIn ns s) ≡ s
+unfolding classIn
+named-in [] s t h = absurd (h refl)
+named-in (n ∷ ns) s t h =
+    let (now, later) = both (printed n) (every printed ns) t in
+    cond-case
+    (λ (c : ℕ). (c ≡ 0 → ⊥) → nameOf c ≡ s)
+    (same s (n .spelled))
+    (λ e h′. same-equal (nameOf (n .class)) (n .spelled) now ∙ sym (same-equal s (n .spelled) (true-T e)))
+    (λ e h′. named-in ns s later h′)
+    h
+
+all-printed : T (every printed names)
+unfolding nameOf nameIn names same
+all-printed = tt
+
+-- Bytes that have a class are its name.
+pub named : (s : List ℕ) (c : ℕ) → classOf s ≡ c → (c ≡ 0 → ⊥) → nameOf c ≡ s
+unfolding classOf
+named s c e h = rw e at (named-in names s all-printed (λ z. h (sym e ∙ z)))

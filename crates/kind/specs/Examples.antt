@@ -42,6 +42,8 @@ rows =
     ∷ is Class.document (Class.title ∷ Class.part ∷ Class.section ∷ []) (fault 11 2)
     ∷ is Class.document (Class.title ∷ Class.section ∷ Class.part ∷ []) (fault 11 2)
     ∷ is Class.document (Class.title ∷ Class.subsection ∷ []) (fault 8 1)
+    ∷ is Class.document (Class.title ∷ Class.part ∷ Class.subsection ∷ []) (fault 8 2)
+    ∷ is Class.document (Class.title ∷ Class.part ∷ Class.include ∷ []) (fault 12 2)
     ∷ is Class.document (Class.title ∷ Class.text ∷ []) (fault 8 1)
     ∷ is Class.document (Class.title ∷ Class.import ∷ []) (fault 12 1)
     ∷ is Class.part (Class.title ∷ Class.section ∷ Class.section ∷ []) right

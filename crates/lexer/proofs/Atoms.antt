@@ -7,14 +7,14 @@ use lib.Dec.{T, eqb}
 use lib.ListN.{length}
 use Rattle.laws.proofs.Booleans.{both, cond-case}
 use Rattle.utf8.specs.Scalar.{encode, IsUtf8}
-use Rattle.utf8.proofs.Agree.{utf8-append, utf8-split}
+use Rattle.utf8.proofs.Agree.{nil-utf8, encode-utf8, byte-utf8, encode-not-empty, utf8-append, utf8-split, utf8-tail}
 use Rattle.lexer.specs.Byte.{openByte, closeByte}
 use Rattle.lexer.specs.Syntax.{Piece, raw, letter, number, isPiece, arePieces, pieceBefore, piecesBefore, letterValue, hexValue, pieceValue, piecesValue, Leaf, space, line-end, word, string, leafBefore, isLeaf, Before, a-symbol, another, after, Forest, end, leaf, brackets, bytesBefore, bytesOf, Ok}
 use Rattle.lexer.specs.Expression.{Expr, symbol, quoted, list, Exprs, none, and, locateLeaf, locate}
 use Rattle.lexer.proofs.Classes.{Fits, fits-end, fits-close}
 use Rattle.lexer.proofs.Strings.{Digits, digits-of}
 use Rattle.lexer.proofs.Runs.{lastOf, fits-run}
-use Rattle.lexer.proofs.Ascii.{blank-below, not-ordinary-below, letter-below, hex-below, open-below, close-below, nil-utf8, encode-utf8, byte-utf8, encode-not-empty, utf8-tail}
+use Rattle.lexer.proofs.Ascii.{blank-below, not-ordinary-below, letter-below, hex-below, open-below, close-below}
 
 -- The bytes of each symbol and of each quoted string, at any depth, are so.
 unfoldable mutual

@@ -11,7 +11,7 @@ use Rattle.laws.proofs.Booleans.{not-T-false}
 use Rattle.lexer.specs.Byte.{forbidden, byteClass, ordinaryClass}
 use Rattle.lexer.specs.Syntax.{Before, Piece, isPiece, pieceBefore, piecesBefore}
 use Rattle.lexer.specs.Scan.{bad-escape, quotedFrom, escapeAt, quotedItem, itemAt, itemsFrom, fault, build, oneMore, oneLess, atEnd, refused, outermost, scan}
-use Rattle.lexer.specs.Fault.{Opened, outside, within, size, openLevels, Hit, control, lone-return, empty-string, unclosed-string, unopened, other-partner, left-open, too-deep, Fault}
+use Rattle.lexer.specs.Fault.{Opened, outside, within, size, openLevels, Hit, control, lone-return, no-escape, empty-string, unclosed-string, unopened, other-partner, left-open, too-deep, Fault}
 use Rattle.lexer.proofs.Classes.{Fits, fits-end, fits-class, fits-open, fits-close}
 use Rattle.lexer.proofs.Strings.{escape-spelled, pieces, quoted-pieces, pieces-unclosed, pieces-bad}
 use Rattle.lexer.proofs.Items.{item-of, items-open, items-close}
@@ -22,7 +22,7 @@ hit-fits : (m : Before) {room : ℕ} {o : Opened} {s : List ℕ} {n p : ℕ} →
 unfolding byteClass ordinaryClass
 hit-fits m (control {b = b} {s = s} e) = fits-class m b s (rw e)
 hit-fits m (lone-return {s = s} h) = fits-class m 0x0D s refl
-hit-fits m (Hit.bad-escape ps s t h) = fits-class m 0x22 (piecesBefore ps (0x5C ∷ s)) refl
+hit-fits m (no-escape ps s t h) = fits-class m 0x22 (piecesBefore ps (0x5C ∷ s)) refl
 hit-fits m (empty-string {s = s}) = fits-class m 0x22 (0x22 ∷ s) refl
 hit-fits m (unclosed-string ps t) = fits-class m 0x22 (piecesBefore ps []) refl
 hit-fits m (unopened b {s = s}) = fits-close m b s
@@ -45,7 +45,7 @@ hit-built : {room : ℕ} {o : Opened} {s : List ℕ} {n p : ℕ} (left : ℕ) �
 unfolding build itemAt quotedItem oneLess oneMore atEnd stackOf quotedFrom itemsFrom byteClass
 hit-built left l (control {o = o} {b = b} {s = s} e) = rw (item-of forbidden (size o) b s e)
 hit-built left l (lone-return {o = o} {s = s} h) = rw (ne-eqb (getD s 0 0) 0x0A h)
-hit-built left l (Hit.bad-escape {o = o} ps s t h) =
+hit-built left l (no-escape {o = o} ps s t h) =
     let at : ℕ = size o + 1 in
     rw (quoted-pieces ps at (0x5C ∷ s) t ∙ ap (pieces ps) (escape-bad (at + length (piecesBefore ps [])) s h), pieces-bad)
 hit-built left l (empty-string {o = o} {s = s}) = refl

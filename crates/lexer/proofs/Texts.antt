@@ -11,7 +11,7 @@ use Rattle.laws.proofs.Booleans.{bool-case, both-true, true-T, false-not-T}
 use Rattle.lexer.specs.Byte.{Bracket, ByteClass, blank, return, quote, forbidden, ordinary, opening, closing, byteClass, openByte, closeByte, blankClass, ordinaryClass, isBlank, isOrdinary, isRaw}
 use Rattle.lexer.specs.Syntax.{Piece, raw, letter, number, isPiece, arePieces, pieceBefore, piecesBefore, areOrdinary, Leaf, space, line-end, word, string, leafBefore, isLeaf, a-symbol, after}
 use Rattle.lexer.specs.Scan.{escapeAt}
-use Rattle.lexer.specs.Fault.{Opened, size, Hit, control, lone-return, bad-escape, empty-string, unclosed-string}
+use Rattle.lexer.specs.Fault.{Opened, size, Hit, control, lone-return, no-escape, empty-string, unclosed-string}
 use Rattle.lexer.proofs.Classes.{ByteOf, class-byte, Fits}
 use Rattle.lexer.proofs.Strings.{pieces-append, escape-spelled, letter-not-u, raw-tests}
 
@@ -118,7 +118,7 @@ lex-string (closed (p ∷ ps) k u) next =
     = rw (pieces-append (p ∷ ps) (0x22 ∷ k), length-append (piecesBefore (p ∷ ps) []) (0x22 ∷ k)) (omega arith) in
     leaves (string p ps) k u tt (next k shorter)
 lex-string (unclosed ps u) next = stops 4 (λ room o. (size o, unclosed-string ps u))
-lex-string (bad ps s u h) next = stops 4 (λ room o. (size o + 1 + length (piecesBefore ps []), bad-escape ps s u h))
+lex-string (bad ps s u h) next = stops 4 (λ room o. (size o + 1 + length (piecesBefore ps []), no-escape ps s u h))
 
 lex-return : (s : List ℕ) → ((k : List ℕ) → length k ≤ length s → Lexed k) → Lexed (0x0D ∷ s)
 unfolding leafBefore isLeaf after Fits

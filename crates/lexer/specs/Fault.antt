@@ -37,7 +37,7 @@ pub data Hit (room : ℕ) : Opened → List ℕ → ℕ → ℕ → Type 0 where
   control : {o : Opened} {b : ℕ} {s : List ℕ} → byteClass b ≡ forbidden → Hit room o (b ∷ s) 3 (size o)
   lone-return : {o : Opened} {s : List ℕ} → (getD s 0 0 ≡ 0x0A → ⊥) → Hit room o (0x0D ∷ s) 3 (size o)
   -- 4, "bad escape; string empty or unclosed" at "the backslash; the opening quote": after good pieces a backslash that begins no escape.
-  bad-escape : {o : Opened} (ps : List Piece) (s : List ℕ) → T (arePieces ps)
+  no-escape : {o : Opened} (ps : List Piece) (s : List ℕ) → T (arePieces ps)
       → ((p : Piece) (t : List ℕ) → T (isPiece p) → pieceBefore p t ≡ 0x5C ∷ s → ⊥)
       → Hit room o (0x22 ∷ piecesBefore ps (0x5C ∷ s)) 4 (size o + 1 + length (piecesBefore ps []))
   empty-string : {o : Opened} {s : List ℕ} → Hit room o (0x22 ∷ 0x22 ∷ s) 4 (size o)

@@ -1,6 +1,6 @@
 -- The table of `specs/Sequence.antt` and the encodings of `specs/Scalar.antt` say the same: a text is valid up to its end exactly where it is UTF-8,
 -- and up to p exactly where its first ill-formed sequence begins at p. The texts are all lists of numbers.
--- Beside that: UTF-8 texts join, and a UTF-8 text parts before an ASCII byte.
+-- Beside that: UTF-8 texts join, a UTF-8 text parts before an ASCII byte, and what follows an ASCII byte in front is UTF-8.
 -- Assumes nothing.
 use mathlib.Core.Path.{_≡_, refl, ap, ap₂, sym, _∙_}
 use mathlib.Core.Bool.{Bool, true, _&&_}
@@ -11,10 +11,11 @@ use native.Mathlib.Omega.{arith}
 use lib.Dec.{T, leb, leb→le, le→leb}
 use lib.ListN.{length, take, drop, length-append, length-take, length-drop, take-append-drop}
 use lib.Seq.{take-length, drop-append-seam, drop-append-add, take-append-add}
+use borrow.Author.Tests.{le-leb}
 use Rattle.utf8.specs.Scalar.{isScalar, further, encode, encodeAll, allScalar, IsUtf8, IllFormedAt}
 use Rattle.utf8.specs.Sequence.{sequenceLength, validFrom, validUpTo}
 use Rattle.laws.proofs.Booleans.{cond-case, both, both-true}
-use Rattle.utf8.proofs.Decode.{encode-length, nothing-starts, starts-of}
+use Rattle.utf8.proofs.Decode.{scalar-below, encode-length, nothing-starts, starts-of}
 use Rattle.utf8.proofs.Walk.{stop, walk}
 
 -- ---- what is UTF-8
@@ -27,29 +28,38 @@ high : (n : ℕ) (bs : List ℕ) → T (allHigh bs) → T (allHigh (further n �
 unfolding allHigh
 high n bs t = both-true (leb 0x80 (further n)) (allHigh bs) (le→leb 0x80 (further n) (omega arith)) t
 
--- An encoding is a first byte, and bytes from 0x80 on.
+-- An encoding is a first byte, and bytes from 0x80 on; there are none after a first byte below 0x80.
 record Bytes (l : List ℕ) : Type 0 where
   first : ℕ
   more : List ℕ
   are-high : T (allHigh more)
+  alone : first < 0x80 → more ≡ []
   bytes : l ≡ first ∷ more
 
-bytes : (b : ℕ) (bs : List ℕ) → T (allHigh bs) → Bytes (b ∷ bs)
-bytes b bs t = record { first = b; more = bs; are-high = t; bytes = refl }
+one-byte : (b : ℕ) → Bytes (b ∷ [])
+unfolding allHigh
+one-byte b = record { first = b; more = []; are-high = tt; alone = λ h. refl; bytes = refl }
+
+bytes : (b : ℕ) (bs : List ℕ) → 0x80 ≤ b → T (allHigh bs) → Bytes (b ∷ bs)
+bytes b bs h t = record { first = b; more = bs; are-high = t; alone = λ l. absurd (omega arith); bytes = refl }
 
 bytes-of : (n : ℕ) → Bytes (encode n)
 unfolding encode allHigh
 bytes-of n =
-    cond-case Bytes (leb n 0x7F) (λ e. bytes n [] tt)
-    (λ e. cond-case Bytes (leb n 0x7FF) (λ f. bytes (0xC0 + n / 64) (further n ∷ []) (high n [] tt))
-    (λ f. cond-case Bytes (leb n 0xFFFF) (λ g. bytes (0xE0 + n / 4096) (further (n / 64) ∷ further n ∷ []) (high (n / 64) (further n ∷ []) (high n [] tt)))
-    (λ g. bytes (0xF0 + n / 262144) (further (n / 4096) ∷ further (n / 64) ∷ further n ∷ [])
+    cond-case Bytes (leb n 0x7F) (λ e. one-byte n)
+    (λ e. cond-case Bytes (leb n 0x7FF) (λ f. bytes (0xC0 + n / 64) (further n ∷ []) (omega arith) (high n [] tt))
+    (λ f. cond-case Bytes (leb n 0xFFFF) (λ g. bytes (0xE0 + n / 4096) (further (n / 64) ∷ further n ∷ []) (omega arith) (high (n / 64) (further n ∷ []) (high n [] tt)))
+    (λ g. bytes (0xF0 + n / 262144) (further (n / 4096) ∷ further (n / 64) ∷ further n ∷ []) (omega arith)
     (high (n / 4096) (further (n / 64) ∷ further n ∷ []) (high (n / 64) (further n ∷ []) (high n [] tt))))))
 
 encode-some : (n : ℕ) → 0 < length (encode n)
 encode-some n = omega (arith, ap length (bytes-of n .bytes))
 
-nil-utf8 : IsUtf8 []
+pub encode-not-empty : (n : ℕ) (t : List ℕ) → encode n ++ t ≡ [] → ⊥
+encode-not-empty n t e = omega (arith, encode-some n, length-append (encode n) t, ap length e)
+
+-- The empty text, an encoding and a byte below 0x80 are UTF-8.
+pub nil-utf8 : IsUtf8 []
 unfolding encodeAll allScalar
 nil-utf8 = record { scalars = []; are-scalar = tt; encoded = refl }
 
@@ -57,6 +67,15 @@ cons-utf8 : (n : ℕ) (s : List ℕ) → T (isScalar n) → IsUtf8 s → IsUtf8 
 unfolding encodeAll allScalar
 cons-utf8 n s t u =
     record { scalars = n ∷ u .scalars; are-scalar = both-true (isScalar n) (allScalar (u .scalars)) t (u .are-scalar); encoded = rw (u .encoded) }
+
+pub encode-utf8 : (n : ℕ) → T (isScalar n) → IsUtf8 (encode n)
+encode-utf8 n t = rw (append-nil (encode n)) at (cons-utf8 n [] t nil-utf8)
+
+pub byte-utf8 : (c : ℕ) → c < 0x80 → IsUtf8 (c ∷ [])
+unfolding encode
+byte-utf8 c h =
+    let e : encode c ≡ c ∷ [] = rw (le-leb c 0x7F (omega arith)) in
+    rw e at (encode-utf8 c (scalar-below c (omega arith)))
 
 -- ---- the walk through a text, and the encodings
 
@@ -178,3 +197,17 @@ parted (n ∷ ns) (x ∷ a) b c t h e =
 
 pub utf8-split : (a b : List ℕ) (c : ℕ) → IsUtf8 (a ++ (c ∷ b)) → c < 0x80 → IsUtf8 a × IsUtf8 (c ∷ b)
 utf8-split a b c u h = parted (u .scalars) a b c (u .are-scalar) h (u .encoded)
+
+tail-of : (ns : List ℕ) (c : ℕ) (s : List ℕ) → c < 0x80 → T (allScalar ns) → encodeAll ns ≡ c ∷ s → IsUtf8 s
+unfolding encodeAll allScalar
+tail-of [] c s h t e = let z : _≡_ {A = ℕ} 0 1 = cc in absurd (omega arith)
+tail-of (n ∷ ns) c s h t e =
+    let u = bytes-of n in
+    let f : (u .first ∷ u .more) ++ encodeAll ns ≡ c ∷ s = rw (u .bytes) at e in
+    let g : u .first ≡ c = cc in
+    let alone : u .more ≡ [] = u .alone (omega arith) in
+    let i : u .more ++ encodeAll ns ≡ s = cc in
+    record { scalars = ns; are-scalar = both (isScalar n) (allScalar ns) t .1; encoded = rw alone at i }
+
+pub utf8-tail : (c : ℕ) (s : List ℕ) → c < 0x80 → IsUtf8 (c ∷ s) → IsUtf8 s
+utf8-tail c s h u = tail-of (u .scalars) c s h (u .are-scalar) (u .encoded)

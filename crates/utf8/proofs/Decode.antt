@@ -101,7 +101,7 @@ module _ (a : ℕ) where
   four-row h k =
       rw (lt-leb a 0x7F (omega arith), lt-leb a 0xC1 (omega arith), lt-leb a 0xDF (omega arith), lt-leb a 0xEF (omega arith), le-leb a 0xF4 k)
 
-scalar-below : (n : ℕ) → n < 0xD800 → T (isScalar n)
+pub scalar-below : (n : ℕ) → n < 0xD800 → T (isScalar n)
 unfolding isScalar
 scalar-below n h = or-left (ltb n 0xD800) (leb 0xE000 n && leb n 0x10FFFF) (lt→ltb n 0xD800 h)
 

@@ -1,11 +1,10 @@
 -- What the table of `specs/Sequence.antt` says of each first byte: by the byte's range, and by its leading one bits, as the code goes.
 -- The 256 bytes are compared by one test that antt computes; a number that is no byte begins no row.
 -- Assumes nothing.
-use mathlib.Core.Path.{_≡_, refl, ap, ap₂, sym, _∙_, subst}
+use mathlib.Core.Path.{_≡_, refl, ap, ap₂, sym, _∙_}
 use mathlib.Core.Bool.{Bool, true, false, cond, _&&_}
 use mathlib.Core.List.{List, [], _∷_}
-use Prim.Native.Nat.{ℕ, zero, suc, _+_, _-_, _<_}
-use native.Mathlib.Nat.{add-zero, zero-add, add-suc, suc-add, le-of-suc-le-suc, not-suc-le-zero}
+use Prim.Native.Nat.{ℕ, suc, _+_, _-_, _<_}
 use native.Mathlib.Omega.{arith}
 use lib.Count.{leadingZeros}
 use lib.Dec.{T, leb, ltb, eqb, leb→le, eqb→eq}
@@ -13,23 +12,8 @@ use lib.ListN.{length, drop, getD}
 use lib.Seq.{drop-cons, drop-drop}
 use borrow.Author.Tests.{lt-leb, leb-true, leb-false, lt-ltb, le-ltb}
 use Rattle.laws.proofs.Booleans.{bool-case, cond-under, both, and-true, and-false}
+use Rattle.laws.proofs.Tables.{below, each-below}
 use Rattle.utf8.specs.Sequence.{Range, to, within, forms, begins, firstForm, sequenceLength, leadingOnes}
-
--- The test f passes at n numbers from i on.
-every : (ℕ → Bool) → ℕ → ℕ → Bool
-every f i zero = true
-every f i (suc n) = f i && every f (suc i) n
-
-from : (f : ℕ → Bool) (i n k : ℕ) → T (every f i n) → k < n → T (f (i + k))
-unfolding every
-from f i zero k t h = absurd (not-suc-le-zero h)
-from f i (suc n) zero t h = rw add-zero (both (f i) (every f (suc i) n) t .0)
-from f i (suc n) (suc k) t h =
-    subst (λ (m : ℕ). T (f m)) (suc-add i k ∙ sym (add-suc i k))
-    (from f (suc i) n k (both (f i) (every f (suc i) n) t .1) (le-of-suc-le-suc h))
-
-below : (f : ℕ → Bool) (n k : ℕ) → T (every f 0 n) → k < n → T (f k)
-below f n k t h = subst (λ (m : ℕ). T (f m)) (zero-add k) (from f 0 n k t h)
 
 -- Two lists are equal where a test says so of their elements.
 same : {A : Type 0} → (A → A → Bool) → List A → List A → Bool
@@ -105,14 +89,14 @@ forms-up-to = tt
 agrees : (ℕ → List (List Range)) → ℕ → Bool
 agrees rule a = same (same sameRange) (tails a forms) (rule a)
 
-tails-rule : (rule : ℕ → List (List Range)) → T (every (agrees rule) 0 256) → ((a : ℕ) → 0xFF < a → rule a ≡ []) → (a : ℕ) → tails a forms ≡ rule a
+tails-rule : (rule : ℕ → List (List Range)) → T (below (agrees rule) 256) → ((a : ℕ) → 0xFF < a → rule a ≡ []) → (a : ℕ) → tails a forms ≡ rule a
 unfolding agrees
 tails-rule rule t past-bytes a =
     bool-case (leb a 0xFF)
-    (λ e. same-eq (same sameRange) (same-eq sameRange same-range) (tails a forms) (rule a) (below (agrees rule) 256 a t (omega (arith, leb-true a 0xFF e))))
+    (λ e. same-eq (same sameRange) (same-eq sameRange same-range) (tails a forms) (rule a) (each-below (agrees rule) 256 a (omega (arith, leb-true a 0xFF e)) t))
     (λ e. past 0xF4 a forms forms-up-to (omega (arith, leb-false a 0xFF e)) ∙ sym (past-bytes a (leb-false a 0xFF e)))
 
-by-rule : (rule : ℕ → List (List Range)) → T (every (agrees rule) 0 256) → ((a : ℕ) → 0xFF < a → rule a ≡ [])
+by-rule : (rule : ℕ → List (List Range)) → T (below (agrees rule) 256) → ((a : ℕ) → 0xFF < a → rule a ≡ [])
     → (a : ℕ) (s : List ℕ) → sequenceLength (a ∷ s) ≡ choose (rule a) s
 unfolding sequenceLength
 by-rule rule t past-bytes a s =
@@ -137,8 +121,8 @@ byRange a =
     (cond (leb a 0xEF) ((to (low a) (high a) ∷ continuation ∷ []) ∷ [])
     (cond (leb a 0xF4) ((to (low a) (high a) ∷ continuation ∷ continuation ∷ []) ∷ []) []))))
 
-by-range-all : T (every (agrees byRange) 0 256)
-unfolding every agrees same sameRange tails forms within byRange
+by-range-all : T (below (agrees byRange) 256)
+unfolding agrees same sameRange tails forms within byRange
 by-range-all = tt
 
 by-range-past : (a : ℕ) → 0xFF < a → byRange a ≡ []
@@ -159,8 +143,8 @@ byOnes a =
     (cond (eqb (leadingOnes a) 3) ((to (low a) (high a) ∷ continuation ∷ []) ∷ [])
     ((to (low a) (high a) ∷ continuation ∷ continuation ∷ []) ∷ [])))))
 
-by-ones-all : T (every (agrees byOnes) 0 256)
-unfolding every agrees same sameRange tails forms within byOnes leadingOnes leadingZeros
+by-ones-all : T (below (agrees byOnes) 256)
+unfolding agrees same sameRange tails forms within byOnes leadingOnes leadingZeros
 by-ones-all = tt
 
 -- the complement of a number that is no byte is 0, which has 8 leading zeros
