@@ -34,7 +34,7 @@ pub read-on : (at k : ℕ) (s : State) (e : Expr) (es : Exprs) → Read at k s (
 unfolding judge
 read-on at k s e es h = passed at k (place e) (step k s (exprClass e)) (judge k e) (λ s′. run at k s′ es) h
 
-block-element : (c : ℕ) → T (Class.isBlock c) → Class.isElement c ≡ true
+pub block-element : (c : ℕ) → T (Class.isBlock c) → Class.isElement c ≡ true
 unfolding Class.isElement Class.isKind
 block-element c b =
     let h = block-range c b in

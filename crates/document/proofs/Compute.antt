@@ -6,6 +6,7 @@ use Rattle.utf8.specs.Position
 use Rattle.kind.specs.Bytes
 use Rattle.kind.specs.Class
 use Rattle.kind.specs.Rules
+use Rattle.kind.specs.Characters
 use Rattle.kind.specs.Inside
 use Rattle.lexer.specs.Byte
 use Rattle.lexer.specs.Syntax
@@ -73,7 +74,7 @@ unfolding Scan.ordinaryRun Scan.escapeAt Scan.piece Scan.quotedFrom Scan.quotedI
 scan = tt
 
 unfoldable value : Unit {0}
-unfolding Value.nonEmpty Value.every Value.isDigit Value.isLetter Value.typeCharacter Value.idCharacter Value.uriCharacter Value.namesBlock
+unfolding Value.nonEmpty Value.every Characters.isDigit Characters.isLetter Characters.typeCharacter Characters.idCharacter Characters.uriCharacter Value.namesBlock
     Value.targetCharacter Value.isValue Value.isText Value.isSize Value.decimalAfter Value.isDecimal
 value = tt
 

@@ -8,6 +8,7 @@ pub mod BlockRules
 pub mod Blocks
 pub mod Regroup
 pub mod Flatten
+pub mod RegroupedAll
 pub mod RegroupedTexts
 pub mod ScannedTexts
 pub mod Steps
@@ -22,3 +23,5 @@ pub mod Records
 pub mod BadRow
 pub mod Prose
 pub mod TableRows
+pub mod Depth
+pub mod CheckedNode

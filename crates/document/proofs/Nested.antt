@@ -78,7 +78,7 @@ element-class : (c : ℕ) → T (Class.isElement c) → c ≡ 0 → ⊥
 unfolding Class.isElement Class.isKind
 element-class c t e = rw e at t
 
-value-class-some : (k c : ℕ) (es : Exprs) → T (keepsRules k (valueTree c es)) → c ≡ 0 → ⊥
+pub value-class-some : (k c : ℕ) (es : Exprs) → T (keepsRules k (valueTree c es)) → c ≡ 0 → ⊥
 unfolding valueTree keepsRules isValue
 value-class-some k c es t e = both (nonEmpty (onlyOne textBytes es)) false (rw e at t) .1
 

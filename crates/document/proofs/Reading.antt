@@ -15,7 +15,7 @@ use Rattle.lexer.specs.Expression.{Expr, symbol, quoted, list, Exprs, none, and
 use Rattle.lexer.specs.Scan as Scan
 use Rattle.lexer.specs.Scan.{Scanned, scan}
 use Rattle.lexer.specs.Fault.{Fault}
-use Rattle.lexer.proofs.Scanned.{accepted}
+use Rattle.lexer.proofs.Accepted.{accepted}
 use Rattle.lexer.proofs.Decided.{accepts, refused-fault}
 use Rattle.lexer.proofs.Refused.{fault-refused}
 use Rattle.lexer.proofs.Located.{located-depth}

@@ -198,7 +198,7 @@ mutual
   rows-length (node k key type text w h ns) i parent p =
       omega (arith, rows-length-all ns (i + 1) i (p + length key + length type + length text))
 
-  rows-length-all : (ns : Nodes) (i parent p : ℕ) → length (rowsAll i parent p ns) ≡ recordLength * countAll ns
+  pub rows-length-all : (ns : Nodes) (i parent p : ℕ) → length (rowsAll i parent p ns) ≡ recordLength * countAll ns
   rows-length-all childless i parent p = refl
   rows-length-all (child n ns) i parent p =
       omega (

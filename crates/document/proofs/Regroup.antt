@@ -69,7 +69,7 @@ command-kept (and p ps) inside h bare =
     (λ e (k, _). absurd k)
     h
 
-block-class : (e : Expr) (inside : Exprs) → exprClass (block e inside) ≡ exprClass e
+pub block-class : (e : Expr) (inside : Exprs) → exprClass (block e inside) ≡ exprClass e
 unfolding exprClass listClass block
 block-class (symbol at s) inside = refl
 block-class (quoted at s) inside = refl

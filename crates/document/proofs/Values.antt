@@ -9,7 +9,8 @@ use borrow.Author.Tests.{eqb-true}
 use Rattle.laws.proofs.Booleans.{cond-case, both, or-true, true-T, T-true}
 use Rattle.kind.specs.Class as Class
 use Rattle.lexer.specs.Expression.{Expr, symbol, quoted, list, Exprs, none, and}
-use Rattle.document.specs.Value.{nonEmpty, every, isValue, isSize, isDecimal, typeCharacter, idCharacter, targetCharacter}
+use Rattle.kind.specs.Characters.{typeCharacter, idCharacter}
+use Rattle.document.specs.Value.{nonEmpty, every, isValue, isSize, isDecimal, targetCharacter}
 use Rattle.document.specs.Document.{Tree, value, size, keepsRules}
 use Rattle.document.specs.Spelling.{WritesText, as-symbol, as-string, WritesNumber, Writes, writes-value, writes-type, writes-size}
 use Rattle.document.specs.Spelling.{holdsText, bracketed}
@@ -85,7 +86,7 @@ one-of false false true x y z e t = tt
 one-of false false false x y z e t = t
 
 -- What a value is tested for, in two parts.
-value-parts : (k c : ℕ) (s : List ℕ) → T (isValue k c s) → T (nonEmpty s) × (eqb c Class.type ≡ false → T (holdsText c))
+pub value-parts : (k c : ℕ) (s : List ℕ) → T (isValue k c s) → T (nonEmpty s) × (eqb c Class.type ≡ false → T (holdsText c))
 unfolding isValue holdsText
 value-parts k c s t =
     let i : Bool = every idCharacter s in

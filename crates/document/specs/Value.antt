@@ -6,6 +6,7 @@ use lib.Dec.{eqb, leb}
 use lib.ListN.{length}
 use Rattle.utf8.specs.Sequence.{validUpTo}
 use Rattle.kind.specs.Class as Class
+use Rattle.kind.specs.Characters.{isDigit, typeCharacter, idCharacter, uriCharacter}
 
 unfoldable pub nonEmpty : List ℕ → Bool
 nonEmpty [] = false
@@ -14,25 +15,6 @@ nonEmpty (x ∷ xs) = true
 unfoldable pub every : (ℕ → Bool) → List ℕ → Bool
 every p [] = true
 every p (x ∷ xs) = p x && every p xs
-
--- "Letters and numbers in ids and types are ASCII only."
-unfoldable pub isDigit : ℕ → Bool
-isDigit b = leb 0x30 b && leb b 0x39
-
-unfoldable pub isLetter : ℕ → Bool
-isLetter b = (leb 0x41 b && leb b 0x5A) || (leb 0x61 b && leb b 0x7A)
-
--- "Type characters: letters, digits, `_`"
-unfoldable pub typeCharacter : ℕ → Bool
-typeCharacter b = isLetter b || isDigit b || eqb b 0x5F
-
--- "ids and the targets of link and footnote-ref add `-` and `.`"
-unfoldable pub idCharacter : ℕ → Bool
-idCharacter b = typeCharacter b || eqb b 0x2D || eqb b 0x2E
-
--- "A URI target is one or more bytes 0x21 to 0x7E."
-unfoldable pub uriCharacter : ℕ → Bool
-uriCharacter b = leb 0x21 b && leb b 0x7E
 
 -- The targets of link and footnote-ref name a block; those of image and link-ext are URIs.
 unfoldable pub namesBlock : ℕ → Bool

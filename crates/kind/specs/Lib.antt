@@ -4,3 +4,6 @@ pub mod ByLength
 pub mod Rules
 pub mod Inside
 pub mod Examples
+pub mod Machine
+pub mod Table
+pub mod Characters

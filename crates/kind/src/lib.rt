@@ -1,6 +1,10 @@
 // The names of the language and their numbers (document 01, "Elements").
+mod machine; // machine.rt: what may stand inside an element
 mod words; // words.rt: the comparisons with the names
 
+pub use machine::Stepped;
+pub use machine::may_end;
+pub use machine::step;
 ghost use mathlib.Core.Path.{_≡_};
 ghost use Rattle.kind.specs.Class.{classOf, kindOf, keywordOf, significance};
 

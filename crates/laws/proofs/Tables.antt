@@ -1,8 +1,8 @@
 -- Facts about a whole table by one test that antt computes: what passes at every entry passes at each. Assumes nothing.
 use Prim.Native.Nat.{ℕ, zero, suc, _<_}
-use mathlib.Core.Path.{_≡_, subst⁻¹}
+use mathlib.Core.Path.{_≡_, refl, subst⁻¹}
 use mathlib.Core.Logic.{⊎-elim}
-use mathlib.Core.Bool.{Bool, true, _&&_}
+use mathlib.Core.Bool.{Bool, true, false, not, _&&_}
 use mathlib.Core.List.{List, [], _∷_, List·Memᴰ, List·Memᴰ·head, List·Memᴰ·tail}
 use native.Mathlib.Nat.{le-of-suc-le-suc, not-suc-le-zero, eq-or-lt-of-le}
 use lib.Dec.{T}
@@ -32,3 +32,14 @@ module _ (test : ℕ → Bool) where
       (λ (e : c ≡ k). subst⁻¹ (λ (m : ℕ). T (test m)) e now)
       (λ (l : c < k). each-below k c l later)
       (eq-or-lt-of-le (le-of-suc-le-suc h))
+
+-- Two tests agree at an entry.
+abbrev pub alike : Bool → Bool → Bool
+alike true b = b
+alike false b = not b
+
+pub alike-eq : (a b : Bool) → T (alike a b) → a ≡ b
+alike-eq true true t = refl
+alike-eq true false t = absurd t
+alike-eq false true t = absurd t
+alike-eq false false t = refl

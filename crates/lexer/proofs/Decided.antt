@@ -13,7 +13,7 @@ use Rattle.lexer.specs.Scan.{refused, scanned, scan}
 use Rattle.lexer.specs.Fault.{Opened, outside, within, openedBefore, size, openLevels, OkOpened, unopened, other-partner, left-open, too-deep, Fault}
 use Rattle.lexer.proofs.Classes.{Fits, bracket-same}
 use Rattle.lexer.proofs.Runs.{lastOf}
-use Rattle.lexer.proofs.Scanned.{accepted}
+use Rattle.lexer.proofs.Accepted.{accepted}
 use Rattle.lexer.proofs.Prefixes.{lastOpened, withRun, with-bytes, with-last, with-ok, open-levels}
 use Rattle.lexer.proofs.Refused.{fault-refused}
 use Rattle.lexer.proofs.Texts.{Lexed, nothing, leaves, opens, closes, stops, lexed}

@@ -44,7 +44,7 @@ run-ends (b ∷ bs) k t h =
     rw (T-true (isOrdinary b) t₁, run-ends bs k t₂ h)
 
 -- A quoted string with its closing quote is read, and passed over.
-quoted-string : (ps : List Piece) (n : ℕ) (k : List ℕ) → T (arePieces ps) → quotedFrom 0 n (piecesBefore ps (0x22 ∷ k)) ≡ closed ps
+pub quoted-string : (ps : List Piece) (n : ℕ) (k : List ℕ) → T (arePieces ps) → quotedFrom 0 n (piecesBefore ps (0x22 ∷ k)) ≡ closed ps
 unfolding quotedFrom
 quoted-string ps n k t = quoted-pieces ps n (0x22 ∷ k) t ∙ pieces-closed ps [] ∙ rw (append-nil ps)
 

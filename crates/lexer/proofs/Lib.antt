@@ -3,7 +3,7 @@ pub mod Strings
 pub mod Items
 pub mod Runs
 pub mod Levels
-pub mod Scanned
+pub mod Accepted
 pub mod Located
 pub mod Prefixes
 pub mod Refused
@@ -11,3 +11,13 @@ pub mod Texts
 pub mod Decided
 pub mod Ascii
 pub mod Atoms
+pub mod Codes
+pub mod Escapes
+pub mod PieceAt
+pub mod StringWalk
+pub mod ScanWalk
+pub mod Blanks
+pub mod Looks
+pub mod Written
+pub mod Contents
+pub mod Characters

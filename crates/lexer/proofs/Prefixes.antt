@@ -89,7 +89,7 @@ unfoldable pub itemsOpened : Opened → Items → Items
 itemsOpened (outside f) is = itemsOf 0 f is
 itemsOpened (within o b f) is = itemsOpened o (opens (size o) b (itemsOf (size o + 1) f is))
 
-opened-length : (o : Opened) (k : List ℕ) → length (openedBefore o k) ≡ size o + length k
+pub opened-length : (o : Opened) (k : List ℕ) → length (openedBefore o k) ≡ size o + length k
 unfolding openedBefore size bytesOf
 opened-length (outside f) k = run-length f k
 opened-length (within o b f) k =

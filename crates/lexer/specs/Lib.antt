@@ -3,3 +3,5 @@ pub mod Syntax
 pub mod Expression
 pub mod Scan
 pub mod Fault
+pub mod Token
+pub mod Step

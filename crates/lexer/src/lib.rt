@@ -1,1 +1,24 @@
-// The scan of a text into expressions: so far its definitions alone (specs/).
+// Bytes, strings and the scan, and what stands at a place of a text (document 01, "Characters and brackets" and
+// numbers 3 to 6).
+mod class; // class.rt: the classes of bytes
+mod escape; // escape.rt: escapes by number
+mod fit; // fit.rt: whether what a symbol or string stands for are characters of a sort
+mod pieces; // pieces.rt: the pieces of a quoted string
+mod scanner; // scanner.rt: the scan, faults 3 to 6
+mod stores; // stores.rt: what a symbol or string stands for, written out
+mod string; // string.rt: quoted strings
+mod token; // token.rt: white space, symbols and what is seen at a place
+
+pub use class::byte_class;
+pub use fit::atom_fits;
+pub use pieces::PieceSeen;
+pub use pieces::piece;
+pub use scanner::Scanned;
+pub use scanner::scan;
+pub use stores::put_atom;
+pub use string::StringEnd;
+pub use string::string_at;
+pub use token::Seen;
+pub use token::look;
+pub use token::skip_blanks;
+pub use token::symbol_end;

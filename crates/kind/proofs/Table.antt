@@ -1,0 +1,179 @@
+-- The code's tables against the rules, by tests that antt computes: each entry, and of `rules` itself what the code leaves out of the tables.
+-- Assumes nothing.
+use Prim.Native.Nat.{ℕ, zero, suc, _+_, _-_, _/_, _%_, _^_, _<_, _≤_}
+use mathlib.Core.Path.{_≡_, _∙_, refl, ap}
+use mathlib.Core.Bool.{Bool, true, false, not, cond, _&&_}
+use mathlib.Core.List.{List, [], _∷_}
+use native.Mathlib.Omega.{arith}
+use lib.Dec.{T, eqb, leb, ltb, eqb→eq, leb→le, ltb→lt}
+use lib.ListN.{length, getD, drop, drop-of-length-le}
+use lib.Seq.{drop-drop}
+use borrow.Author.Tests.{ne-eqb, leb-true, leb-false, lt-ltb, le-ltb}
+use Rattle.laws.proofs.Booleans.{cond-case, both, not-T-false}
+use Rattle.laws.proofs.Tables.{every, below, each-below, alike, alike-eq}
+use Rattle.kind.specs.Bytes.{among}
+use Rattle.kind.specs.Class as Class
+use Rattle.kind.specs.Rules.{Slot, must, may, id-type, Content, any-of, exactly-one, Rule, rules, ruleIn, ruleOf}
+use Rattle.kind.specs.Inside.{allows, mayBeEmpty}
+use Rattle.kind.specs.Table.{led}
+use Rattle.kind.proofs.Same.{each-among}
+
+-- The row of a kind that has none.
+abbrev empty : ℕ → Rule
+empty k = record { kind = k; parameters = []; content = any-of [] }
+
+-- What is tested of each row, and holds of the empty one, holds of every kind's.
+module _ (test : Rule → Bool) where
+  in-rows : (k : ℕ) → T (test (empty k)) → (rs : List Rule) → T (every test rs) → T (test (ruleIn rs k))
+  unfolding ruleIn
+  in-rows k h [] t = h
+  in-rows k h (r ∷ rs) t =
+      let (now, later) = both (test r) (every test rs) t in
+      cond-case (λ (q : Rule). T (test q)) (eqb k (r .kind)) (λ e. now) (λ e. in-rows k h rs later)
+
+  each-kind : T (every test rules) → (k : ℕ) → T (test (empty k)) → T (test (ruleOf k))
+  unfolding ruleOf
+  each-kind t k h = in-rows k h rules t
+
+-- From 26 on there is no row.
+abbrev known : Rule → Bool
+known r = ltb (r .kind) 26
+
+past : (k : ℕ) → 26 ≤ k → (rs : List Rule) → T (every known rs) → ruleIn rs k ≡ empty k
+unfolding ruleIn
+past k h [] t = refl
+past k h (r ∷ rs) t =
+    let (now, later) = both (known r) (every known rs) t in
+    let low : r .kind < 26 = ltb→lt _ _ now in
+    rw (ne-eqb k (r .kind) (λ e. omega arith)) (past k h rs later)
+
+pub no-row : (k : ℕ) → 26 ≤ k → ruleOf k ≡ empty k
+unfolding ruleOf rules
+no-row k h = past k h rules tt
+
+abbrev at-most-four : Rule → Bool
+at-most-four r = leb (length (r .parameters)) 4
+
+pub past-four : (k i : ℕ) → 4 ≤ i → drop i (ruleOf k .parameters) ≡ []
+unfolding rules
+past-four k i h =
+    let few : length (ruleOf k .parameters) ≤ 4 = leb→le _ _ (each-kind at-most-four tt k tt) in
+    let fits : length (ruleOf k .parameters) ≤ i = omega arith in
+    drop-of-length-le (ruleOf k .parameters) fits
+
+-- The content of a verbatim alone is exactly one child.
+abbrev empty-alike : ℕ → Bool
+empty-alike k = alike (mayBeEmpty (ruleOf k .content)) (not (eqb k Class.verbatim))
+
+pub empty-but-verbatim : (k : ℕ) → mayBeEmpty (ruleOf k .content) ≡ not (eqb k Class.verbatim)
+unfolding rules ruleIn ruleOf mayBeEmpty
+empty-but-verbatim k = go (leb 26 k) refl
+  where
+    go : (b : Bool) → leb 26 k ≡ b → mayBeEmpty (ruleOf k .content) ≡ not (eqb k Class.verbatim)
+    go true e =
+        let high : 26 ≤ k = leb-true 26 k e in
+        rw (no-row k high, ne-eqb k Class.verbatim (λ v. omega arith))
+    go false e = alike-eq _ _ (each-below empty-alike 26 k (leb-false 26 k e) tt)
+
+-- A class from 32 on may stand nowhere.
+abbrev low : ℕ → Bool
+low n = ltb n 32
+
+abbrev classes-below : Content → Bool
+classes-below (any-of ks) = every low ks
+classes-below (exactly-one n) = low n
+
+abbrev content-below : Rule → Bool
+content-below r = classes-below (r .content)
+
+not-allowed : (c : ℕ) → 32 ≤ c → (t : Content) → T (classes-below t) → allows t c ≡ false
+unfolding allows
+not-allowed c h (any-of ks) t = not-T-false (among c ks) (λ a. omega (arith, ltb→lt c 32 (each-among low c ks a t)))
+not-allowed c h (exactly-one n) t =
+    let small : n < 32 = ltb→lt n 32 t in
+    ne-eqb c n (λ e. omega arith)
+
+pub past-classes : (k c : ℕ) → 32 ≤ c → allows (ruleOf k .content) c ≡ false
+unfolding rules
+past-classes k c h = not-allowed c h (ruleOf k .content) (each-kind content-below tt k tt)
+
+-- A number stands for the first of these parameters.
+stands : ℕ → List Slot → Bool
+stands x [] = eqb x 0
+stands x (must n ∷ ps) = eqb x n && (leb 1 x && ltb x 64)
+stands x (may n ∷ ps) = eqb x (64 + n) && ltb x 255
+stands x (id-type ∷ []) = eqb x 255
+stands x (id-type ∷ (p ∷ ps)) = false
+
+led-stands : (x : ℕ) (ps : List Slot) → T (stands x ps) → ps ≡ led x (drop 1 ps)
+unfolding led stands
+led-stands x [] t = rw (eqb→eq x 0 t)
+led-stands x (must n ∷ ps) t =
+    let (same, rest) = both (eqb x n) (leb 1 x && ltb x 64) t in
+    let (some, small) = both (leb 1 x) (ltb x 64) rest in
+    let positive : 1 ≤ x = leb→le 1 x some in
+    rw (ne-eqb x 0 (λ e. omega arith), lt-ltb x 64 (ltb→lt x 64 small), eqb→eq x n same)
+led-stands x (may n ∷ ps) t =
+    let (equal, small) = both (eqb x (64 + n)) (ltb x 255) t in
+    let same : x ≡ 64 + n = eqb→eq x (64 + n) equal in
+    let high : x < 255 = ltb→lt x 255 small in
+    let n′ : n ≡ x - 64 = omega arith in
+    rw (ne-eqb x 0 (λ e. omega arith), le-ltb x 64 (omega arith), ne-eqb x 255 (λ e. omega arith), n′)
+led-stands x (id-type ∷ []) t = rw (eqb→eq x 255 t)
+led-stands x (id-type ∷ (p ∷ ps)) t = absurd t
+
+-- A row for each of n kinds from k on.
+unfoldable pub rows : {A : Type 0} → (ℕ → A) → ℕ → ℕ → List A
+rows f zero k = []
+rows f (suc n) k = f k ∷ rows f n (suc k)
+
+unfoldable pub code : Slot → ℕ
+code (must n) = n
+code (may n) = 64 + n
+code id-type = 255
+
+unfoldable pub padded : ℕ → List Slot → List ℕ
+padded zero ps = []
+padded (suc n) [] = 0 ∷ padded n []
+padded (suc n) (p ∷ ps) = code p ∷ padded n ps
+
+-- The table of parameters, as the rules give it: antt computes the code's own.
+unfoldable pub parameters : List (List ℕ)
+parameters = rows (λ k. padded 4 (ruleOf k .parameters)) 26 0
+
+abbrev slot-stands : ℕ → ℕ → Bool
+slot-stands k i = stands (getD (getD parameters k []) i 0) (drop i (ruleOf k .parameters))
+
+abbrev row-stands : ℕ → Bool
+row-stands k = below (slot-stands k) 4
+
+parameters-stand : T (below row-stands 26)
+unfolding parameters rows padded code stands rules ruleIn ruleOf
+parameters-stand = tt
+
+pub slot-at : (k i : ℕ) → k < 26 → i < 4 → drop i (ruleOf k .parameters) ≡ led (getD (getD parameters k []) i 0) (drop (i + 1) (ruleOf k .parameters))
+slot-at k i hk hi =
+    led-stands _ _ (each-below (slot-stands k) 4 i hi (each-below row-stands 26 k hk parameters-stand))
+    ∙ ap (led (getD (getD parameters k []) i 0)) (drop-drop 1 i (ruleOf k .parameters))
+
+-- The bits of the classes below n that may stand in a kind.
+unfoldable pub bits : ℕ → ℕ → ℕ
+bits k zero = 0
+bits k (suc n) = cond (allows (ruleOf k .content) n) (2 ^ n) 0 + bits k n
+
+-- The table of contents, as the rules give it.
+unfoldable pub contents : List ℕ
+contents = rows (λ k. bits k 32) 26 0
+
+abbrev class-alike : ℕ → ℕ → Bool
+class-alike k c = alike (eqb (getD contents k 0 / 2 ^ c % 2) 1) (allows (ruleOf k .content) c)
+
+abbrev content-alike : ℕ → Bool
+content-alike k = below (class-alike k) 32
+
+contents-alike : T (below content-alike 26)
+unfolding contents rows bits allows among rules ruleIn ruleOf
+contents-alike = tt
+
+pub content-at : (k c : ℕ) → k < 26 → c < 32 → eqb (getD contents k 0 / 2 ^ c % 2) 1 ≡ allows (ruleOf k .content) c
+content-at k c hk hc = alike-eq _ _ (each-below (class-alike k) 32 c hc (each-below content-alike 26 k hk contents-alike))

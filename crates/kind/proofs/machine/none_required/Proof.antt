@@ -1,0 +1,69 @@
+-- `machine::none_required` meets its contract. The loop's invariant: what the specification says from the place on is what it says from the first one on.
+-- Assumes nothing.
+use Prim.Native.Nat.{_-_}
+use mathlib.Core.Path.{_≡_, _∙_, refl, sym}
+use borrow.Author.Needs.{needs}
+use lib.ListN.{drop}
+use Rattle.kind.specs.Rules.{ruleOf}
+use Rattle.kind.specs.Inside.{noneRequired}
+use Rattle.kind.proofs.Table.{past-four}
+use Rattle.kind.proofs.Steps.{none-left, none-required-end, required-first, not-required}
+use Rattle.kind.proofs.machine.none_required.Statement.{statement}
+use Rattle.kind.proofs.machine.none_required.Tie as tie
+
+abbrev Inv-loop : tie.InvT-loop
+Inv-loop kind state place₀ place =
+    noneRequired (drop place (ruleOf kind .parameters)) ≡ noneRequired (drop state (ruleOf kind .parameters))
+
+abbrev μ-loop : tie.MeasureT-loop
+μ-loop kind state place₀ place = 4 - place
+
+loop-holds : tie.Need-loop-holds Inv-loop μ-loop
+loop-holds c = refl
+
+slot-requires : tie.Need-slot-requires Inv-loop μ-loop
+slot-requires c κs = search needs
+
+returns : tie.Need-returns Inv-loop μ-loop
+returns c =
+    let end = none-left (ruleOf (c .before .before .before .before .args .kind) .parameters)
+    (c .before .before .before .loop .place) _ (c .before .slot .ensures)
+    (c .if1 .taken) in
+    sym (none-required-end end) ∙ c .before .before .before .loop .inv
+
+returns-2 : tie.Need-returns-2 Inv-loop μ-loop
+returns-2 c =
+    sym (required-first (ruleOf (c .before .before .before .before .before .args .kind) .parameters)
+    (c .before .before .before .before .loop .place) _ (c .before .before .slot .ensures)
+    (c .before .if1 .left)
+    (c .if2 .taken)) ∙ c .before .before .before .before .loop .inv
+
+add-place : tie.Need-add-place Inv-loop μ-loop
+add-place c = search needs
+
+loop-less : tie.Need-loop-less Inv-loop μ-loop
+loop-less c = search needs
+
+loop-again : tie.Need-loop-again Inv-loop μ-loop
+loop-again c =
+    sym (not-required (ruleOf (c .before .before .before .before .before .args .kind) .parameters)
+    (c .before .before .before .before .loop .place) _ (c .before .before .slot .ensures)
+    (c .if2 .left)) ∙ c .before .before .before .before .loop .inv
+
+returns-3 : tie.Need-returns-3 Inv-loop μ-loop
+returns-3 c = sym (none-required-end (past-four (c .before .before .args .kind) (c .before .loop .place) (c .loop-test .left))) ∙ c .before .loop .inv
+
+pub none-required-spec : {M : Type 1} → statement M
+none-required-spec =
+    tie.close
+    (tie.spec
+    Inv-loop
+    μ-loop
+    loop-holds
+    slot-requires
+    returns
+    returns-2
+    add-place
+    loop-less
+    loop-again
+    returns-3)

@@ -1,0 +1,115 @@
+-- White space and symbols, one byte at a time. Assumes nothing.
+use mathlib.Core.Path.{_≡_, refl, ap, _∙_}
+use mathlib.Core.Bool.{Bool, true, false, cond, _&&_, _||_}
+use mathlib.Core.List.{List, [], _∷_}
+use Prim.Native.Nat.{ℕ, suc, _+_, _≤_, _<_}
+use native.Mathlib.Omega.{arith}
+use native.Mathlib.Numerals.{add-one}
+use lib.Dec.{eqb, ltb}
+use borrow.Author.Tests.{lt-ltb, eq-eqb, ne-eqb}
+use lib.ListN.{length, take, drop, getD, length-drop, drop-of-length-le}
+use lib.Seq.{drop-cons, drop-drop, getD-drop}
+use Rattle.laws.proofs.Booleans.{bool-case}
+use Rattle.lexer.specs.Byte.{byteClass, isBlank, isOrdinary}
+use Rattle.lexer.specs.Scan.{ordinaryRun}
+use Rattle.lexer.specs.Token.{blanks, codeOf}
+use Rattle.lexer.proofs.Codes.{blank-code}
+
+-- ---- white space
+
+-- Whether the first byte is white space, by what the definition tests.
+pub blank-test : (b : ℕ) (s : List ℕ) → ltb 0 (blanks (b ∷ s)) ≡ (isBlank b || (eqb b 0x0D && eqb (getD s 0 0) 0x0A))
+unfolding blanks
+blank-test b s = go (isBlank b || (eqb b 0x0D && eqb (getD s 0 0) 0x0A))
+  where
+    go : (t : Bool) → ltb 0 (cond t (suc (blanks s)) 0) ≡ t
+    go true = lt-ltb 0 (suc (blanks s)) (omega arith)
+    go false = refl
+
+-- What stands at a place of a text is white space by the class of its byte, or as a carriage return with a line feed after it.
+pub blank-at-end : (text : List ℕ) (i : ℕ) → length text ≤ i → ltb 0 (blanks (drop i text)) ≡ false
+unfolding blanks
+blank-at-end text i h = rw (drop-of-length-le text h)
+
+module _ (text : List ℕ) (i class : ℕ) (h : i < length text) (e : class ≡ codeOf (byteClass (getD text i 0))) where
+  blank-here : ltb 0 (blanks (drop i text)) ≡ (eqb class 0 || (eqb (getD text i 0) 0x0D && eqb (getD text (i + 1) 0) 0x0A))
+  blank-here =
+      let next : getD (drop (suc i) text) 0 0 ≡ getD text (i + 1) 0 = getD-drop (suc i) text 0 0 ∙ ap (λ (n : ℕ). getD text n 0) (omega arith) in
+      rw (drop-cons text i 0 h, e, ← next, ← blank-code (getD text i 0)) (blank-test (getD text i 0) (drop (suc i) text))
+
+  pub blank-yes : class ≡ 0 → ltb 0 (blanks (drop i text)) ≡ true
+  blank-yes f = blank-here ∙ rw (eq-eqb class 0 f)
+
+  pub blank-no : (class ≡ 0 → ⊥) → (getD text i 0 ≡ 0x0D → ⊥) → ltb 0 (blanks (drop i text)) ≡ false
+  blank-no f g = blank-here ∙ rw (ne-eqb class 0 f, ne-eqb (getD text i 0) 0x0D g)
+
+  pub blank-return : (b : ℕ) → (class ≡ 0 → ⊥) → getD text i 0 ≡ 0x0D → b ≡ getD text (i + 1) 0 → ltb 0 (blanks (drop i text)) ≡ eqb b 0x0A
+  blank-return b f g n = blank-here ∙ rw (ne-eqb class 0 f, eq-eqb (getD text i 0) 0x0D g, n)
+
+blank-more : (s : List ℕ) → ltb 0 (blanks s) ≡ true → (0 < length s) × (blanks s ≡ suc (blanks (drop 1 s)))
+unfolding blanks
+blank-more [] e = let z : _≡_ {A = ℕ} 0 1 = cc in absurd (omega arith)
+blank-more (b ∷ s) e = (omega arith, go (isBlank b || (eqb b 0x0D && eqb (getD s 0 0) 0x0A)) e)
+  where
+    go : (t : Bool) → ltb 0 (cond t (suc (blanks s)) 0) ≡ true → cond t (suc (blanks s)) 0 ≡ suc (blanks s)
+    go true e = refl
+    go false e = cc
+
+-- A turn of the loop passes one byte of white space.
+pub blank-turn : (text : List ℕ) (i : ℕ) → ltb 0 (blanks (drop i text)) ≡ true
+    → (i < length text) × (i + 1 + blanks (drop (i + 1) text) ≡ i + blanks (drop i text))
+blank-turn text i e =
+    let (h, f) = blank-more (drop i text) e in
+    let g : drop 1 (drop i text) ≡ drop (i + 1) text = drop-drop 1 i text in
+    (omega (arith, length-drop i text), omega (arith, rw g at f))
+
+pub blanks-fit : (s : List ℕ) → blanks s ≤ length s
+unfolding blanks
+blanks-fit [] = omega arith
+blanks-fit (b ∷ s) = go (isBlank b || (eqb b 0x0D && eqb (getD s 0 0) 0x0A)) (blanks-fit s)
+  where
+    go : (t : Bool) → blanks s ≤ length s → cond t (suc (blanks s)) 0 ≤ suc (length s)
+    go true h = omega arith
+    go false h = omega arith
+
+-- ---- symbols
+
+run-more : (b : ℕ) (s : List ℕ) → isOrdinary b ≡ true → ordinaryRun (b ∷ s) ≡ b ∷ ordinaryRun s
+unfolding ordinaryRun
+run-more b s e = rw e
+
+-- A turn of the loop passes one byte of a symbol, and where no such byte stands the symbol ends.
+pub run-turn : (text : List ℕ) (i : ℕ) → i < length text → isOrdinary (getD text i 0) ≡ true
+    → ordinaryRun (drop i text) ≡ getD text i 0 ∷ ordinaryRun (drop (i + 1) text)
+run-turn text i h e = rw (drop-cons text i 0 h, add-one i) (run-more (getD text i 0) (drop (suc i) text) e)
+
+pub run-stop : (text : List ℕ) (i : ℕ) → i < length text → isOrdinary (getD text i 0) ≡ false → ordinaryRun (drop i text) ≡ []
+unfolding ordinaryRun
+run-stop text i h e = rw (drop-cons text i 0 h, e)
+
+pub run-fits : (s : List ℕ) → length (ordinaryRun s) ≤ length s
+unfolding ordinaryRun
+run-fits [] = omega arith
+run-fits (b ∷ s) = go (isOrdinary b) (run-fits s)
+  where
+    go : (t : Bool) → length (ordinaryRun s) ≤ length s → length (cond t (b ∷ ordinaryRun s) []) ≤ suc (length s)
+    go true h = omega arith
+    go false h = omega arith
+
+-- A symbol is the text's bytes from its place on.
+pub run-part : (s : List ℕ) → take (length (ordinaryRun s)) s ≡ ordinaryRun s
+unfolding ordinaryRun
+run-part [] = refl
+run-part (b ∷ s) = go (isOrdinary b) (run-part s)
+  where
+    go : (t : Bool) → take (length (ordinaryRun s)) s ≡ ordinaryRun s → take (length (cond t (b ∷ ordinaryRun s) [])) (b ∷ s) ≡ cond t (b ∷ ordinaryRun s) []
+    go true e = ap (λ (l : List ℕ). b ∷ l) e
+    go false e = refl
+
+-- A symbol that is not empty begins with the byte at its place.
+pub run-some : (text : List ℕ) (i : ℕ) → 0 < length (ordinaryRun (drop i text))
+    → (i < length text) × (ordinaryRun (drop i text) ≡ getD text i 0 ∷ ordinaryRun (drop (i + 1) text))
+unfolding ordinaryRun
+run-some text i h =
+    let inside : i < length text = omega (arith, run-fits (drop i text), length-drop i text) in
+    (inside, bool-case (isOrdinary (getD text i 0)) (run-turn text i inside) (λ e. absurd (omega (arith, ap length (run-stop text i inside e)))))

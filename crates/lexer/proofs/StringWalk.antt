@@ -1,0 +1,108 @@
+-- A string read piece by piece: what is left to read gives the same answer at each piece. Assumes nothing.
+use Prim.Native.Nat.{ℕ, suc, _+_, _-_, _≤_, _<_}
+use mathlib.Core.Path.{_≡_, refl, ap, sym, _∙_}
+use mathlib.Core.Bool.{Bool, true, false, cond}
+use mathlib.Core.List.{List, [], _∷_}
+use native.Mathlib.Nat.{add-zero, add-assoc}
+use native.Mathlib.Omega.{arith}
+use lib.Dec.{eqb}
+use lib.ListN.{length, drop, getD, length-append, drop-of-length-le}
+use lib.Seq.{drop-cons, drop-drop}
+use borrow.Author.Tests.{ne-eqb}
+use Rattle.lexer.specs.Syntax.{Piece, raw, isPiece, pieceBefore, piecesBefore, pieceValue, piecesValue}
+use Rattle.lexer.specs.Scan.{Quoted, closed, unclosed, bad-escape, piece, escapeAt, quotedFrom}
+use Rattle.lexer.specs.Token.{StringEnd, stringEnd, stringAt, pieceAt}
+use Rattle.lexer.specs.Step.{badString, stoppedAt}
+use Rattle.lexer.proofs.Strings.{piece-append}
+use Rattle.lexer.proofs.PieceAt.{piece-few, Told, moves, stands-told, read-on, raw-piece}
+
+-- ---- the answer from a piece on
+
+-- The answer for the string whose quote is at n, where its pieces up to place i stand for d bytes and q follows.
+unfoldable pub finish : ℕ → ℕ → ℕ → Quoted → StringEnd
+finish n i d (closed ps) =
+    cond (eqb (d + length (piecesValue ps)) 0) (badString n)
+    (record { number = 0; place = 0; next = i + length (piecesBefore ps []) + 1; length = d + length (piecesValue ps) })
+finish n i d unclosed = badString n
+finish n i d (bad-escape p) = badString p
+
+pub finish-start : (n : ℕ) (q : Quoted) → finish n (n + 1) 0 q ≡ stringEnd n q
+unfolding finish stringEnd badString piecesValue
+finish-start n (closed []) = refl
+finish-start n (closed (p ∷ ps)) =
+    let v : List ℕ = piecesValue (p ∷ ps) in
+    let some : 0 + length v ≡ 0 → ⊥ = λ e. omega (arith, piece-few p, length-append (pieceValue p) (piecesValue ps)) in
+    let next : n + 1 + length (piecesBefore (p ∷ ps) []) + 1 ≡ n + (length (piecesBefore (p ∷ ps) []) + 2) = omega arith in
+    let decoded : 0 + length v ≡ length v = omega arith in
+    rw (ne-eqb (0 + length v) 0 some, next, decoded)
+finish-start n unclosed = refl
+finish-start n (bad-escape p) = refl
+
+pub finish-piece : (n i d : ℕ) (p : Piece) (q : Quoted)
+    → finish n i d (piece p q) ≡ finish n (i + length (pieceBefore p [])) (d + length (pieceValue p)) q
+unfolding finish piece piecesValue piecesBefore
+finish-piece n i d p (closed ps) =
+    let bytes : length (pieceBefore p (piecesBefore ps [])) ≡ length (pieceBefore p []) + length (piecesBefore ps [])
+    = ap length (piece-append p (piecesBefore ps [])) ∙ length-append (pieceBefore p []) (piecesBefore ps []) in
+    rw (bytes, length-append (pieceValue p) (piecesValue ps), ← (add-assoc d), ← (add-assoc i))
+finish-piece n i d p unclosed = refl
+finish-piece n i d p (bad-escape m) = refl
+
+-- A turn of the loop keeps the answer.
+turn : (text : List ℕ) (n i d : ℕ) → i < length text → isPiece (pieceAt (drop i text)) ≡ true
+    → let p = pieceAt (drop i text) in
+    let j = i + length (pieceBefore p []) in
+    finish n j (d + length (pieceValue p)) (quotedFrom 0 j (drop j text)) ≡ finish n i d (quotedFrom 0 i (drop i text))
+turn text n i d h e =
+    let p : Piece = pieceAt (drop i text) in
+    let j : ℕ = i + length (pieceBefore p []) in
+    sym (ap (finish n i d) (read-on text i h e) ∙ finish-piece n i d p (quotedFrom 0 j (drop j text)))
+
+-- The same of what the code has: a piece is small, and its turn keeps the answer.
+abbrev pub Turned : List ℕ → ℕ → ℕ → ℕ → ℕ → ℕ → Type 0
+Turned text n i d next size =
+    (i < next) × (i + size ≤ next) × (next ≤ i + 6)
+    × (finish n next (d + size) (quotedFrom 0 next (drop next text)) ≡ finish n i d (quotedFrom 0 i (drop i text)))
+
+pub walk : (text : List ℕ) (n i d next size a b c : ℕ) → i < length text → Told (pieceAt (drop i text)) i next size a b c
+    → (next ≡ i → ⊥) → Turned text n i d next size
+walk text n i d next size a b c h t k =
+    let p : Piece = pieceAt (drop i text) in
+    let good : isPiece p ≡ true = moves p i next (t .0) k in
+    let (e, f, x, y, z) = stands-told p i next size a b c good t in
+    let (u, v, w) = piece-few p in
+    (omega arith, omega arith, omega arith, rw (e, f) (turn text n i d h good))
+
+-- ---- where no piece stands
+
+stop-at : (n i d b : ℕ) (s : List ℕ) → isPiece (pieceAt (b ∷ s)) ≡ false → finish n i d (quotedFrom 0 i (b ∷ s)) ≡ stoppedAt n i d (b ∷ s)
+unfolding pieceAt quotedFrom stoppedAt finish piecesValue piecesBefore
+stop-at n i d b s g = go (eqb b 0x22) (eqb b 0x5C) (raw-piece b) g
+  where
+    go : (x y : Bool) → (x ≡ false → y ≡ false → isPiece (raw b) ≡ true) → isPiece (cond y (escapeAt s) (raw b)) ≡ false
+        → finish n i d (cond x (closed []) (cond y (cond (isPiece (escapeAt s)) (piece (escapeAt s) (quotedFrom (length (pieceBefore (escapeAt s) []) - 1) (i + 1) s)) (bad-escape i)) (piece (raw b) (quotedFrom 0 (i + 1) s))))
+        ≡ cond x (cond (eqb d 0) (badString n) (record { number = 0; place = 0; next = i + 1; length = d })) (badString i)
+    go true y r g = rw (add-zero d, add-zero i)
+    go false true r g = rw g
+    go false false r g = let z : _≡_ {A = ℕ} 0 1 = ap (λ (t : Bool). cond t 1 0) (sym g ∙ r refl refl) in absurd (omega arith)
+
+pub stop : (text : List ℕ) (n i d : ℕ) → i < length text → isPiece (pieceAt (drop i text)) ≡ false
+    → finish n i d (quotedFrom 0 i (drop i text)) ≡ stoppedAt n i d (drop i text)
+stop text n i d h e = at (drop i text) (drop-cons text i 0 h) e
+  where
+    at : (s : List ℕ) → s ≡ getD text i 0 ∷ drop (suc i) text → isPiece (pieceAt s) ≡ false → finish n i d (quotedFrom 0 i s) ≡ stoppedAt n i d s
+    at [] x e = let z : _≡_ {A = ℕ} 0 1 = cc in absurd (omega arith)
+    at (b ∷ s) x e = stop-at n i d b s e
+
+pub at-end : (text : List ℕ) (n i d : ℕ) → length text ≤ i → finish n i d (quotedFrom 0 i (drop i text)) ≡ badString n
+unfolding quotedFrom finish
+at-end text n i d h = rw (drop-of-length-le text h)
+
+pub at-start : (text : List ℕ) (n : ℕ) → finish n (n + 1) 0 (quotedFrom 0 (n + 1) (drop (n + 1) text)) ≡ stringAt n (drop n text)
+unfolding stringAt
+at-start text n = finish-start n (quotedFrom 0 (n + 1) (drop (n + 1) text)) ∙ rw (drop-drop 1 n text)
+
+-- A place past the end is as an unclosed string.
+pub past-end : (text : List ℕ) (n : ℕ) → length text ≤ n → badString n ≡ stringAt n (drop n text)
+unfolding stringAt stringEnd quotedFrom badString
+past-end text n h = rw (drop-of-length-le text h)

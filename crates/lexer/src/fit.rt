@@ -1,0 +1,103 @@
+// Whether what a symbol or string stands for are characters of a sort: of a type, of an id or of a URI.
+use super::class::byte_at;
+use super::pieces::piece;
+use super::string::string_at;
+use super::token::symbol_end;
+ghost use mathlib.Core.Path.{_≡_};
+ghost use lib.ListN.{drop};
+ghost use Rattle.kind.specs.Characters.{typeCharacter, idCharacter, uriCharacter, characterOf};
+ghost use Rattle.lexer.specs.Scan.{ordinaryRun, quotedFrom};
+ghost use Rattle.lexer.specs.Token.{atomValue, contentOf, fits};
+
+fn type_character(b: u8) -> bool
+    ensures { λ r. ⌜ r ≡ typeCharacter b ⌝ }
+{
+    if b <= b'9' {
+        return b'0' <= b;
+    }
+    if b <= b'Z' {
+        return b'A' <= b;
+    }
+    if b < b'a' {
+        return b == b'_';
+    }
+    b <= b'z'
+}
+
+fn id_character(b: u8) -> bool
+    ensures { λ r. ⌜ r ≡ idCharacter b ⌝ }
+{
+    if b == b'-' {
+        return true;
+    }
+    if b == b'.' {
+        return true;
+    }
+    type_character(b)
+}
+
+fn uri_character(b: u8) -> bool
+    ensures { λ r. ⌜ r ≡ uriCharacter b ⌝ }
+{
+    if b < 0x21 {
+        return false;
+    }
+    b <= 0x7E
+}
+
+fn character(sort: u8, b: u8) -> bool
+    ensures { λ r. ⌜ r ≡ characterOf sort b ⌝ }
+{
+    if sort == 0 {
+        return type_character(b);
+    }
+    if sort == 1 {
+        return id_character(b);
+    }
+    uri_character(b)
+}
+
+fn symbol_fits(text: &[u8], place: usize, sort: u8) -> bool
+    ensures { λ r. ⌜ r ≡ fits sort (ordinaryRun (drop place (now (text .entry)))) ⌝ }
+{
+    let end = symbol_end(text, place);
+    let mut i = place;
+    while i < end {
+        if !character(sort, text[i]) {
+            return false;
+        }
+        i += 1;
+    }
+    true
+}
+
+// The string whose opening quote is at a place; one that has a fault stands for nothing. A piece's first byte
+// decides: where it stands for more than one, they are from 0x80 on, and no character of any sort.
+fn string_fits(text: &[u8], place: usize, sort: u8) -> bool
+    ensures { λ r. ⌜ r ≡ fits sort (contentOf (quotedFrom 0 1 (drop 1 (drop place (now (text .entry)))))) ⌝ }
+{
+    let string = string_at(text, place);
+    if string.number != 0 {
+        return true;
+    }
+    let mut i = place + 1;
+    while byte_at(text, i) != 0x22 {
+        let p = piece(text, i);
+        if !character(sort, p.first) {
+            return false;
+        }
+        i = p.next;
+    }
+    true
+}
+
+// Whether all that the symbol or string at a place stands for are characters of that sort: 0 of a type, 1 of an
+// id, any other of a URI.
+pub fn atom_fits(text: &[u8], place: usize, sort: u8) -> bool
+    ensures { λ r. ⌜ r ≡ fits sort (atomValue (drop place (now (text .entry)))) ⌝ }
+{
+    if byte_at(text, place) == 0x22 {
+        return string_fits(text, place, sort);
+    }
+    symbol_fits(text, place, sort)
+}

@@ -1,0 +1,149 @@
+// The scan (document 01, numbers 3 to 6).
+use super::class::FORBIDDEN;
+use super::class::QUOTE;
+use super::class::RETURN;
+use super::class::ROUND;
+use super::class::ROUND_END;
+use super::class::SQUARE_END;
+use super::class::byte_at;
+use super::class::byte_class;
+use super::string::string_at;
+ghost use mathlib.Core.Path.{_≡_};
+ghost use Prim.Native.Nat.{_<_, min};
+ghost use lib.ListN.{length, drop};
+ghost use Rattle.lexer.specs.Scan.{scan};
+ghost use Rattle.lexer.specs.Token.{scanNumber, scanPlace};
+ghost use Rattle.lexer.specs.Step.{passedAt, closesIt};
+
+// The scan's answer: number 0, or a fault 3 to 6 and its place.
+pub struct Scanned {
+    pub number: u32,
+    pub place: usize,
+}
+
+// Number 0 and the place where the scan goes on; or the number of a fault and its place.
+struct Passed {
+    number: u32,
+    place: usize,
+    next: usize,
+}
+
+// The lesser of two numbers.
+fn least(a: usize, b: usize) -> usize
+    ensures { λ r. ⌜ r ≡ min a b ⌝ }
+{
+    if a < b { a } else { b }
+}
+
+// The scan goes on at a place.
+fn on(next: usize) -> Passed
+    ensures { λ r. ⌜ (r .number ≡ 0) × (r .place ≡ 0) × (r .next ≡ next) ⌝ }
+{
+    Passed {
+        number: 0,
+        place: 0,
+        next,
+    }
+}
+
+// Number 3 at a place.
+fn bad_byte(place: usize) -> Passed
+    ensures { λ r. ⌜ (r .number ≡ 3) × (r .place ≡ place) × (r .next ≡ 0) ⌝ }
+{
+    Passed {
+        number: 3,
+        place,
+        next: 0,
+    }
+}
+
+// Past the byte at a place, or past the string that begins there; the class is that byte's, and no
+// bracket's.
+fn pass(text: &[u8], place: usize, class: u8) -> Passed
+    requires { ⌜ place < length (now text) ⌝ }
+    ensures { λ r. ⌜ (r .number ≡ passedAt class place (drop place (now (text .entry))) .number)
+        × (r .place ≡ passedAt class place (drop place (now (text .entry))) .place)
+        × (r .next ≡ passedAt class place (drop place (now (text .entry))) .next) ⌝ }
+{
+    if class == RETURN {
+        if byte_at(text, place + 1) == 0x0A {
+            return on(place + 1);
+        }
+        return bad_byte(place);
+    }
+    if class == QUOTE {
+        let end = string_at(text, place);
+        return Passed {
+            number: end.number,
+            place: end.place,
+            next: end.next,
+        };
+    }
+    if class == FORBIDDEN {
+        return bad_byte(place);
+    }
+    on(place + 1)
+}
+
+// Whether a closing byte's class is the partner of an opening byte's class.
+fn closes(opened: u8, class: u8) -> bool
+    ensures { λ r. ⌜ r ≡ closesIt opened class ⌝ }
+{
+    if opened == ROUND {
+        return class == ROUND_END;
+    }
+    class == SQUARE_END
+}
+
+// A number with its place, as the scan answers it.
+fn answered(number: u32, place: usize) -> Scanned
+    ensures { λ r. ⌜ (r .number ≡ number) × (r .place ≡ place) ⌝ }
+{
+    Scanned { number, place }
+}
+
+// One scan from left to right, with the open brackets on a stack: brackets nest at most as deep as
+// there is room, and never more than 64 deep.
+pub fn scan(text: &[u8], room: usize) -> Scanned
+    ensures { λ r. ⌜ (r .number ≡ scanNumber (scan (min room 64) (now (text .entry))))
+        × (r .place ≡ scanPlace (scan (min room 64) (now (text .entry)))) ⌝ }
+{
+    let limit = least(room, 64);
+    let mut brackets = [0u8; 64];
+    let mut places = [0usize; 64];
+    let mut depth: usize = 0;
+    let mut i: usize = 0;
+    while i < text.len() {
+        let class = byte_class(text[i]);
+        if class < ROUND {
+            let passed = pass(text, i, class);
+            if passed.number != 0 {
+                return answered(passed.number, passed.place);
+            }
+            i = passed.next;
+            continue;
+        }
+        if class < ROUND_END {
+            if limit <= depth {
+                return answered(6, i);
+            }
+            brackets[depth] = class;
+            places[depth] = i;
+            depth += 1;
+            i += 1;
+            continue;
+        }
+        if depth == 0 {
+            return answered(5, i);
+        }
+        if !closes(brackets[depth - 1], class) {
+            return answered(5, i);
+        }
+        depth -= 1;
+        i += 1;
+    }
+    if depth == 0 {
+        return answered(0, 0);
+    }
+    answered(5, places[depth - 1])
+}

@@ -1,0 +1,77 @@
+// Quoted strings (document 01, "Characters and brackets" and number 4).
+use super::pieces::piece;
+ghost use mathlib.Core.Path.{_≡_};
+ghost use lib.ListN.{drop};
+ghost use Rattle.lexer.specs.Token.{stringAt};
+ghost use Rattle.lexer.specs.Step.{badString, stoppedAt};
+
+// The string at a place: number 0, the place after its closing quote and the length of what it stands
+// for; or number 4 and the place of the fault.
+pub struct StringEnd {
+    pub number: u32,
+    pub place: usize,
+    pub next: usize,
+    pub length: usize,
+}
+
+// Number 4 at a place.
+fn bad_string(place: usize) -> StringEnd
+    ensures { λ r. ⌜ (r .number ≡ badString place .number) × (r .place ≡ badString place .place)
+        × (r .next ≡ badString place .next) × (r .length ≡ badString place .length) ⌝ }
+{
+    StringEnd {
+        number: 4,
+        place,
+        next: 0,
+        length: 0,
+    }
+}
+
+// The string whose quote is at `start` has pieces that stand for `length` bytes, up to place i, where no
+// piece stands.
+fn stopped(text: &[u8], i: usize, start: usize, length: usize) -> StringEnd
+    ensures { λ r. ⌜ (r .number ≡ stoppedAt start i length (drop i (now (text .entry))) .number)
+        × (r .place ≡ stoppedAt start i length (drop i (now (text .entry))) .place)
+        × (r .next ≡ stoppedAt start i length (drop i (now (text .entry))) .next)
+        × (r .length ≡ stoppedAt start i length (drop i (now (text .entry))) .length) ⌝ }
+{
+    if text.len() <= i {
+        return bad_string(start);
+    }
+    if text[i] != 0x22 {
+        return bad_string(i);
+    }
+    if length == 0 {
+        return bad_string(start);
+    }
+    StringEnd {
+        number: 0,
+        place: 0,
+        next: i + 1,
+        length,
+    }
+}
+
+// The string whose opening quote is at a place.
+pub fn string_at(text: &[u8], place: usize) -> StringEnd
+    ensures { λ r. ⌜ (r .number ≡ stringAt place (drop place (now (text .entry))) .number)
+        × (r .place ≡ stringAt place (drop place (now (text .entry))) .place)
+        × (r .next ≡ stringAt place (drop place (now (text .entry))) .next)
+        × (r .length ≡ stringAt place (drop place (now (text .entry))) .length) ⌝ }
+{
+    if text.len() <= place {
+        return bad_string(place);
+    }
+    let mut i = place + 1;
+    let mut length: usize = 0;
+    while i < text.len() {
+        let p = piece(text, i);
+        let next = p.next;
+        if next == i {
+            return stopped(text, i, place, length);
+        }
+        length += p.size;
+        i = next;
+    }
+    bad_string(place)
+}

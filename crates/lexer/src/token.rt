@@ -1,0 +1,140 @@
+// White space, symbols and what is seen at a place (document 01, "Characters and brackets").
+use super::class;
+use super::string::string_at;
+ghost use mathlib.Core.Path.{_≡_};
+ghost use lib.ListN.{drop, length};
+ghost use lib.Dec.{ltb};
+ghost use Prim.Native.Nat.{_+_, _<_};
+ghost use Rattle.lexer.specs.Scan.{ordinaryRun};
+ghost use Rattle.lexer.specs.Token.{a-list, blanks, leadClassAt, leadLength, seen, seenFirst};
+
+// What is seen at a place after white space: sort 0 the end of the run, 1 a symbol, 2 a string, 3 a list.
+pub struct Seen {
+    pub sort: u8,
+    pub place: usize,
+    pub class: u8,
+    pub next: usize,
+    pub length: usize,
+}
+
+// Whether white space stands at a place: a carriage return is white space where a line feed follows.
+fn blank_at(text: &[u8], place: usize) -> bool
+    ensures { λ r. ⌜ r ≡ ltb 0 (blanks (drop place (now (text .entry)))) ⌝ }
+{
+    if text.len() <= place {
+        return false;
+    }
+    let b = text[place];
+    if class::byte_class(b) == class::BLANK {
+        return true;
+    }
+    if b != 0x0D {
+        return false;
+    }
+    class::byte_at(text, place + 1) == 0x0A
+}
+
+// The place after white space.
+pub fn skip_blanks(text: &[u8], place: usize) -> usize
+    ensures { λ r. ⌜ r ≡ place + blanks (drop place (now (text .entry))) ⌝ }
+{
+    let mut i = place;
+    while blank_at(text, i) {
+        i += 1;
+    }
+    i
+}
+
+// The place after the ordinary bytes from a place on.
+pub fn symbol_end(text: &[u8], place: usize) -> usize
+    ensures { λ r. ⌜ r ≡ place + length (ordinaryRun (drop place (now (text .entry)))) ⌝ }
+{
+    let mut i = place;
+    while i < text.len() {
+        if class::byte_class(text[i]) != class::ORDINARY {
+            return i;
+        }
+        i += 1;
+    }
+    i
+}
+
+// The list whose opening bracket is at a place: the name that leads it tells its class.
+fn list_seen(text: &[u8], place: usize) -> Seen
+    requires { ⌜ place < length (now text) ⌝ }
+    ensures { λ r. ⌜ (r .sort ≡ a-list)
+        × (r .place ≡ place)
+        × (r .class ≡ leadClassAt (drop (place + 1) (now (text .entry))))
+        × (r .next ≡ place + 1 + leadLength (drop (place + 1) (now (text .entry))))
+        × (r .length ≡ 0) ⌝ }
+{
+    let from = skip_blanks(text, place + 1);
+    let next = symbol_end(text, from);
+    let class = kind::class_of(&text[from..next]);
+    Seen {
+        sort: 3,
+        place,
+        class,
+        next,
+        length: 0,
+    }
+}
+
+// What is seen at a place where no white space stands.
+fn first_seen(text: &[u8], place: usize) -> Seen
+    ensures { λ r. ⌜ (r .sort ≡ seenFirst place (drop place (now (text .entry))) .sort)
+        × (r .place ≡ seenFirst place (drop place (now (text .entry))) .place)
+        × (r .class ≡ seenFirst place (drop place (now (text .entry))) .class)
+        × (r .next ≡ seenFirst place (drop place (now (text .entry))) .next)
+        × (r .length ≡ seenFirst place (drop place (now (text .entry))) .length) ⌝ }
+{
+    let end = Seen {
+        sort: 0,
+        place,
+        class: 0,
+        next: place,
+        length: 0,
+    };
+    if text.len() <= place {
+        return end;
+    }
+    let class = class::byte_class(text[place]);
+    if class == class::ORDINARY {
+        let next = symbol_end(text, place);
+        return Seen {
+            sort: 1,
+            place,
+            class: kind::Kind::TEXT.number,
+            next,
+            length: next - place,
+        };
+    }
+    if class == class::QUOTE {
+        let string = string_at(text, place);
+        return Seen {
+            sort: 2,
+            place,
+            class: kind::Kind::TEXT.number,
+            next: string.next,
+            length: string.length,
+        };
+    }
+    if class < class::ROUND {
+        return end;
+    }
+    if class::SQUARE < class {
+        return end;
+    }
+    list_seen(text, place)
+}
+
+// What is seen from a place on.
+pub fn look(text: &[u8], place: usize) -> Seen
+    ensures { λ r. ⌜ (r .sort ≡ seen place (drop place (now (text .entry))) .sort)
+        × (r .place ≡ seen place (drop place (now (text .entry))) .place)
+        × (r .class ≡ seen place (drop place (now (text .entry))) .class)
+        × (r .next ≡ seen place (drop place (now (text .entry))) .next)
+        × (r .length ≡ seen place (drop place (now (text .entry))) .length) ⌝ }
+{
+    first_seen(text, skip_blanks(text, place))
+}

@@ -1,0 +1,295 @@
+-- From what the parts of a read ensure to what the read promises, way by way. Assumes nothing.
+use Prim.Native.Nat.{ℕ, _*_, _/_, _≤_, _<_, min}
+use mathlib.Core.Path.{_≡_, refl, sym, ap, _∙_}
+use mathlib.Core.Bool.{Bool, true, false, cond}
+use mathlib.Core.List.{List, []}
+use native.Mathlib.Nat.{zero-add}
+use native.Mathlib.Omega.{arith}
+use borrow.Author.Tests.{lt-ltb, le-ltb, ltb-false}
+use lib.Dec.{ltb}
+use lib.ListN.{length, take, drop, getD, List·getD-append, List·getD-eq-default}
+use lib.Seq.{sets, sets-eq, take-at}
+use Rattle.lexer.specs.Expression.{Expr, Exprs, none, and, depthAll}
+use Rattle.document.specs.Document.{Node, says, Document}
+use Rattle.document.specs.Spelling.{Spelling, nested, imperative, mostLevels}
+use Rattle.document.specs.Meaning.{fine, judgeRoot, treeOf, places}
+use Rattle.document.specs.Imperative.{regroup}
+use Rattle.document.specs.Table.{recordLength, count, pool, tableOf}
+use Rattle.document.specs.WellFormed.{Check, sound, unsound, check}
+use Rattle.document.specs.Account.{NestedForm, as-it-stands, regrouped}
+use Rattle.document.specs.Answer as Defined
+use Rattle.document.specs.Answer.{Memory, answerAt, refusal, noRoom, over, filled, oneExpression, nodeRoom, checked, stored, outcome}
+use Rattle.document.proofs.Places.{root-places}
+use Rattle.document.proofs.Records.{table-length}
+use Rattle.document.proofs.Numbers.{check-number}
+use Rattle.document.proofs.CheckedNode.{unsound-below}
+use Rattle.reader.specs.declared.Answer.{Answer}
+use Rattle.reader.specs.declared.walk.Walked.{Walked}
+use Rattle.reader.specs.Stands.{Stands}
+use Rattle.reader.specs.Walked.{readWalked}
+use Rattle.reader.specs.Checked.{checkNumber, checkNode, checkPlace, Holds}
+use Rattle.reader.specs.Groups.{groupNumber, groupPlace, roomNumber}
+use Rattle.reader.specs.Read.{Answers, Reads}
+use Rattle.reader.specs.Filling.{Fits32}
+use Rattle.reader.proofs.Roots.{stands-fit}
+use Rattle.reader.proofs.Fits.{imperative-fits}
+use Rattle.reader.proofs.Within.{Placed}
+use Rattle.reader.proofs.Bounds.{group-place, place-list-within, read-placed, walk-within}
+use Rattle.reader.proofs.Outcomes.{Passed, Judged, group-refused, group-passed, judged-refused, judged-read}
+
+-- ---- the ways through `room`: one of the tests that the nodes fit fails, or none does
+
+module _ (words places bytes n p : ℕ) where
+  pub room-nodes : min 4096 (min (words / recordLength) places) < n → 13 ≡ roomNumber words places bytes n p
+  unfolding roomNumber
+  room-nodes h = rw (lt-ltb (min 4096 (min (words / recordLength) places)) n h)
+
+  pub room-bytes : n ≤ min 4096 (min (words / recordLength) places) → bytes < p → 14 ≡ roomNumber words places bytes n p
+  unfolding roomNumber
+  room-bytes h g = rw (le-ltb (min 4096 (min (words / recordLength) places)) n h, lt-ltb bytes p g)
+
+  pub room-enough : n ≤ min 4096 (min (words / recordLength) places) → p ≤ bytes → 0 ≡ roomNumber words places bytes n p
+  unfolding roomNumber
+  room-enough h g = rw (le-ltb (min 4096 (min (words / recordLength) places)) n h, le-ltb bytes p g)
+
+-- ---- the ways through `checked`
+
+module _ (ps : List ℕ) (d : Node) (number node : ℕ) (n-is : number ≡ checkNumber (check d)) (i-is : node ≡ checkNode (check d)) where
+  pub place-of-none : number ≡ 0 → (0 ≡ checkNumber (check d)) × (0 ≡ checkPlace ps (check d))
+  unfolding checkNumber checkPlace
+  place-of-none z = go (check d) refl (sym n-is ∙ z)
+    where
+      go : (c : Check) → check d ≡ c → checkNumber c ≡ 0 → (0 ≡ checkNumber c) × (0 ≡ checkPlace ps c)
+      go sound e k = (refl, refl)
+      go (unsound n i) e k = absurd (omega (arith, check-number d n i e))
+
+  pub place-of-node : (number ≡ 0 → ⊥) → (number ≡ checkNumber (check d)) × (getD ps node 0 ≡ checkPlace ps (check d))
+  unfolding checkNumber checkNode checkPlace
+  place-of-node h = (n-is, go (check d) n-is i-is)
+    where
+      go : (c : Check) → number ≡ checkNumber c → node ≡ checkNode c → getD ps node 0 ≡ checkPlace ps c
+      go sound k l = absurd (h k)
+      go (unsound n i) k l = rw l
+
+  pub place-past : (number ≡ 0 → ⊥) → length ps ≤ node → (number ≡ checkNumber (check d)) × (0 ≡ checkPlace ps (check d))
+  place-past h past = let (a, b) = place-of-node h in (a, sym (List·getD-eq-default ps 0 past) ∙ b)
+
+-- ---- the lent memory once it is filled
+
+sets-over : (l vs : List ℕ) → length vs ≤ length l → sets l 0 vs ≡ over vs l
+unfolding over
+sets-over l vs h = sets-eq vs l 0 (omega arith) ∙ rw (zero-add (length vs))
+
+pub written : Memory → List ℕ → Node → Memory
+written m ps d = record { nodes = sets (m .nodes) 0 (tableOf d); places = sets (m .places) 0 ps; pool = sets (m .pool) 0 (pool d) }
+
+module _ (text : List ℕ) (m : Memory) (ps : List ℕ) (d : Node) where
+  abbrev full : ℕ
+  full = roomNumber (length (m .nodes)) (length (m .places)) (length (m .pool)) (count d) (length (pool d))
+
+  stored-full : (full ≡ 0 → ⊥) → stored text m ps d ≡ record { answer = answerAt text full 0 (count d) (length (pool d)); memory = m }
+  unfolding stored nodeRoom roomNumber noRoom
+  stored-full = go (ltb (nodeRoom m) (count d)) (ltb (length (m .pool)) (length (pool d)))
+    where
+      go : (a b : Bool) → (_≡_ {A = ℕ} (cond a 13 (cond b 14 0)) 0 → ⊥)
+          → cond a (noRoom text m 13 d) (cond b (noRoom text m 14 d) (checked text m ps d (check d)))
+          ≡ record { answer = answerAt text (cond a 13 (cond b 14 0)) 0 (count d) (length (pool d)); memory = m }
+      go true b h = refl
+      go false true h = refl
+      go false false h = absurd (h refl)
+
+  stored-fits : full ≡ 0 → (stored text m ps d ≡ checked text m ps d (check d)) × (count d ≤ nodeRoom m) × (length (pool d) ≤ length (m .pool))
+  unfolding stored nodeRoom roomNumber
+  stored-fits = go (ltb (nodeRoom m) (count d)) refl (ltb (length (m .pool)) (length (pool d))) refl
+    where
+      go : (a : Bool) → ltb (nodeRoom m) (count d) ≡ a → (b : Bool) → ltb (length (m .pool)) (length (pool d)) ≡ b → _≡_ {A = ℕ} (cond a 13 (cond b 14 0)) 0
+          → (cond a (noRoom text m 13 d) (cond b (noRoom text m 14 d) (checked text m ps d (check d))) ≡ checked text m ps d (check d))
+          × (count d ≤ nodeRoom m) × (length (pool d) ≤ length (m .pool))
+      go true e b f z = absurd (omega arith)
+      go false e true f z = absurd (omega arith)
+      go false e false f z = (refl, ltb-false (nodeRoom m) (count d) e, ltb-false (length (m .pool)) (length (pool d)) f)
+
+  module _ (room : count d ≤ nodeRoom m) (bytes : length (pool d) ≤ length (m .pool)) (one-each : length ps ≡ count d) where
+    written-over : written m ps d ≡ record { nodes = over (tableOf d) (m .nodes); places = over ps (m .places); pool = over (pool d) (m .pool) }
+    unfolding written nodeRoom
+    written-over =
+        rw (sets-over (m .nodes) (tableOf d) (omega (arith, table-length d)), sets-over (m .places) ps (omega arith), sets-over (m .pool) (pool d) bytes)
+
+    written-holds : Document d → Holds (written m ps d .nodes) (count d) (written m ps d .pool) d
+    unfolding over
+    written-holds doc =
+        record {
+          document = doc;
+          counted = refl;
+          node-words = ap (λ (x : Memory). take (recordLength * count d) (x .nodes)) written-over ∙ take-at (tableOf d) _ (recordLength * count d) (table-length d);
+          pool-bytes = ap (λ (x : Memory). take (length (pool d)) (x .pool)) written-over ∙ take-at (pool d) _ (length (pool d)) refl;
+        }
+
+    -- The place that the filled place list has for the checked node is the place of that node.
+    checked-place : checkPlace (written m ps d .places) (check d) ≡ checkPlace ps (check d)
+    unfolding checkPlace over
+    checked-place = go (check d) refl
+      where
+        go : (c : Check) → check d ≡ c → checkPlace (written m ps d .places) c ≡ checkPlace ps c
+        go sound e = refl
+        go (unsound n i) e =
+            ap (λ (x : Memory). getD (x .places) i 0) written-over
+            ∙ List·getD-append ps (drop (length ps) (m .places)) 0 i (omega (arith, unsound-below d n i e))
+
+    checked-answer : checked text m ps d (check d)
+        ≡ record { answer = answerAt text (checkNumber (check d)) (checkPlace ps (check d)) (count d) (length (pool d)); memory = written m ps d }
+    unfolding checked filled checkNumber checkPlace
+    checked-answer = rw written-over (go (check d))
+      where
+        go : (c : Check) → checked text m ps d c
+            ≡ record {
+              answer = answerAt text (checkNumber c) (checkPlace ps c) (count d) (length (pool d));
+              memory = record { nodes = over (tableOf d) (m .nodes); places = over ps (m .places); pool = over (pool d) (m .pool) };
+            }
+        go sound = refl
+        go (unsound n i) = refl
+
+-- ---- places and counts that fit
+
+-- What the judge of a spelling ensures.
+abbrev pub Judges : Spelling → List ℕ → Walked → Type 0
+Judges s text w = (es : Exprs) → Stands text 0 es (length text) → depthAll es ≤ mostLevels s → w ≡ readWalked (oneExpression s (length text) es)
+
+module _ (s : Spelling) (text : List ℕ) (n p : ℕ) (group : (n ≡ groupNumber (mostLevels s) text) × (p ≡ groupPlace (mostLevels s) text)) where
+  pub group-fits : p ≤ 65536
+  group-fits = omega (arith, group-place (mostLevels s) text, group .1)
+
+  pub walk-fits : n ≡ 0 → (w : Walked) → Judges s text w → (w .place ≤ 65536) × (w .nodes ≤ 65536) × (w .pool ≤ 65536)
+  walk-fits z w judges =
+      let x : Passed s text (record { nodes = []; places = []; pool = [] }) = group-passed s text _ (sym (group .0) ∙ z) in
+      let short : length text ≤ 65536 = x .short in
+      let (a, b, c) = walk-within s text (x .es) (x .stands) w (judges (x .es) (x .stands) (x .shallow)) in
+      (omega arith, omega arith, omega arith)
+
+-- ---- the ways through a read
+
+module _ (s : Spelling) (text : List ℕ) (m : Memory) where
+  reads-of : (a : Defined.Answer) (exit : Memory) (r : Answer) → outcome s text m ≡ record { answer = a; memory = exit } → Answers a r → Reads s text m r exit
+  reads-of a exit r e h = record { answers = rw e h; leaves = rw e }
+
+  -- After the judge, over the expression that it found.
+  module _ (e : Expr) (ok : judgeRoot e ≡ fine) (doc : Document (says (treeOf e))) (goes-on : outcome s text m ≡ stored text m (places e) (says (treeOf e)))
+      (nodes bytes : ℕ) (nodes-are : nodes ≡ count (says (treeOf e))) (bytes-are : bytes ≡ length (pool (says (treeOf e))))
+      (f : ℕ) (room : f ≡ roomNumber (length (m .nodes)) (length (m .places)) (length (m .pool)) nodes bytes) where
+    abbrev d : Node
+    d = says (treeOf e)
+
+    room-is : f ≡ full text m (places e) d
+    room-is = room ∙ rw (nodes-are, bytes-are)
+
+    full-after : (f ≡ 0 → ⊥) → (r : Answer) → Answers (answerAt text f 0 nodes bytes) r → Reads s text m r m
+    full-after h r =
+        reads-of (answerAt text f 0 nodes bytes) m r
+        (goes-on ∙ stored-full text m (places e) d (λ q. h (room-is ∙ q)) ∙ rw (← room-is, ← nodes-are, ← bytes-are))
+
+    module _ (y : f ≡ 0) (exit : Memory) (exit-is : exit ≡ written m (places e) d) (number place : ℕ)
+        (checks : (d : Node) → Holds (exit .nodes) nodes (exit .pool) d
+        → (number ≡ checkNumber (check d)) × (place ≡ checkPlace (exit .places) (check d))) where
+      room-enough-for : (stored text m (places e) d ≡ checked text m (places e) d (check d)) × (count d ≤ nodeRoom m) × (length (pool d) ≤ length (m .pool))
+      room-enough-for = stored-fits text m (places e) d (sym room-is ∙ y)
+
+      check-is : (number ≡ checkNumber (check d)) × (place ≡ checkPlace (places e) (check d))
+      check-is =
+          let (q, few, fit) = room-enough-for in
+          let holds : Holds (exit .nodes) nodes (exit .pool) d
+          = rw (exit-is, nodes-are) (written-holds text m (places e) d few fit (root-places e ok) doc) in
+          let (a, b) = checks d holds in
+          (a, b ∙ ap (λ (x : Memory). checkPlace (x .places) (check d)) exit-is ∙ checked-place text m (places e) d few fit (root-places e ok))
+
+      place-after : Placed (length text) e → place ≤ length text
+      unfolding checkPlace
+      place-after placed = rw (check-is .1) (go (check d))
+        where
+          go : (k : Check) → checkPlace (places e) k ≤ length text
+          go sound = omega arith
+          go (unsound n i) = place-list-within (length text) e placed i
+
+      filled-after : (r : Answer) → Answers (answerAt text number place nodes bytes) r → Reads s text m r exit
+      filled-after r =
+          let (q, few, fit) = room-enough-for in
+          reads-of (answerAt text number place nodes bytes) exit r
+          (goes-on ∙ q ∙ checked-answer text m (places e) d few fit (root-places e ok) ∙ rw (check-is .0, check-is .1, nodes-are, bytes-are, exit-is))
+
+  -- What the fill of this spelling ensures.
+  abbrev pub Fills : Memory → Type 0
+  Fills exit =
+      (es : Exprs) (e : Expr) → Stands text 0 es (length text) → NestedForm s es e → judgeRoot e ≡ fine → length text ≤ 65536
+      → exit ≡ written m (places e) (says (treeOf e))
+
+  module _ (n p : ℕ) (group : (n ≡ groupNumber (mostLevels s) text) × (p ≡ groupPlace (mostLevels s) text)) where
+    -- 1 to 6.
+    pub group-reads : (n ≡ 0 → ⊥) → (r : Answer) → Answers (answerAt text n p 0 0) r → Reads s text m r m
+    unfolding refusal
+    group-reads h r =
+        reads-of (answerAt text n p 0 0) m r (group-refused s text m (λ z. h (group .0 ∙ z)) ∙ rw (← group .0, ← group .1))
+
+    module _ (z : n ≡ 0) (w : Walked) (judges : Judges s text w) where
+      abbrev passed : Passed s text m
+      passed = group-passed s text m (sym (group .0) ∙ z)
+
+      abbrev is : w ≡ readWalked (oneExpression s (length text) (passed .es))
+      is = judges (passed .es) (passed .stands) (passed .shallow)
+
+      -- 7 to 12 and 19.
+      pub walk-reads : (w .number ≡ 0 → ⊥) → (r : Answer) → Answers (answerAt text (w .number) (w .place) 0 0) r → Reads s text m r m
+      unfolding refusal
+      walk-reads h r = reads-of (answerAt text (w .number) (w .place) 0 0) m r (judged-refused s text m passed w is h)
+
+      module _ (z′ : w .number ≡ 0) (f : ℕ)
+          (room : f ≡ roomNumber (length (m .nodes)) (length (m .places)) (length (m .pool)) (w .nodes) (w .pool)) where
+        abbrev found : Judged s text m passed w
+        found = judged-read s text m passed w is z′
+
+        -- 13 and 14.
+        pub full-reads : (f ≡ 0 → ⊥) → (r : Answer) → Answers (answerAt text f 0 (w .nodes) (w .pool)) r → Reads s text m r m
+        full-reads =
+            full-after (found .expr) (found .fine-root) (found .document) (found .goes-on) (w .nodes) (w .pool) (found .nodes-are) (found .bytes-are) f room
+
+        module _ (y : f ≡ 0) (exit : Memory) (fills : Fills exit) (number place : ℕ)
+            (checks : (d : Node) → Holds (exit .nodes) (w .nodes) (exit .pool) d
+            → (number ≡ checkNumber (check d)) × (place ≡ checkPlace (exit .places) (check d))) where
+          exit-is : exit ≡ written m (places (found .expr)) (says (treeOf (found .expr)))
+          exit-is = fills (passed .es) (found .expr) (passed .stands) (found .form) (found .fine-root) (passed .short)
+
+          pub check-fits : place ≤ 65536
+          check-fits =
+              let short : length text ≤ 65536 = passed .short in
+              omega (
+                arith,
+                place-after (found .expr) (found .fine-root) (found .document) (found .goes-on) (w .nodes) (w .pool) (found .nodes-are) (found .bytes-are) f room
+                    y exit exit-is number place checks (read-placed s text (passed .es) (passed .stands) (found .expr) (found .reads)),
+              )
+
+          -- 15 to 18, and 0.
+          pub filled-reads : (r : Answer) → Answers (answerAt text number place (w .nodes) (w .pool)) r → Reads s text m r exit
+          filled-reads =
+              filled-after (found .expr) (found .fine-root) (found .document) (found .goes-on) (w .nodes) (w .pool) (found .nodes-are) (found .bytes-are) f room
+              y exit exit-is number place checks
+
+-- ---- the fill of each spelling
+
+abbrev Filled : Memory → Memory → Expr → Type 0
+Filled m exit e =
+    (exit .nodes ≡ sets (m .nodes) 0 (tableOf (says (treeOf e))))
+    × (exit .places ≡ sets (m .places) 0 (places e))
+    × (exit .pool ≡ sets (m .pool) 0 (pool (says (treeOf e))))
+
+filled-written : (m exit : Memory) (e : Expr) → Filled m exit e → exit ≡ written m (places e) (says (treeOf e))
+unfolding written
+filled-written m exit e (a, b, c) = rw (← a, ← b, ← c)
+
+pub nested-fills : (text : List ℕ) (m exit : Memory)
+    → ((e : Expr) → Stands text 0 (and e none) (length text) → judgeRoot e ≡ fine → length text ≤ 65536 → Fits32 0 (and e none) → Filled m exit e)
+    → Fills nested text m exit
+nested-fills text m exit h es e st as-it-stands ok short = filled-written m exit e (h e st ok short (stands-fit text 0 (length text) 0 (and e none) st (omega arith) short))
+
+pub imperative-fills : (text : List ℕ) (m exit : Memory)
+    → ((e : Expr) (es : Exprs) → Stands text 0 (and e es) (length text) → judgeRoot (regroup e es) ≡ fine → length text ≤ 65536 → Fits32 0 (and (regroup e es) none)
+    → Filled m exit (regroup e es))
+    → Fills imperative text m exit
+imperative-fills text m exit h es e st (regrouped x xs) ok short = filled-written m exit (regroup x xs) (h x xs st ok short (imperative-fits text x xs st ok short))

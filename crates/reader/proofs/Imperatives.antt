@@ -1,0 +1,125 @@
+-- A whole imperative text: no expression, a first one that is no document, or a document that is the block of its command. Assumes nothing.
+use Prim.Native.Nat.{ℕ, _+_, _≤_, _<_}
+use mathlib.Core.Path.{_≡_, refl, ap, sym, _∙_}
+use mathlib.Core.List.{List, [], _∷_}
+use native.Mathlib.Nat.{zero-add}
+use native.Mathlib.Omega.{arith}
+use lib.ListN.{length}
+use borrow.Author.Tests.{le-ltb, ne-eqb}
+use Rattle.kind.specs.Class as Class
+use Rattle.lexer.specs.Expression.{Expr, Exprs, and, place, depth, depthAll}
+use Rattle.lexer.specs.Token.{Seen}
+use Rattle.document.specs.Spelling.{imperative, exprClass, listClass}
+use Rattle.document.specs.Meaning.{fine, fault, judge, judgeRoot}
+use Rattle.document.specs.Imperative.{block, innermost, contentsOf, regroup}
+use Rattle.document.specs.Answer.{tooDeep, judged, oneExpression}
+use Rattle.document.proofs.Regroup.{block-class}
+use Rattle.document.proofs.Depth.{depth-regrouped}
+use Rattle.reader.specs.Stands.{Stands}
+use Rattle.reader.specs.Sizes.{nodesOf, bytesOf}
+use Rattle.reader.specs.Walked.{walkedTo, Bounded, readWalked}
+use Rattle.reader.specs.Takes.{Takes}
+use Rattle.reader.specs.Turn.{Opened}
+use Rattle.reader.specs.Blocks.{InCommand}
+use Rattle.reader.specs.declared.walk.Walked.{Walked}
+use Rattle.reader.proofs.Looks.{SeenAs, saw-end, saw-symbol, saw-string, saw-list, look-stands}
+use Rattle.reader.proofs.Turns.{Looked, seen-forward, open-list}
+use Rattle.reader.proofs.Takes.{takes-contents}
+use Rattle.reader.proofs.Blocks.{FirstSeen, first-seen, block-place}
+use Rattle.reader.proofs.BlockLoops.{Outcome, passed, stopped, outcome, block-same, listed}
+
+-- w is the answer of a text that was scanned.
+abbrev pub Judges : List ℕ → Walked → Type 0
+Judges s w = (es : Exprs) → Stands s 0 es (length s) → depthAll es ≤ 59 → w ≡ readWalked (oneExpression imperative (length s) es)
+
+-- What a block takes is the content that regrouping gives the document.
+regrouped : {es content rest : Exprs} (x : Expr) → Takes 4 es content rest → regroup x es ≡ block x content
+unfolding regroup innermost Class.significance
+regrouped x t = ap (λ cs. block x (innermost cs)) (takes-contents [] t)
+
+none-judged : {s : List ℕ} {r : Seen} {es : Exprs} {e : ℕ} (n : ℕ) → SeenAs s r es e → r .sort ≡ 0 → walkedTo 0 0 0 (fault 7 n) ≡ readWalked (oneExpression imperative n es)
+unfolding walkedTo readWalked oneExpression
+none-judged n (saw-end h) z = refl
+none-judged n (saw-symbol h c l f t) z = cc
+none-judged n (saw-string h c l f t) z = cc
+none-judged n (saw-list x h c f t d b u) z = cc
+
+other-judged : {r : Seen} {es : Exprs} (n : ℕ) (f : FirstSeen r es) → (r .class ≡ Class.document → ⊥)
+    → walkedTo 0 0 0 (fault 8 (r .place)) ≡ readWalked (oneExpression imperative n es)
+unfolding walkedTo readWalked oneExpression judged judgeRoot regroup
+other-judged {r} n f h =
+    let x = f .one in
+    let content = innermost (contentsOf (Class.significance Class.document ∷ []) (f .others)) in
+    rw (f .made, block-class x content, f .of-class, ne-eqb (r .class) Class.document h, block-place x content, f .placed)
+
+-- The document's verdict is the answer: a fault, or none, and then it is not too deep.
+module _ (n : ℕ) (x : Expr) (es : Exprs) where
+  fault-answer : (f p m a b : ℕ) → judgeRoot (regroup x es) ≡ fault f p → walkedTo m a b (fault f p) ≡ readWalked (oneExpression imperative n (and x es))
+  unfolding walkedTo readWalked oneExpression judged
+  fault-answer f p m a b h = rw h
+
+  fine-answer : judgeRoot (regroup x es) ≡ fine → depthAll (and x es) ≤ 59
+      → record { number = 0; place = 0; next = 0; nodes = nodesOf (regroup x es); pool = bytesOf (regroup x es) } ≡ readWalked (oneExpression imperative n (and x es))
+  unfolding readWalked oneExpression judged tooDeep
+  fine-answer h d = rw (h, le-ltb 64 (depth (regroup x es)) (depth-regrouped x es h d))
+
+-- Where a document is seen, it is a list that is opened.
+document-opened : {s : List ℕ} {r : Seen} {es : Exprs} {e : ℕ} → SeenAs s r es e → (r .sort ≡ 0 → ⊥) → r .class ≡ Class.document
+    → Opened s (r .place) (r .class) (r .next) es e
+document-opened (saw-end h) z d = absurd (z h)
+document-opened (saw-symbol h c l f t) z d = absurd (omega (arith, c, d))
+document-opened (saw-string h c l f t) z d = absurd (omega (arith, c, d))
+document-opened (saw-list x h c f t g b u) z d = open-list (saw-list x h c f t g b u) h (λ y. omega (arith, y, d))
+
+-- A document's block: the answer is that of its nested form.
+module _ {s : List ℕ} {q j e : ℕ} {es : Exprs} {w : Walked} (o : Opened s q Class.document j es e) (answer : InCommand s q Class.document j 0 1 0 w) where
+  abbrev nested : Expr
+  nested = regroup (listed o) (o .others)
+
+  document-answer : w ≡ walkedTo (w .next) (0 + nodesOf nested) (0 + bytesOf nested) (judge 0 nested)
+  unfolding block Class.isElement Class.isKind Class.significance
+  document-answer =
+      let a = answer .answers (o .rest) (o .end) (o .bracket) (o .others) e (o .follows) (o .closed) (o .goes-on) in
+      rw (regrouped (listed o) (a .takes)) (block-same q 1 0 0 0 (w .next) (o .lead) _ (o .of-class) refl (a .same))
+
+  root : judgeRoot nested ≡ judge 0 nested
+  unfolding judgeRoot regroup exprClass listClass
+  root = rw (block-class (listed o) (innermost (contentsOf (Class.significance Class.document ∷ []) (o .others))), o .of-class)
+
+  by-outcome : Bounded s j w → 0 < j → Outcome 0 0 0 nested w
+  by-outcome b h = outcome s j 0 0 0 nested w b h document-answer
+
+  document-stopped : (n : ℕ) → Outcome 0 0 0 nested w → (w .number ≡ 0 → ⊥) → w ≡ readWalked (oneExpression imperative n es)
+  document-stopped n (passed d x a b) y = absurd (y x)
+  document-stopped n (stopped f p d x g) y = rw (o .made) (g ∙ fault-answer n (listed o) (o .others) f p (w .next) _ _ (root ∙ d))
+
+  document-passed : (n : ℕ) → Outcome 0 0 0 nested w → w .number ≡ 0 → depthAll es ≤ 59
+      → record { number = 0; place = 0; next = 0; nodes = w .nodes; pool = w .pool } ≡ readWalked (oneExpression imperative n es)
+  document-passed n (passed d x nodes pool) y h =
+      rw (o .made, nodes, pool, zero-add (nodesOf nested), zero-add (bytesOf nested))
+      (fine-answer n (listed o) (o .others) (root ∙ d) (rw (o .made) at h))
+  document-passed n (stopped f p d x g) y h = absurd (x y)
+
+module _ (s : List ℕ) {sort q c j l : ℕ} (looked : Looked s 0 sort q c j l) where
+  pub nothing-seen : {w : Walked} → sort ≡ 0 → w ≡ walkedTo 0 0 0 (fault 7 (length s)) → Judges s w
+  nothing-seen z g es t d = g ∙ none-judged (length s) (look-stands s 0 (length s) es t) (sym (looked .0) ∙ z)
+
+  module _ (some : sort ≡ 0 → ⊥) where
+    pub no-document : {w : Walked} → (c ≡ Class.document → ⊥) → w ≡ walkedTo 0 0 0 (fault 8 q) → Judges s w
+    no-document h g es t d =
+        g ∙ rw (looked .1) (other-judged (length s) (first-seen (look-stands s 0 (length s) es t) (λ z. some (looked .0 ∙ z))) (rw (looked .2) at h))
+
+    pub nothing-passed : {w : Walked} → j < 1 → Judges s w
+    nothing-passed h es t d = absurd (omega (arith, looked .3, seen-forward (look-stands s 0 (length s) es t) (λ z. some (looked .0 ∙ z))))
+
+    -- A document is seen, and w is the answer of its block.
+    module _ {w : Walked} (h : c ≡ Class.document) (forward : 0 < j) (bounded : Bounded s j w) (answer : InCommand s q Class.document j 0 1 0 w) where
+      opened : {es : Exprs} → Stands s 0 es (length s) → Opened s q c j es (length s)
+      opened {es} t =
+          rw (looked .1, looked .2, looked .3) (document-opened (look-stands s 0 (length s) es t) (λ z. some (looked .0 ∙ z)) (sym (looked .2) ∙ h))
+
+      pub document-fault : (w .number ≡ 0 → ⊥) → Judges s w
+      document-fault y es t d = let o = rw h at (opened t) in document-stopped o answer (length s) (by-outcome o answer bounded forward) y
+
+      pub document-fine : w .number ≡ 0 → Judges s (record { number = 0; place = 0; next = 0; nodes = w .nodes; pool = w .pool })
+      document-fine y es t d = let o = rw h at (opened t) in document-passed o answer (length s) (by-outcome o answer bounded forward) y d

@@ -1,0 +1,72 @@
+-- A list holds items and nothing else. Assumes nothing.
+use Prim.Native.Nat.{ℕ, _≤_, _<_}
+use mathlib.Core.Path.{_≡_, refl, ap}
+use mathlib.Core.Bool.{false, _||_}
+use native.Mathlib.Omega.{arith}
+use lib.ListN.{length}
+use mathlib.Core.List.{List, [], _∷_}
+use mathlib.Core.Logic.{_⊎_, inl, inr, ⊎-elim}
+use borrow.Author.Tests.{eqb-true, eqb-false}
+use lib.Dec.{T, eqb, eqb→eq}
+use Rattle.laws.proofs.Booleans.{bool-case, or-true}
+use Rattle.kind.specs.Bytes.{among}
+use Rattle.kind.specs.Class as Class
+use Rattle.kind.specs.Rules.{Slot, Content, any-of, rules, ruleIn, ruleOf}
+use Rattle.kind.specs.Inside.{State, expecting, holding}
+use Rattle.kind.specs.Machine.{stateOf}
+use Rattle.document.specs.Faults.{Begun, Next, Taken, Allowed}
+use Rattle.document.proofs.Steps.{begunOf, stepped as step-says}
+use Rattle.reader.specs.Turn.{Takes, Opens, Passes}
+
+-- No parameter may come.
+abbrev pub Bare : State → Type 0
+Bare (expecting ps) = ps ≡ []
+Bare (holding q) = Unit {0}
+
+abbrev pub IsList : ℕ → Type 0
+IsList k = (k ≡ 16) ⊎ (k ≡ 17)
+
+pub is-list : (k : ℕ) → 16 ≤ k → k < 18 → IsList k
+is-list k a b = bool-case (eqb k 16) (λ e. inl (eqb-true k 16 e)) (λ e. inr (omega (arith, eqb-false k 16 e)))
+
+list-content : (k : ℕ) → IsList k → ruleOf k .content ≡ any-of (Class.item ∷ [])
+unfolding ruleOf ruleIn rules
+list-content k h = ⊎-elim (λ e. rw e) (λ e. rw e) h
+
+pub bare-start : (k : ℕ) → IsList k → Bare (stateOf k 0)
+unfolding stateOf ruleOf ruleIn rules
+bare-start k h = ⊎-elim (λ e. rw e refl) (λ e. rw e refl) h
+
+only : {c : ℕ} → T (eqb c 18 || false) → c ≡ 18
+only {c} t = ⊎-elim (eqb→eq c 18) (λ f. absurd f) (or-true (eqb c 18) false t)
+
+an-item : {c : ℕ} {t : Content} {b : Begun} → t ≡ any-of (Class.item ∷ []) → Allowed c t b → c ≡ 18
+unfolding among
+an-item {c} e (Allowed.one-of {ks} a) = let h : ks ≡ Class.item ∷ [] = cc in only (rw h at a)
+an-item e Allowed.the-one = cc
+
+none-next : {c : ℕ} {ps qs : List Slot} → ps ≡ [] → Next ps c qs → ⊥
+none-next e Next.required = omega (arith, ap length e)
+none-next e Next.optional = omega (arith, ap length e)
+none-next e Next.id-first = omega (arith, ap length e)
+none-next e Next.type-first = omega (arith, ap length e)
+none-next e (Next.passed-over f r) = omega (arith, ap length e)
+none-next e (Next.both-passed-over f g r) = omega (arith, ap length e)
+
+-- What a list takes is an item, and after it no parameter may come.
+item-taken : (k st c st′ : ℕ) → IsList k → Bare (stateOf k st) → Takes k st c st′ → (c ≡ 18) × Bare (stateOf k st′)
+item-taken k st c st′ l b e = by (stateOf k st) (stateOf k st′) b (rw e at (step-says k (stateOf k st) c))
+  where
+    by : (s s′ : State) → Bare s → Taken k c (begunOf s) (begunOf s′) → (c ≡ 18) × Bare s′
+    by (expecting ps) (expecting qs) b (Taken.parameter r) = absurd (none-next b r)
+    by (expecting ps) (holding q) b (Taken.first-child d i a) = (an-item (list-content k l) a, tt)
+    by (holding q) (holding q′) b (Taken.next-child i a f) = (an-item (list-content k l) a, tt)
+
+-- So a list in it is an item.
+pub opens-item : {s : List ℕ} {k i st place c j st′ : ℕ} → IsList k → Bare (stateOf k st) → Opens s k i st place c j st′
+    → (c ≡ 18) × Bare (stateOf k st′)
+opens-item {k} {st} {c} {st′} l b o = item-taken k st c st′ l b (o .taken)
+
+pub still-bare : {s : List ℕ} {at k i st n p j st′ n′ p′ : ℕ} → IsList k → Bare (stateOf k st) → Passes s at k i st n p j st′ n′ p′
+    → Bare (stateOf k st′)
+still-bare {k} {st} {st′} l b o = item-taken k st (o .class) st′ l b (o .taken) .1

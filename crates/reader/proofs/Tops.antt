@@ -1,0 +1,357 @@
+-- The expressions at the top of a text: where a run ends, where its first expression ends, and the answer of the one root. Assumes nothing.
+use Prim.Native.Nat.{ℕ, suc, _+_, _-_, _≤_, _<_}
+use mathlib.Core.Path.{_≡_, refl, sym, _∙_}
+use mathlib.Core.List.{List}
+use native.Mathlib.Omega.{arith}
+use native.Mathlib.Numerals.{add-one}
+use lib.ListN.{length}
+use borrow.Author.Tests.{ne-eqb}
+use Rattle.kind.specs.Class as Class
+use Rattle.kind.specs.Inside.{start}
+use Rattle.lexer.specs.Byte.{Bracket, closing}
+use Rattle.lexer.specs.Expression.{Expr, symbol, quoted, list, Exprs, none, and, place}
+use Rattle.lexer.specs.Token.{Seen}
+use Rattle.document.specs.Spelling.{nested, leadClass, listClass, exprClass}
+use Rattle.document.specs.Meaning.{Verdict, fine, fault, finish, run, judge, judgeRoot}
+use Rattle.document.specs.Answer.{judged, tooDeep, oneExpression}
+use Rattle.reader.specs.Stands.{Has, Stands}
+use Rattle.reader.specs.Turn.{Opened}
+use Rattle.reader.specs.Second.{secondPlace}
+use Rattle.reader.specs.Sizes.{nodesOf, nodesIn, bytesOf, bytesIn}
+use Rattle.reader.specs.Walked.{walkedTo, readWalked}
+use Rattle.reader.specs.declared.walk.Walked.{Walked}
+use Rattle.reader.proofs.Looks.{seen-bounds, SeenAs, saw-end, saw-symbol, saw-string, saw-list, look-stands, stands-within}
+use Rattle.reader.proofs.Turns.{Looked}
+
+-- ---- what was seen, by its number
+
+-- The first of these expressions is a list, which holds `inner` and is closed at `end`.
+record ListFirst (s : List ℕ) (q : ℕ) (es : Exprs) (e : ℕ) : Type 0 where
+  inner : Exprs
+  others : Exprs
+  end : ℕ
+  bracket : Bracket
+  made : es ≡ and (list q inner) others
+  holds : Stands s (q + 1) inner end
+  closed : Has s end (closing bracket)
+  goes-on : Stands s (end + 1) others e
+
+-- The first of these expressions is at q and of class c.
+pub record First (q c : ℕ) (es : Exprs) : Type 0 where
+  pub first : Expr
+  pub others : Exprs
+  pub made : es ≡ and first others
+  pub placed : place first ≡ q
+  pub of-class : exprClass first ≡ c
+
+record AtomFirst (s : List ℕ) (j : ℕ) (es : Exprs) (e : ℕ) : Type 0 where
+  first : Expr
+  others : Exprs
+  made : es ≡ and first others
+  goes-on : Stands s j others e
+
+module _ {s : List ℕ} {r : Seen} where
+  seen-end : {es : Exprs} {e : ℕ} → SeenAs s r es e → r .sort ≡ 0 → (es ≡ none) × (r .place ≡ e)
+  seen-end (saw-end h) z = (refl, refl)
+  seen-end (saw-symbol h c l f t) z = let w : _≡_ {A = ℕ} 0 1 = cc in absurd (omega arith)
+  seen-end (saw-string h c l f t) z = let w : _≡_ {A = ℕ} 0 1 = cc in absurd (omega arith)
+  seen-end (saw-list x h c f t d b u) z = let w : _≡_ {A = ℕ} 0 1 = cc in absurd (omega arith)
+
+  seen-first : {es : Exprs} {e : ℕ} → SeenAs s r es e → (r .sort ≡ 0 → ⊥) → First (r .place) (r .class) es × (r .place < r .next)
+  unfolding place exprClass
+  seen-first (saw-end h) z = absurd (z h)
+  seen-first (saw-symbol {es} h c l f t) z = (record { first = symbol (r .place) _; others = es; made = refl; placed = refl; of-class = sym c }, f)
+  seen-first (saw-string {es} h c l f t) z = (record { first = quoted (r .place) _; others = es; made = refl; placed = refl; of-class = sym c }, f)
+  seen-first (saw-list {inner} {es} x h c f t d b u) z =
+      (record { first = list (r .place) inner; others = es; made = refl; placed = refl; of-class = sym c }, f)
+
+  seen-atom : {es : Exprs} {e : ℕ} → SeenAs s r es e → (r .sort ≡ 0 → ⊥) → (r .sort ≡ 3 → ⊥) → AtomFirst s (r .next) es e
+  seen-atom (saw-end h) z a = absurd (z h)
+  seen-atom (saw-symbol {es} h c l f t) z a = record { first = symbol (r .place) _; others = es; made = refl; goes-on = t }
+  seen-atom (saw-string {es} h c l f t) z a = record { first = quoted (r .place) _; others = es; made = refl; goes-on = t }
+  seen-atom (saw-list x h c f t d b u) z a = absurd (a h)
+
+  seen-list : {es : Exprs} {e : ℕ} → SeenAs s r es e → r .sort ≡ 3 → ListFirst s (r .place) es e
+  seen-list (saw-end h) z = let w : _≡_ {A = ℕ} 0 1 = cc in absurd (omega arith)
+  seen-list (saw-symbol h c l f t) z = let w : _≡_ {A = ℕ} 0 1 = cc in absurd (omega arith)
+  seen-list (saw-string h c l f t) z = let w : _≡_ {A = ℕ} 0 1 = cc in absurd (omega arith)
+  seen-list (saw-list {inner} {es} {m} x h c f t d b u) z =
+      record { inner = inner; others = es; end = m; bracket = x; made = refl; holds = t; closed = b; goes-on = u }
+
+  -- What is of the class `document` is a list led by that name.
+  seen-document : {es : Exprs} {e : ℕ} → SeenAs s r es e → (r .sort ≡ 0 → ⊥) → r .class ≡ Class.document → Opened s (r .place) (r .class) (r .next) es e
+  seen-document (saw-end h) z a = absurd (z h)
+  seen-document (saw-symbol h c l f t) z a = absurd (omega arith)
+  seen-document (saw-string h c l f t) z a = absurd (omega arith)
+  seen-document (saw-list {inner} {es} {m} x h c f t d b u) z a =
+      let named : r .class ≡ 0 → ⊥ = λ o. omega arith in
+      let l = d named in
+      let made : inner ≡ and (l .lead) (l .rest) = l .made in
+      record {
+        lead = l .lead;
+        rest = l .rest;
+        others = es;
+        end = m;
+        bracket = x;
+        made = cc;
+        of-class = l .of-class;
+        follows = l .follows;
+        closed = b;
+        goes-on = u;
+      }
+
+-- The same, of what was looked at.
+module _ {s : List ℕ} {i sort q c j l : ℕ} (looked : Looked s i sort q c j l) where
+  pub looked-end : {es : Exprs} {e : ℕ} → Stands s i es e → sort ≡ 0 → (es ≡ none) × (q ≡ e)
+  looked-end {es} {e} t z = let r = seen-end (look-stands s i e es t) (sym (looked .0) ∙ z) in (r .0, looked .1 ∙ r .1)
+
+  pub looked-first : {es : Exprs} {e : ℕ} → Stands s i es e → (sort ≡ 0 → ⊥) → First q c es × (q < j)
+  looked-first {es} {e} t z = rw (looked .1, looked .2, looked .3) (seen-first (look-stands s i e es t) (λ h. z (looked .0 ∙ h)))
+
+  looked-atom : {es : Exprs} {e : ℕ} → Stands s i es e → (sort ≡ 0 → ⊥) → (sort ≡ 3 → ⊥) → AtomFirst s j es e
+  looked-atom {es} {e} t z a = rw (looked .3) (seen-atom (look-stands s i e es t) (λ h. z (looked .0 ∙ h)) (λ h. a (looked .0 ∙ h)))
+
+  looked-list : {es : Exprs} {e : ℕ} → Stands s i es e → sort ≡ 3 → ListFirst s q es e
+  looked-list {es} {e} t z = rw (looked .1) (seen-list (look-stands s i e es t) (sym (looked .0) ∙ z))
+
+  looked-document : {es : Exprs} {e : ℕ} → Stands s i es e → (sort ≡ 0 → ⊥) → c ≡ Class.document → Opened s q c j es e
+  looked-document {es} {e} t z a =
+      rw (looked .1, looked .2, looked .3) (seen-document (look-stands s i e es t) (λ h. z (looked .0 ∙ h)) (sym (looked .2) ∙ a))
+
+-- ---- where a run ends
+
+-- At place i, inside d lists of a run that ends at e.
+pub data Nest (s : List ℕ) (e : ℕ) : ℕ → ℕ → Type 0 where
+  outside : {i : ℕ} {es : Exprs} → Stands s i es e → Nest s e i 0
+  inside : {i m d : ℕ} {es : Exprs} {x : Bracket} → Stands s i es m → Has s m (closing x) → Nest s e (m + 1) d → Nest s e i (suc d)
+
+-- The loop's invariant: what began at `from` has got to i, and each list took a byte.
+pub record Running (s : List ℕ) (from i d : ℕ) : Type 0 where
+  pub shallow : d ≤ i
+  pub nests : (es : Exprs) (e : ℕ) → Stands s from es e → Nest s e i d
+
+pub running : (s : List ℕ) (from : ℕ) → Running s from from 0
+running s from = record { shallow = omega arith; nests = λ es e t. outside t }
+
+-- Past the text's end nothing is left.
+nest-over : {s : List ℕ} {e i d : ℕ} → Nest s e i d → length s ≤ i → i ≡ e
+nest-over {s} {e} {i} (outside {es = es} t) h = omega (arith, stands-within s i e es t)
+nest-over {s} {e} {i} (inside {m = m} {es = es} t b n) h = absurd (omega (arith, stands-within s i m es t, b .inside))
+
+module _ {s : List ℕ} {i sort q c j l : ℕ} (looked : Looked s i sort q c j l) where
+  nest-end : {e d : ℕ} → Nest s e i d → sort ≡ 0 → d ≡ 0 → q ≡ e
+  nest-end (outside t) z h = looked-end looked t z .1
+  nest-end (inside t b n) z h = absurd (omega arith)
+
+  nest-close : {e d : ℕ} → Nest s e i d → sort ≡ 0 → (d ≡ 0 → ⊥) → (q < length s) × Nest s e (q + 1) (d - 1)
+  nest-close (outside t) z h = absurd (h refl)
+  nest-close (inside {d = d} t b n) z h =
+      let r = looked-end looked t z .1 in
+      let one : suc d - 1 ≡ d = omega arith in
+      (omega (arith, b .inside, r), rw (r, one) n)
+
+  nest-forward : {e d : ℕ} → Nest s e i d → (sort ≡ 0 → ⊥) → q < j
+  nest-forward (outside t) z = looked-first looked t z .1
+  nest-forward (inside t b n) z = looked-first looked t z .1
+
+  nest-atom : {e d : ℕ} → Nest s e i d → (sort ≡ 0 → ⊥) → (sort ≡ 3 → ⊥) → Nest s e j d
+  nest-atom (outside t) z a = outside (looked-atom looked t z a .goes-on)
+  nest-atom (inside t b n) z a = inside (looked-atom looked t z a .goes-on) b n
+
+  nest-list : {e d : ℕ} → Nest s e i d → sort ≡ 3 → Nest s e (q + 1) (suc d)
+  nest-list (outside t) z = let r = looked-list looked t z in inside (r .holds) (r .closed) (outside (r .goes-on))
+  nest-list (inside t b n) z = let r = looked-list looked t z in inside (r .holds) (r .closed) (inside (r .goes-on) b n)
+
+  -- The ways through the loop's body, and out of it.
+  module _ {from d : ℕ} (running : Running s from i d) where
+    pub run-ends : sort ≡ 0 → d ≡ 0 → (es : Exprs) (e : ℕ) → Stands s from es e → q ≡ e
+    run-ends z h es e t = nest-end (running .nests es e t) z h
+
+    pub run-unclosed : sort ≡ 0 → (d ≡ 0 → ⊥) → length s ≤ q → (es : Exprs) (e : ℕ) → Stands s from es e → q ≡ e
+    run-unclosed z h g es e t = absurd (omega (arith, nest-close (running .nests es e t) z h .0))
+
+    pub run-stuck : i ≤ length s → (sort ≡ 0 → ⊥) → j ≤ i → (es : Exprs) (e : ℕ) → Stands s from es e → i ≡ e
+    run-stuck within z h es e t =
+        absurd (omega (arith, nest-forward (running .nests es e t) z, seen-bounds s i within .place-from, looked .1))
+
+    pub run-closes : i ≤ length s → sort ≡ 0 → (d ≡ 0 → ⊥) → Running s from (q + 1) (d - 1)
+    run-closes within z h =
+        record {
+          shallow = omega (arith, running .shallow, seen-bounds s i within .place-from, looked .1);
+          nests = λ es e t. nest-close (running .nests es e t) z h .1;
+        }
+
+    pub run-opens : i ≤ length s → sort ≡ 3 → Running s from (q + 1) (d + 1)
+    run-opens within z =
+        record {
+          shallow = omega (arith, running .shallow, seen-bounds s i within .place-from, looked .1);
+          nests = λ es e t. rw (add-one d) (nest-list (running .nests es e t) z);
+        }
+
+    pub run-passes : (sort ≡ 0 → ⊥) → (sort ≡ 3 → ⊥) → i < j → Running s from j d
+    run-passes z a h =
+        record { shallow = omega (arith, running .shallow); nests = λ es e t. nest-atom (running .nests es e t) z a }
+
+pub run-over : {s : List ℕ} {from i d : ℕ} → Running s from i d → length s ≤ i → (es : Exprs) (e : ℕ) → Stands s from es e → i ≡ e
+run-over running h es e t = nest-over (running .nests es e t) h
+
+-- Where what is seen from place i on lies.
+pub looked-within : (s : List ℕ) (i : ℕ) {sort q c j l : ℕ} → Looked s i sort q c j l → i ≤ length s
+    → (i ≤ q) × (q ≤ length s) × ((sort ≡ 0 → ⊥) → i < j → (q < j) × (j ≤ length s))
+looked-within s i looked within =
+    let b = seen-bounds s i within in (
+      omega (arith, b .place-from, looked .1),
+      omega (arith, b .place-within, looked .1),
+      λ z h. let g = b .forward (λ e. z (looked .0 ∙ e)) (rw (looked .3) at h) in omega (arith, g, looked .1, looked .3),
+    )
+
+-- ---- where the first expression ends
+
+module _ {s : List ℕ} {i sort q c j l : ℕ} (looked : Looked s i sort q c j l) where
+  pub past-atom : (sort ≡ 3 → ⊥) → (x : Expr) (es : Exprs) (e : ℕ) → Stands s i (and x es) e → Stands s j es e
+  past-atom a x es e t =
+      let some : sort ≡ 0 → ⊥ = λ z. let h = looked-end looked t z .0 in let w : _≡_ {A = ℕ} 0 1 = cc in omega arith in
+      let r = looked-atom looked t some a in
+      let same : r .others ≡ es = cc in
+      rw same at (r .goes-on)
+
+  pub past-cut : sort ≡ 3 → length s ≤ q → (x : Expr) (es : Exprs) (e : ℕ) → Stands s i (and x es) e → ⊥
+  past-cut a h x es e t =
+      let r = looked-list looked t a in omega (arith, stands-within s (q + 1) (r .end) (r .inner) (r .holds))
+
+  -- The run inside a list ends at its closing bracket.
+  pub past-list : {end : ℕ} → sort ≡ 3 → ((es : Exprs) (e : ℕ) → Stands s (q + 1) es e → end ≡ e)
+      → (x : Expr) (es : Exprs) (e : ℕ) → Stands s i (and x es) e → (end < length s) × Stands s (end + 1) es e
+  past-list {end} a h x es e t =
+      let r = looked-list looked t a in
+      let same : r .others ≡ es = cc in
+      let here : end ≡ r .end = h (r .inner) (r .end) (r .holds) in
+      (omega (arith, r .closed .inside), rw here (rw same at (r .goes-on)))
+
+-- ---- the second expression
+
+second-of-none : (n : ℕ) {es : Exprs} → es ≡ none → n ≡ secondPlace n es
+unfolding secondPlace
+second-of-none n e = rw e
+
+second-of-one : (n : ℕ) {es : Exprs} (x : Expr) {others : Exprs} → es ≡ and x others → others ≡ none → n ≡ secondPlace n es
+unfolding secondPlace
+second-of-one n x e f = rw (e, f)
+
+second-of-two : (n : ℕ) {es : Exprs} (x y : Expr) {others rest : Exprs} → es ≡ and x others → others ≡ and y rest → place y ≡ secondPlace n es
+unfolding secondPlace
+second-of-two n x y e f = rw (e, f)
+
+module _ {s : List ℕ} {sort q c j l : ℕ} (looked : Looked s 0 sort q c j l) where
+  pub second-none : sort ≡ 0 → (es : Exprs) → Stands s 0 es (length s) → length s ≡ secondPlace (length s) es
+  second-none z es t = second-of-none (length s) (looked-end looked t z .0)
+
+  -- After the first expression, from place i on, one more look.
+  module _ {i sort′ q′ c′ j′ l′ : ℕ} (some : sort ≡ 0 → ⊥) (past : (x : Expr) (es : Exprs) (e : ℕ) → Stands s 0 (and x es) e → Stands s i es e)
+      (looked′ : Looked s i sort′ q′ c′ j′ l′) where
+    pub second-missing : sort′ ≡ 0 → (es : Exprs) → Stands s 0 es (length s) → length s ≡ secondPlace (length s) es
+    second-missing z es t =
+        let f = looked-first looked t some .0 in
+        let u : Stands s i (f .others) (length s) = past (f .first) (f .others) (length s) (rw (f .made) at t) in
+        second-of-one (length s) (f .first) (f .made) (looked-end looked′ u z .0)
+
+    pub second-there : (sort′ ≡ 0 → ⊥) → (es : Exprs) → Stands s 0 es (length s) → q′ ≡ secondPlace (length s) es
+    second-there z es t =
+        let f = looked-first looked t some .0 in
+        let u : Stands s i (f .others) (length s) = past (f .first) (f .others) (length s) (rw (f .made) at t) in
+        let g = looked-first looked′ u z .0 in
+        sym (g .placed) ∙ second-of-two (length s) (f .first) (g .first) (f .made) (g .made)
+
+-- ---- the answer
+
+Below : ℕ → Exprs → Type 0
+Below n none = Unit {0}
+Below n (and x es) = (place x < n) × Below n es
+
+-- Expressions stand at places within the text.
+below : {s : List ℕ} {i e : ℕ} {es : Exprs} → Stands s i es e → Below (length s) es
+unfolding Below place
+below (Stands.ended h) = tt
+below (Stands.after-blank h t) = below t
+below (Stands.after-line-end h g t) = below t
+below (Stands.a-symbol h t) = (h .inside, below t)
+below (Stands.a-string h g t) = (h .inside, below t)
+below (Stands.a-list h t g u) = (h .inside, below u)
+
+answer-none : (n : ℕ) {es : Exprs} → es ≡ none → walkedTo 0 0 0 (fault 7 n) ≡ readWalked (oneExpression nested n es)
+unfolding oneExpression walkedTo readWalked
+answer-none n e = rw e
+
+answer-two : (n : ℕ) {other : ℕ} (es : Exprs) → other ≡ secondPlace n es → other < n → walkedTo 0 0 0 (fault 7 other) ≡ readWalked (oneExpression nested n es)
+unfolding oneExpression secondPlace walkedTo readWalked
+answer-two n none e h = absurd (omega arith)
+answer-two n (and x none) e h = absurd (omega arith)
+answer-two n (and x (and y es)) e h = rw e
+
+-- There is no second expression.
+alone : (n : ℕ) {other : ℕ} (es : Exprs) {x : Expr} {others : Exprs} → es ≡ and x others → Below n es → other ≡ secondPlace n es → n ≤ other → es ≡ and x none
+unfolding secondPlace Below
+alone n none m b e h = cc
+alone n (and y none) m b e h = cc
+alone n (and y (and z es)) m b e h = absurd (omega (arith, b .1 .0))
+
+answer-no-document : (n : ℕ) {es : Exprs} (x : Expr) {q : ℕ} → es ≡ and x none → place x ≡ q → (exprClass x ≡ 1 → ⊥)
+    → walkedTo 0 0 0 (fault 8 q) ≡ readWalked (oneExpression nested n es)
+unfolding oneExpression judged judgeRoot walkedTo readWalked
+answer-no-document n x m p c = rw (m, ne-eqb (exprClass x) 1 c, p)
+
+-- The walk's answer with the counts of the document, and no place of its own.
+settled : (x : Expr) (v : Verdict) {w : Walked} (m n p : ℕ) → w ≡ walkedTo m n p v → nodesOf x ≡ n → bytesOf x ≡ p
+    → record { number = w .number; place = w .place; next = 0; nodes = w .nodes; pool = w .pool } ≡ readWalked (judged nested x v)
+unfolding walkedTo readWalked judged tooDeep
+settled x fine m n p e f g = rw (e, f, g)
+settled x (fault k q) m n p e f g = rw e
+
+-- A root that is a document is judged by what follows its name.
+judge-document : (q : ℕ) (lead : Expr) (rest : Exprs) → leadClass lead ≡ 1 → judgeRoot (list q (and lead rest)) ≡ finish q 1 (run q 1 (start 1) rest)
+unfolding judgeRoot exprClass listClass judge Class.isElement Class.isKind
+judge-document q lead rest e = rw e
+
+document-nodes : (q : ℕ) (lead : Expr) (rest : Exprs) → leadClass lead ≡ 1 → nodesOf (list q (and lead rest)) ≡ 1 + nodesIn rest
+unfolding nodesOf Class.isElement Class.isKind
+document-nodes q lead rest e = rw e (omega arith)
+
+document-bytes : (q : ℕ) (lead : Expr) (rest : Exprs) → leadClass lead ≡ 1 → bytesOf (list q (and lead rest)) ≡ 0 + bytesIn rest
+unfolding bytesOf Class.isElement Class.isKind
+document-bytes q lead rest e = rw e (omega arith)
+
+answer-document : (n q : ℕ) (lead : Expr) (rest : Exprs) {es : Exprs} {w : Walked} (m : ℕ) → es ≡ and (list q (and lead rest)) none → leadClass lead ≡ 1
+    → w ≡ walkedTo m (1 + nodesIn rest) (0 + bytesIn rest) (finish q 1 (run q 1 (start 1) rest))
+    → record { number = w .number; place = w .place; next = 0; nodes = w .nodes; pool = w .pool } ≡ readWalked (oneExpression nested n es)
+unfolding oneExpression
+answer-document n q lead rest m e c h =
+    rw (e, judge-document q lead rest c)
+    (settled (list q (and lead rest)) (finish q 1 (run q 1 (start 1) rest)) m (1 + nodesIn rest) (0 + bytesIn rest) h
+    (document-nodes q lead rest c) (document-bytes q lead rest c))
+
+-- The ways out of the judging, where `other` is the place of the second expression.
+module _ {s : List ℕ} {sort q c j l : ℕ} (looked : Looked s 0 sort q c j l) where
+  pub judge-none : sort ≡ 0 → (es : Exprs) → Stands s 0 es (length s) → walkedTo 0 0 0 (fault 7 (length s)) ≡ readWalked (oneExpression nested (length s) es)
+  judge-none z es t = answer-none (length s) (looked-end looked t z .0)
+
+  module _ {other : ℕ} (some : sort ≡ 0 → ⊥) (second : (es : Exprs) → Stands s 0 es (length s) → other ≡ secondPlace (length s) es) where
+    pub judge-two : other < length s → (es : Exprs) → Stands s 0 es (length s) → walkedTo 0 0 0 (fault 7 other) ≡ readWalked (oneExpression nested (length s) es)
+    judge-two h es t = answer-two (length s) es (second es t) h
+
+    pub judge-other : length s ≤ other → (c ≡ 1 → ⊥) → (es : Exprs) → Stands s 0 es (length s)
+        → walkedTo 0 0 0 (fault 8 q) ≡ readWalked (oneExpression nested (length s) es)
+    judge-other h d es t =
+        let f = looked-first looked t some .0 in
+        answer-no-document (length s) (f .first) (alone (length s) es (f .made) (below t) (second es t) h) (f .placed) (λ e. d (sym (f .of-class) ∙ e))
+
+    pub judge-stuck : j ≡ 0 → (es : Exprs) → Stands s 0 es (length s) → walkedTo 0 0 0 (fault 8 q) ≡ readWalked (oneExpression nested (length s) es)
+    judge-stuck h es t = absurd (omega (arith, looked-first looked t some .1))
+
+    pub judge-root : length s ≤ other → c ≡ 1 → {w : Walked}
+        → ((es : Exprs) (e : ℕ) → Stands s j es e → w ≡ walkedTo e (1 + nodesIn es) (0 + bytesIn es) (finish q 1 (run q 1 (start 1) es)))
+        → (es : Exprs) → Stands s 0 es (length s)
+        → record { number = w .number; place = w .place; next = 0; nodes = w .nodes; pool = w .pool } ≡ readWalked (oneExpression nested (length s) es)
+    judge-root h d {w} walked es t =
+        let o = looked-document looked t some d in
+        answer-document (length s) q (o .lead) (o .rest) (o .end) (alone (length s) es (o .made) (below t) (second es t) h) (o .of-class ∙ d)
+        (walked (o .rest) (o .end) (o .follows))

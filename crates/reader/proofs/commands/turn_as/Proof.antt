@@ -1,0 +1,49 @@
+-- `turn_as` meets its contract. Assumes nothing.
+use mathlib.Core.Path.{refl}
+use native.Mathlib.Omega.{arith}
+use Rattle.reader.specs.Blocks.{by-step, stuck}
+use Rattle.reader.proofs.Turns.{step-goes, step-bad}
+use borrow.Author.Needs.{needs}
+use Rattle.reader.proofs.commands.turn_as.Statement.{statement}
+use Rattle.reader.proofs.commands.turn_as.Tie as tie
+
+step-requires : tie.Need-step-requires
+step-requires c κs = search needs
+
+fault-at-requires : tie.Need-fault-at-requires
+fault-at-requires c κs = search needs
+
+returns : tie.Need-returns
+returns c = by-step _ (c .before .if1 .taken) (step-bad _ _ _ _ (c .before .if1 .taken) (c .before .before .before .step .ensures)) (c .fault-at .ensures)
+
+refusal-requires : tie.Need-refusal-requires
+refusal-requires c κs = search needs
+
+returns-2 : tie.Need-returns-2
+returns-2 c = stuck (c .before .if2 .taken) (c .refusal .ensures)
+
+returns-3 : tie.Need-returns-3
+returns-3 c = (record { taken = step-goes _ _ _ _ (c .before .before .before .if1 .left) (c .before .before .before .before .before .step .ensures); forward = c .before .before .if2 .left; next = refl }, c .if3 .taken, refl, refl)
+
+add-t15 : tie.Need-add-t15
+add-t15 c = search needs
+
+add-t16 : tie.Need-add-t16
+add-t16 c = omega (arith, c .before .before .before .before .before .before .before .pre .1 (c .before .before .before .if2 .left), c .before .before .before .before .before .before .before .good)
+
+returns-4 : tie.Need-returns-4
+returns-4 c = (record { taken = step-goes _ _ _ _ (c .before .before .before .before .if1 .left) (c .before .before .before .before .before .before .step .ensures); forward = c .before .before .before .if2 .left; next = refl }, c .before .if3 .left, refl, refl)
+
+pub turn-as-spec : {M : Type 1} → statement M
+turn-as-spec =
+    tie.close
+    (tie.spec
+    step-requires
+    fault-at-requires
+    returns
+    refusal-requires
+    returns-2
+    returns-3
+    add-t15
+    add-t16
+    returns-4)

@@ -1,0 +1,66 @@
+-- `size` meets its contract: each way out is one law of `Measures`. Assumes nothing.
+use Rattle.reader.proofs.Measures.{size-unfit, size-unfit-height, size-unfit-third, size-good}
+use borrow.Author.Needs.{needs}
+use Rattle.reader.proofs.value.size.Statement.{statement}
+use Rattle.reader.proofs.value.size.Tie as tie
+
+number-at-requires : tie.Need-number-at-requires
+number-at-requires c κs = search needs
+
+refusal-requires : tie.Need-refusal-requires
+refusal-requires c κs = search needs
+
+returns : tie.Need-returns
+returns c = rw (c .refusal .ensures) (size-unfit _ _ _ _ (c .before .before .before .number-at .ensures) (c .before .if1 .taken))
+
+number-at-requires-2 : tie.Need-number-at-requires-2
+number-at-requires-2 c κs = c .before .before .number-at .ensures .within (c .if1 .left) .1
+
+refusal-requires-2 : tie.Need-refusal-requires-2
+refusal-requires-2 c κs = search needs
+
+returns-2 : tie.Need-returns-2
+returns-2 c =
+    let second = c .before .before .before in
+    let first = second .before .before .before in
+    rw (c .refusal2 .ensures)
+    (size-unfit-height _ _ _ _ (first .number-at .ensures) (second .before .if1 .left) (second .number-at2 .ensures) (c .before .if2 .taken))
+
+look-requires : tie.Need-look-requires
+look-requires c κs = search needs
+
+refusal-requires-3 : tie.Need-refusal-requires-3
+refusal-requires-3 c κs = search needs
+
+returns-3 : tie.Need-returns-3
+returns-3 c =
+    let third = c .before .before .before in
+    let second = third .before .before .before in
+    let first = second .before .before .before in
+    rw (c .refusal3 .ensures)
+    (size-unfit-third _ _ _ _ (first .number-at .ensures) (second .before .if1 .left) (second .number-at2 .ensures) (third .before .if2 .left)
+    (third .look .ensures) (c .before .if3 .taken))
+
+returns-4 : tie.Need-returns-4
+returns-4 c =
+    let third = c .before .before in
+    let second = third .before .before .before in
+    let first = second .before .before .before in
+    let start = first .before .before in
+    size-good _ _ _ _ (first .number-at .ensures) (second .before .if1 .left) (second .number-at2 .ensures) (third .before .if2 .left)
+    (third .look .ensures) (c .if3 .left) (start .pre .1) (start .pre .2)
+
+pub size-spec : {M : Type 1} → statement M
+size-spec =
+    tie.close
+    (tie.spec
+    number-at-requires
+    refusal-requires
+    returns
+    number-at-requires-2
+    refusal-requires-2
+    returns-2
+    look-requires
+    refusal-requires-3
+    returns-3
+    returns-4)

@@ -1,0 +1,15 @@
+pub mod Stands
+pub mod Sizes
+pub mod Walked
+pub mod Turn
+pub mod Held
+pub mod Takes
+pub mod Blocks
+pub mod Second
+pub mod Checked
+pub mod Words
+pub mod Filling
+pub mod FilledBlocks
+pub mod Groups
+pub mod Read
+pub mod Demand

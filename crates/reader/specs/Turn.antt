@@ -1,0 +1,94 @@
+-- One turn of a walk, and what a walk that has got somewhere still has to answer. It serves the contracts of private functions.
+use Prim.Native.Nat.{ℕ, suc, _+_, _≤_, _<_}
+use mathlib.Core.Path.{_≡_}
+use mathlib.Core.Bool.{cond}
+use mathlib.Core.List.{List}
+use lib.Dec.{eqb, leb}
+use lib.ListN.{length}
+use Rattle.kind.specs.Class.{isElement}
+use Rattle.kind.specs.Inside.{step as stepped, start, go}
+use Rattle.kind.specs.Machine.{stateOf}
+use Rattle.lexer.specs.Byte.{Bracket, closing}
+use Rattle.lexer.specs.Expression.{Expr, list, Exprs, and}
+use Rattle.document.specs.Spelling.{leadClass}
+use Rattle.document.specs.Meaning.{Verdict, fine, fault, finish, run, judgeValue, valueTree}
+use Rattle.reader.specs.Stands.{Has, Stands}
+use Rattle.reader.specs.Sizes.{nodesIn, bytesIn, valueSize}
+use Rattle.reader.specs.Walked.{walkedTo, Bounded}
+use Rattle.reader.specs.declared.walk.Walked.{Walked}
+use Rattle.reader.specs.declared.walk.Turn.{Turn}
+use Rattle.reader.specs.declared.walk.Turn.the-variants.{Done, Atom, List as AList}
+
+-- What is to be answered of the expressions es, which end at e, in the element of kind k at `at` that is read so far to state st.
+-- So far n nodes and p pool bytes are counted.
+unfoldable pub whole : ℕ → ℕ → ℕ → ℕ → ℕ → ℕ → Exprs → Walked
+whole at k st n p e es = walkedTo e (n + nodesIn es) (p + bytesIn es) (finish at k (run at k (stateOf k st) es))
+
+-- w is the answer from place i on.
+pub record Answers (s : List ℕ) (at k i st n p : ℕ) (w : Walked) : Type 0 where
+  pub answers : (es : Exprs) (e : ℕ) → Stands s i es e → w ≡ whole at k st n p e es
+
+-- Of the expressions es, which end at e, those from place j on are left, and the answer is the one from there, in the state and with the counts there.
+pub record Left (s : List ℕ) (at k st n p j st′ n′ p′ : ℕ) (es : Exprs) (e : ℕ) : Type 0 where
+  pub others : Exprs
+  pub stands : Stands s j others e
+  pub same : whole at k st′ n′ p′ e others ≡ whole at k st n p e es
+
+-- From place i on a walk has gone to place j.
+pub record Goes (s : List ℕ) (at k i st n p j st′ n′ p′ : ℕ) : Type 0 where
+  pub left : (es : Exprs) (e : ℕ) → Stands s i es e → Left s at k st n p j st′ n′ p′ es e
+
+-- Of the expressions es, which end at e, the first is a list at `place`, led by a name of class c that is followed by what starts at j.
+pub record Opened (s : List ℕ) (place c j : ℕ) (es : Exprs) (e : ℕ) : Type 0 where
+  pub lead : Expr
+  pub rest : Exprs
+  pub others : Exprs
+  pub end : ℕ
+  pub bracket : Bracket
+  pub made : es ≡ and (list place (and lead rest)) others
+  pub of-class : leadClass lead ≡ c
+  pub follows : Stands s j rest end
+  pub closed : Has s end (closing bracket)
+  pub goes-on : Stands s (end + 1) others e
+
+-- In an element of kind k, an expression of class c is taken.
+abbrev pub Takes : ℕ → ℕ → ℕ → ℕ → Type 0
+Takes k st c st′ = stepped k (stateOf k st) c ≡ go (stateOf k st′)
+
+-- From place i on such a list stands first, and it is taken.
+pub record Opens (s : List ℕ) (k i st place c j st′ : ℕ) : Type 0 where
+  pub taken : Takes k st c st′
+  pub opened : (es : Exprs) (e : ℕ) → Stands s i es e → Opened s place c j es e
+
+-- A symbol or string is taken and passed.
+pub record Passes (s : List ℕ) (at k i st n p j st′ n′ p′ : ℕ) : Type 0 where
+  pub class : ℕ
+  pub taken : Takes k st class st′
+  pub goes : Goes s at k i st n p j st′ n′ p′
+
+abbrev pub Turned : List ℕ → ℕ → ℕ → ℕ → ℕ → ℕ → ℕ → Turn → Type 0
+Turned s at k i st n p (Done w) = Answers s at k i st n p w
+Turned s at k i st n p (Atom j n′ p′ st′) = Passes s at k i st n p j st′ n′ p′
+Turned s at k i st n p (AList place c j st′) = Opens s k i st place c j st′
+
+-- A turn goes forward, within the text, and counts no more than it passes, whatever the text holds.
+abbrev pub Within : List ℕ → ℕ → Turn → Type 0
+Within s i (Done w) = Bounded s i w
+Within s i (Atom j n p st) = (i < j) × (j ≤ length s) × (n ≤ j) × (p ≤ j)
+Within s i (AList place c j st) = (i < j) × (j ≤ length s)
+
+-- What is to be answered of a list at `at` led by a name of class c, in an element of kind k, where es follow the name.
+unfoldable pub verdictOf : ℕ → ℕ → ℕ → Exprs → Verdict
+verdictOf k at c es = cond (isElement c) (finish at c (run at c (start c) es)) (judgeValue k at (valueTree c es))
+
+-- w is the answer of a list at `at`, where j is the place after the name that leads it.
+pub record Judges (s : List ℕ) (at j k c n p : ℕ) (w : Walked) : Type 0 where
+  pub judged : (es : Exprs) (e : ℕ) → Stands s j es e
+      → w ≡ walkedTo e (n + cond (isElement c) (suc (nodesIn es)) 0) (p + cond (isElement c) (bytesIn es) (valueSize c es)) (verdictOf k at c es)
+
+-- The answer of a list, and then the place after its closing bracket, in a text of m bytes.
+unfoldable pub pastBracket : ℕ → Walked → Walked
+pastBracket m w =
+    cond (eqb (w .number) 0)
+    (cond (leb m (w .next)) (walkedTo 0 0 0 (fault 8 (w .next))) (walkedTo (w .next + 1) (w .nodes) (w .pool) fine))
+    w

@@ -1,0 +1,166 @@
+// Reads a text into a node table (document 01).
+mod block_fill; // block_fill.rt: the fill of a whole text, in either spelling
+mod commands; // commands.rt: judging an imperative text
+mod fill; // fill.rt: the fill of the table from expressions that were judged
+mod nested; // nested.rt: judging a nested text
+mod validate; // validate.rt: the check of a filled table
+mod value; // value.rt: the values of parameters
+mod walk; // walk.rt: the judging walk over elements
+
+use block_fill::fill_imperative;
+use block_fill::fill_nested;
+use commands::judge_imperative;
+use lexer::scan;
+use nested::judge_nested;
+use validate::check_table;
+ghost use mathlib.Core.Path.{_≡_};
+ghost use Prim.Native.Nat.{_≤_, min};
+ghost use Rattle.document.specs.Document.{Node};
+ghost use Rattle.document.specs.WellFormed.{check};
+ghost use Rattle.document.specs.Spelling.{nested, imperative};
+ghost use Rattle.document.specs.Answer.{answerAt};
+ghost use Rattle.reader.specs.Checked.{checkNumber, checkPlace, Holds};
+ghost use Rattle.reader.specs.Groups.{groupNumber, groupPlace, roomNumber};
+ghost use Rattle.reader.specs.Read.{Answers, Reads};
+
+// "A read returns number, place, line, column, node count, pool count."
+pub struct Answer {
+    pub number: u32,
+    pub place: u32,
+    pub line: u32,
+    pub column: u32,
+    pub nodes: u32,
+    pub pool: u32,
+}
+
+struct Group {
+    number: u32,
+    place: usize,
+}
+
+// The groups 1 to 6: too long, no UTF-8, and the faults of the scan.
+fn first_groups(text: &[u8], levels: usize) -> Group
+    ensures { λ r. ⌜ (r .number ≡ groupNumber (min levels 64) (now (text .entry))) × (r .place ≡ groupPlace (min levels 64) (now (text .entry))) ⌝ }
+{
+    let n = text.len();
+    if 65536 < n {
+        return Group {
+            number: 1,
+            place: 65536,
+        };
+    }
+    let valid = utf8::valid_up_to(text);
+    if valid < n {
+        return Group {
+            number: 2,
+            place: valid,
+        };
+    }
+    let s = scan(text, levels);
+    Group {
+        number: s.number,
+        place: s.place,
+    }
+}
+
+// 13 where the nodes are too many, 14 where the pool bytes are, and 0 where there is room for both.
+fn room(words: usize, places: usize, bytes: usize, nodes: usize, pool: usize) -> u32
+    ensures { λ r. ⌜ r ≡ roomNumber words places bytes nodes pool ⌝ }
+{
+    if 4096 < nodes {
+        return 13;
+    }
+    if words / 11 < nodes {
+        return 13;
+    }
+    if places < nodes {
+        return 13;
+    }
+    if bytes < pool {
+        return 14;
+    }
+    0
+}
+
+// The check of a table that was filled, 15 to 18 at the place of their node, or 0.
+fn checked(nodes: &[u32], places: &[u32], pool: &[u8], count: usize) -> Group
+    ensures { λ r. ⌜ ((d : Node) → Holds (now (nodes .entry)) count (now (pool .entry)) d
+        → (r .number ≡ checkNumber (check d)) × (r .place ≡ checkPlace (now (places .entry)) (check d))) ⌝ }
+{
+    let c = check_table(nodes, count, pool);
+    let node = c.node;
+    if c.number == 0 {
+        return Group {
+            number: 0,
+            place: 0,
+        };
+    }
+    if places.len() <= node {
+        return Group {
+            number: c.number,
+            place: 0,
+        };
+    }
+    Group {
+        number: c.number,
+        place: places[node] as usize,
+    }
+}
+
+// The answer, with line and column of its place. No place and no count passes the longest text.
+fn answer_at(text: &[u8], number: u32, place: usize, nodes: usize, pool: usize) -> Answer
+    requires { ⌜ (place ≤ 65536) × (nodes ≤ 65536) × (pool ≤ 65536) ⌝ }
+    ensures { λ r. ⌜ Answers (answerAt (now (text .entry)) number place nodes pool) r ⌝ }
+{
+    let p = utf8::position(text, place);
+    Answer {
+        number,
+        place: place as u32,
+        line: p.line as u32,
+        column: p.column as u32,
+        nodes: nodes as u32,
+        pool: pool as u32,
+    }
+}
+
+fn read_nested(text: &[u8], nodes: &mut [u32], places: &mut [u32], pool: &mut [u8]) -> Answer
+    ensures { λ r. ⌜ Reads nested (now (text .entry)) (record { nodes = now (nodes .entry); places = now (places .entry); pool = now (pool .entry) }) r
+        (record { nodes = now (nodes .exit); places = now (places .exit); pool = now (pool .exit) }) ⌝ }
+{
+    let g = first_groups(text, 64);
+    if g.number != 0 {
+        return answer_at(text, g.number, g.place, 0, 0);
+    }
+    let w = judge_nested(text);
+    if w.number != 0 {
+        return answer_at(text, w.number, w.place, 0, 0);
+    }
+    let full = room(nodes.len(), places.len(), pool.len(), w.nodes, w.pool);
+    if full != 0 {
+        return answer_at(text, full, 0, w.nodes, w.pool);
+    }
+    fill_nested(text, nodes, places, pool);
+    let c = checked(nodes, places, pool, w.nodes);
+    answer_at(text, c.number, c.place, w.nodes, w.pool)
+}
+
+fn read_imperative(text: &[u8], nodes: &mut [u32], places: &mut [u32], pool: &mut [u8]) -> Answer
+    ensures { λ r. ⌜ Reads imperative (now (text .entry)) (record { nodes = now (nodes .entry); places = now (places .entry); pool = now (pool .entry) }) r
+        (record { nodes = now (nodes .exit); places = now (places .exit); pool = now (pool .exit) }) ⌝ }
+{
+    let g = first_groups(text, 59);
+    if g.number != 0 {
+        return answer_at(text, g.number, g.place, 0, 0);
+    }
+    let w = judge_imperative(text);
+    if w.number != 0 {
+        return answer_at(text, w.number, w.place, 0, 0);
+    }
+    let full = room(nodes.len(), places.len(), pool.len(), w.nodes, w.pool);
+    if full != 0 {
+        return answer_at(text, full, 0, w.nodes, w.pool);
+    }
+    fill_imperative(text, nodes, places, pool);
+    let c = checked(nodes, places, pool, w.nodes);
+    answer_at(text, c.number, c.place, w.nodes, w.pool)
+}

@@ -1,0 +1,118 @@
+// Judging a nested text that was scanned: first 7, for no expression or a second one, then 8 to 12 of the one there is.
+use super::walk::Walked;
+use super::walk::element;
+use super::walk::refusal;
+use lexer::look;
+ghost use mathlib.Core.Path.{_≡_};
+ghost use Prim.Native.Nat.{ℕ};
+ghost use lib.ListN.{length};
+ghost use Rattle.lexer.specs.Expression.{Expr, Exprs, and};
+ghost use Rattle.document.specs.Spelling.{nested};
+ghost use Rattle.document.specs.Answer.{oneExpression};
+ghost use Rattle.reader.specs.Stands.{Stands};
+ghost use Rattle.reader.specs.Second.{secondPlace};
+ghost use Rattle.reader.specs.Walked.{readWalked};
+
+// Where the run of expressions from a place on ends, whatever its lists hold.
+fn run_end(text: &[u8], from: usize) -> usize
+    ensures { λ r. ⌜ ((es : Exprs) (e : ℕ) → Stands (now (text .entry)) from es e → r ≡ e) ⌝ }
+{
+    let mut i = from;
+    let mut depth: usize = 0;
+    while i < text.len() {
+        let seen = look(text, i);
+        let place = seen.place;
+        let next = seen.next;
+        if seen.sort == 0 {
+            if depth == 0 {
+                return place;
+            }
+            // a list that is not closed: not where expressions stand
+            if text.len() <= place {
+                return place;
+            }
+            depth -= 1;
+            i = place + 1;
+            continue;
+        }
+        // not where expressions stand, but on any bytes the loop is to end
+        if next <= i {
+            return i;
+        }
+        if seen.sort == 3 {
+            depth += 1;
+            i = place + 1;
+            continue;
+        }
+        i = next;
+        continue;
+    }
+    i
+}
+
+// The place after the first expression from a place on.
+fn past_first(text: &[u8], from: usize) -> usize
+    ensures { λ r. ⌜ ((x : Expr) (es : Exprs) (e : ℕ) → Stands (now (text .entry)) from (and x es) e → Stands (now (text .entry)) r es e) ⌝ }
+{
+    let seen = look(text, from);
+    if seen.sort != 3 {
+        return seen.next;
+    }
+    // a list that is cut off or not closed: not where expressions stand
+    let place = seen.place;
+    if text.len() <= place {
+        return place;
+    }
+    let end = run_end(text, place + 1);
+    if text.len() <= end {
+        return end;
+    }
+    end + 1
+}
+
+// The place of the second expression of a text, and the text's length where there is none.
+fn second(text: &[u8]) -> usize
+    ensures { λ r. ⌜ ((es : Exprs) → Stands (now (text .entry)) 0 es (length (now (text .entry))) → r ≡ secondPlace (length (now (text .entry))) es) ⌝ }
+{
+    let first = look(text, 0);
+    if first.sort == 0 {
+        return text.len();
+    }
+    let seen = look(text, past_first(text, 0));
+    if seen.sort == 0 {
+        return text.len();
+    }
+    seen.place
+}
+
+// 7 to 12, or the counts of the document; the root counts as one node.
+pub fn judge_nested(text: &[u8]) -> Walked
+    ensures { λ r. ⌜ ((es : Exprs) → Stands (now (text .entry)) 0 es (length (now (text .entry)))
+        → r ≡ readWalked (oneExpression nested (length (now (text .entry))) es)) ⌝ }
+{
+    let root = look(text, 0);
+    if root.sort == 0 {
+        return refusal(7, text.len());
+    }
+    let other = second(text);
+    if other < text.len() {
+        return refusal(7, other);
+    }
+    let place = root.place;
+    let next = root.next;
+    if root.class != 1 {
+        return refusal(8, place);
+    }
+    // not where expressions stand, but on any bytes the walk is to start within the text
+    if next == 0 {
+        return refusal(8, place);
+    }
+    let w = element(text, place, next, 1, 1, 0);
+    Walked {
+        number: w.number,
+        place: w.place,
+        next: 0,
+        nodes: w.nodes,
+        pool: w.pool,
+    }
+}

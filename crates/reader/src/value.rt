@@ -1,0 +1,218 @@
+// The value of a parameter: of an id, a target or a type one text or symbol, of a size two numbers. What is malformed is refused by 10.
+use super::walk::Walked;
+use super::walk::refusal;
+use lexer::atom_fits;
+use lexer::look;
+ghost use mathlib.Core.Path.{_≡_};
+ghost use mathlib.Core.Bool.{cond, _&&_};
+ghost use Prim.Native.Nat.{ℕ, _+_, _≤_};
+ghost use lib.ListN.{length, take, drop};
+ghost use Rattle.lexer.specs.Expression.{Exprs, Expr};
+ghost use Rattle.lexer.specs.Token.{atomValue};
+ghost use Rattle.document.specs.Value.{nonEmpty, isValue, namesBlock};
+ghost use Rattle.document.specs.Meaning.{judgeValue, valueTree, sizeTree, numberOf};
+ghost use Rattle.reader.specs.Stands.{Stands};
+ghost use Rattle.reader.specs.Sizes.{valueSize};
+ghost use Rattle.reader.specs.Walked.{walkedTo, Bounded};
+ghost use Rattle.reader.specs.Held.{Holds, Reads, holdsSort};
+
+// The one text or symbol of a run: its place, the length of what it stands for, and the place where the run ends.
+pub struct One {
+    pub good: bool,
+    pub place: usize,
+    pub length: usize,
+    pub end: usize,
+}
+
+// A width or height, or 65,536 where there is none, and the place after it.
+pub struct Number {
+    pub number: usize,
+    pub next: usize,
+}
+
+// What a parameter of a class holds from `from` on; of a type only a symbol counts.
+fn only(text: &[u8], from: usize, class: u8) -> One
+    requires { ⌜ from ≤ length (now text) ⌝ }
+    ensures { λ r. ⌜ Holds (now (text .entry)) from class r ⌝ }
+{
+    let first = look(text, from);
+    let next = first.next;
+    if !is_held(class, first.sort) {
+        return One {
+            good: false,
+            place: 0,
+            length: 0,
+            end: 0,
+        };
+    }
+    // Not where expressions stand.
+    if next <= from {
+        return One {
+            good: false,
+            place: 0,
+            length: 0,
+            end: 0,
+        };
+    }
+    let last = look(text, next);
+    One {
+        good: last.sort == 0,
+        place: first.place,
+        length: first.length,
+        end: last.place,
+    }
+}
+
+// What is seen is a symbol, or, but in a type, a string.
+fn is_held(class: u8, sort: u8) -> bool
+    ensures { λ r. ⌜ r ≡ holdsSort class sort ⌝ }
+{
+    if sort == 1 {
+        return true;
+    }
+    if class == 27 {
+        return false;
+    }
+    sort == 2
+}
+
+// The symbol or string at `place` has the characters of a value of a class in an element of a kind.
+fn is_value(text: &[u8], place: usize, kind: u8, class: u8) -> bool
+    ensures { λ r. ⌜ nonEmpty (atomValue (drop place (now (text .entry)))) && r ≡ isValue kind class (atomValue (drop place (now (text .entry)))) ⌝ }
+{
+    match class {
+        26 => atom_fits(text, place, 1),
+        27 => atom_fits(text, place, 0),
+        28 => atom_fits(text, place, target_sort(kind)),
+        _ => false,
+    }
+}
+
+// The characters of a target: those of an id where it names a block, else those of a URI.
+fn target_sort(kind: u8) -> u8
+    ensures { λ r. ⌜ r ≡ cond (namesBlock kind) 1 2 ⌝ }
+{
+    if kind == 13 {
+        return 1;
+    }
+    if kind == 15 {
+        return 1;
+    }
+    2
+}
+
+// The number that `length` bytes from `place` on write, or 65,536 where they are not one to five decimal digits.
+fn decimal(text: &[u8], place: usize, length: usize) -> usize
+    requires { ⌜ place + length ≤ lib.ListN.length (now text) ⌝ }
+    ensures { λ r. ⌜ r ≡ numberOf (Expr.symbol place (take length (drop place (now (text .entry))))) ⌝ }
+{
+    if length == 0 {
+        return 65536;
+    }
+    if 5 < length {
+        return 65536;
+    }
+    let end = place + length;
+    let mut number: usize = 0;
+    let mut i = place;
+    while i < end {
+        let b = text[i];
+        if b < 48 {
+            return 65536;
+        }
+        if 57 < b {
+            return 65536;
+        }
+        number = number * 10 + (b - 48) as usize;
+        i += 1;
+    }
+    number
+}
+
+// The width or height that is seen from `from` on.
+fn number_at(text: &[u8], from: usize) -> Number
+    requires { ⌜ from ≤ length (now text) ⌝ }
+    ensures { λ r. ⌜ Reads (now (text .entry)) from r ⌝ }
+{
+    let seen = look(text, from);
+    let next = seen.next;
+    if seen.sort != 1 {
+        return Number {
+            number: 65536,
+            next: from,
+        };
+    }
+    // Not where expressions stand.
+    if next <= from {
+        return Number {
+            number: 65536,
+            next: from,
+        };
+    }
+    Number {
+        number: decimal(text, seen.place, seen.length),
+        next,
+    }
+}
+
+// A size at `at`, whose numbers start at `from`.
+fn size(text: &[u8], at: usize, from: usize, kind: u8, nodes: usize, pool: usize) -> Walked
+    requires { ⌜ (from ≤ length (now text)) × (nodes ≤ from) × (pool ≤ from) ⌝ }
+    ensures { λ r. ⌜ Bounded (now (text .entry)) from r ⌝ }
+    ensures { λ r. ⌜ ((es : Exprs) (m : ℕ) → Stands (now (text .entry)) from es m
+        → r ≡ walkedTo m nodes pool (judgeValue kind at (sizeTree es))) ⌝ }
+{
+    let width = number_at(text, from);
+    if 65535 < width.number {
+        return refusal(10, at);
+    }
+    let height = number_at(text, width.next);
+    if 65535 < height.number {
+        return refusal(10, at);
+    }
+    let last = look(text, height.next);
+    if last.sort != 0 {
+        return refusal(10, at);
+    }
+    Walked {
+        number: 0,
+        place: 0,
+        next: last.place,
+        nodes,
+        pool,
+    }
+}
+
+// A list at `at` led by a parameter's name of a class, in an element of a kind; what follows the name starts at `from`.
+pub fn value(
+    text: &[u8],
+    at: usize,
+    from: usize,
+    kind: u8,
+    class: u8,
+    nodes: usize,
+    pool: usize,
+) -> Walked
+    requires { ⌜ (from ≤ length (now text)) × (nodes ≤ from) × (pool ≤ from) ⌝ }
+    ensures { λ r. ⌜ Bounded (now (text .entry)) from r ⌝ }
+    ensures { λ r. ⌜ ((es : Exprs) (m : ℕ) → Stands (now (text .entry)) from es m
+        → r ≡ walkedTo m nodes (pool + valueSize class es) (judgeValue kind at (valueTree class es))) ⌝ }
+{
+    if class == 29 {
+        return size(text, at, from, kind, nodes, pool);
+    }
+    let one = only(text, from, class);
+    if !one.good {
+        return refusal(10, at);
+    }
+    if !is_value(text, one.place, kind, class) {
+        return refusal(10, at);
+    }
+    Walked {
+        number: 0,
+        place: 0,
+        next: one.end,
+        nodes,
+        pool: pool + one.length,
+    }
+}

@@ -1,0 +1,300 @@
+// The judging walk over the text, which counts nodes and pool bytes (document 01, numbers 8 to 12).
+// "An item holds inline content, and inline content holds lists of items": the walk over inline content
+// calls the list and item walks, which call it back, and the bytes left fall.
+use super::value::value;
+use kind::may_end;
+use kind::step;
+use lexer::look;
+ghost use mathlib.Core.Path.{_≡_};
+ghost use mathlib.Core.Logic.{_⊎_};
+ghost use mathlib.Core.Bool.{cond};
+ghost use Prim.Native.Nat.{ℕ, _+_, _≤_, _<_};
+ghost use lib.Dec.{eqb};
+ghost use lib.ListN.{length};
+ghost use Rattle.kind.specs.Class.{isElement};
+ghost use Rattle.kind.specs.Inside.{start, ended};
+ghost use Rattle.kind.specs.Machine.{stateOf};
+ghost use Rattle.lexer.specs.Expression.{Exprs};
+ghost use Rattle.document.specs.Meaning.{Verdict, finish, run};
+ghost use Rattle.reader.specs.Stands.{Stands};
+ghost use Rattle.reader.specs.Sizes.{nodesIn, bytesIn};
+ghost use Rattle.reader.specs.Walked.{walkedTo, Bounded};
+ghost use Rattle.reader.specs.Turn.{Answers, Judges, Turned, Within, pastBracket};
+
+pub struct Walked {
+    pub number: u32,
+    pub place: usize,
+    pub next: usize,
+    pub nodes: usize,
+    pub pool: usize,
+}
+
+// One turn of a walk.
+pub enum Turn {
+    // The walk is over.
+    Done(Walked),
+    // A symbol or string was passed: the place after it, the counts of nodes and pool bytes with it, and the state.
+    Atom(usize, usize, usize, u8),
+    // A list: its place, the class of the name that leads it, the place after the name, and the state.
+    List(usize, u8, usize, u8),
+}
+
+pub fn refusal(number: u8, place: usize) -> Walked
+    ensures { λ r. ⌜ r ≡ walkedTo 0 0 0 (Verdict.fault number place) ⌝ }
+{
+    Walked {
+        number: number as u32,
+        place,
+        next: 0,
+        nodes: 0,
+        pool: 0,
+    }
+}
+
+// 9 is placed at the element's bracket, the others at the expression itself.
+pub fn fault_at(number: u8, at: usize, place: usize) -> Walked
+    ensures { λ r. ⌜ r ≡ walkedTo 0 0 0 (Verdict.fault number (cond (eqb number 9) at place)) ⌝ }
+{
+    if number == 9 {
+        return refusal(number, at);
+    }
+    refusal(number, place)
+}
+
+// At the end of a run, at `place`.
+pub fn at_end(at: usize, kind: u8, state: u8, place: usize, nodes: usize, pool: usize) -> Walked
+    ensures { λ r. ⌜ r ≡ walkedTo place nodes pool (cond (ended kind (stateOf kind state)) Verdict.fine (Verdict.fault 9 at)) ⌝ }
+{
+    if may_end(kind, state) {
+        return Walked {
+            number: 0,
+            place: 0,
+            next: place,
+            nodes,
+            pool,
+        };
+    }
+    refusal(9, at)
+}
+
+// The next expression in an element of a kind at `at`, read so far to this state.
+fn next_turn(
+    text: &[u8],
+    at: usize,
+    i: usize,
+    kind: u8,
+    state: u8,
+    nodes: usize,
+    pool: usize,
+) -> Turn
+    requires { ⌜ (i ≤ length (now text)) × (nodes ≤ i) × (pool ≤ i) ⌝ }
+    ensures { λ r. ⌜ Within (now (text .entry)) i r ⌝ }
+    ensures { λ r. ⌜ Turned (now (text .entry)) at kind i state nodes pool r ⌝ }
+{
+    let seen = look(text, i);
+    let place = seen.place;
+    if seen.sort == 0 {
+        return Turn::Done(at_end(at, kind, state, place, nodes, pool));
+    }
+    let class = seen.class;
+    let next = seen.next;
+    let taken = step(kind, state, class);
+    if taken.fault != 0 {
+        return Turn::Done(fault_at(taken.fault, at, place));
+    }
+    // Not where expressions stand; but the walk is to end on any bytes.
+    if next <= i {
+        return Turn::Done(refusal(8, place));
+    }
+    if seen.sort == 3 {
+        return Turn::List(place, class, next, taken.state);
+    }
+    Turn::Atom(next, nodes + 1, pool + seen.length, taken.state)
+}
+
+// From a list's closing bracket to the place after it; that there is a bracket is known only where expressions stand.
+pub fn past_bracket(text: &[u8], w: Walked) -> Walked
+    ensures { λ r. ⌜ r ≡ pastBracket (length (now (text .entry))) w ⌝ }
+{
+    if w.number != 0 {
+        return w;
+    }
+    let end = w.next;
+    if text.len() <= end {
+        return refusal(8, end);
+    }
+    Walked {
+        number: 0,
+        place: 0,
+        next: end + 1,
+        nodes: w.nodes,
+        pool: w.pool,
+    }
+}
+
+// A list led by a name of this class leads an element.
+pub fn is_element(class: u8) -> bool
+    ensures { λ r. ⌜ r ≡ isElement class ⌝ }
+{
+    if class < 1 {
+        return false;
+    }
+    if 25 < class {
+        return false;
+    }
+    class != 9
+}
+
+// A list at `at` in an element of kind `parent`, led by a name of this class; what follows the name starts at `from`.
+pub fn inside(
+    text: &[u8],
+    at: usize,
+    from: usize,
+    parent: u8,
+    class: u8,
+    nodes: usize,
+    pool: usize,
+) -> Walked
+    requires { ⌜ (from ≤ length (now text)) × (nodes < from) × (pool ≤ from) ⌝ }
+    ensures { λ r. ⌜ Bounded (now (text .entry)) from r ⌝ }
+    ensures { λ r. ⌜ Judges (now (text .entry)) at from parent class nodes pool r ⌝ }
+{
+    if !is_element(class) {
+        return value(text, at, from, parent, class, nodes, pool);
+    }
+    match class {
+        16 | 17 => list(text, at, from, class, nodes + 1, pool),
+        18 => item(text, at, from, nodes + 1, pool),
+        5 | 6 | 7 | 25 => inline(text, at, from, class, nodes + 1, pool),
+        _ => element(text, at, from, class, nodes + 1, pool),
+    }
+}
+
+// What follows the name in an element that holds inline content.
+fn inline(text: &[u8], at: usize, from: usize, kind: u8, nodes: usize, pool: usize) -> Walked
+    requires { ⌜ (from ≤ length (now text)) × (nodes ≤ from) × (pool ≤ from) ⌝ }
+    ensures { λ r. ⌜ Bounded (now (text .entry)) from r ⌝ }
+    ensures { λ r. ⌜ Answers (now (text .entry)) at kind from 0 nodes pool r ⌝ }
+{
+    let mut i = from;
+    let mut state: u8 = 0;
+    let mut n = nodes;
+    let mut p = pool;
+    loop {
+        let t = next_turn(text, at, i, kind, state, n, p);
+        match t {
+            Turn::Done(w) => {
+                return w;
+            }
+            Turn::Atom(next, n2, p2, s) => {
+                i = next;
+                n = n2;
+                p = p2;
+                state = s;
+                continue;
+            }
+            Turn::List(place, class, next, s) => {
+                let child = match class {
+                    16 | 17 => list(text, place, next, class, n + 1, p),
+                    _ => inside(text, place, next, kind, class, n, p),
+                };
+                let w = past_bracket(text, child);
+                if w.number != 0 {
+                    return w;
+                }
+                i = w.next;
+                n = w.nodes;
+                p = w.pool;
+                state = s;
+                continue;
+            }
+        }
+    }
+}
+
+// What follows the name in a list of items.
+fn list(text: &[u8], at: usize, from: usize, kind: u8, nodes: usize, pool: usize) -> Walked
+    requires { ⌜ (from ≤ length (now text)) × (nodes ≤ from) × (pool ≤ from) × ((kind ≡ 16) ⊎ (kind ≡ 17)) ⌝ }
+    ensures { λ r. ⌜ Bounded (now (text .entry)) from r ⌝ }
+    ensures { λ r. ⌜ Answers (now (text .entry)) at kind from 0 nodes pool r ⌝ }
+{
+    let mut i = from;
+    let mut state: u8 = 0;
+    let mut n = nodes;
+    let mut p = pool;
+    loop {
+        let t = next_turn(text, at, i, kind, state, n, p);
+        match t {
+            Turn::Done(w) => {
+                return w;
+            }
+            Turn::Atom(next, n2, p2, s) => {
+                i = next;
+                n = n2;
+                p = p2;
+                state = s;
+                continue;
+            }
+            // An item: the step takes nothing else.
+            Turn::List(place, _, next, s) => {
+                let w = past_bracket(text, item(text, place, next, n + 1, p));
+                if w.number != 0 {
+                    return w;
+                }
+                i = w.next;
+                n = w.nodes;
+                p = w.pool;
+                state = s;
+                continue;
+            }
+        }
+    }
+}
+
+// What follows the name in an item.
+fn item(text: &[u8], at: usize, from: usize, nodes: usize, pool: usize) -> Walked
+    requires { ⌜ (from ≤ length (now text)) × (nodes ≤ from) × (pool ≤ from) ⌝ }
+    ensures { λ r. ⌜ Bounded (now (text .entry)) from r ⌝ }
+    ensures { λ r. ⌜ Answers (now (text .entry)) at 18 from 0 nodes pool r ⌝ }
+{
+    inline(text, at, from, 18, nodes, pool)
+}
+
+// What follows the name in an element of a kind whose bracket is at `at`.
+pub fn element(text: &[u8], at: usize, from: usize, kind: u8, nodes: usize, pool: usize) -> Walked
+    requires { ⌜ (from ≤ length (now text)) × (nodes ≤ from) × (pool ≤ from) ⌝ }
+    ensures { λ r. ⌜ Bounded (now (text .entry)) from r ⌝ }
+    ensures { λ r. ⌜ ((es : Exprs) (e : ℕ) → Stands (now (text .entry)) from es e
+        → r ≡ walkedTo e (nodes + nodesIn es) (pool + bytesIn es) (finish at kind (run at kind (start kind) es))) ⌝ }
+{
+    let mut i = from;
+    let mut state: u8 = 0;
+    let mut n = nodes;
+    let mut p = pool;
+    loop {
+        let t = next_turn(text, at, i, kind, state, n, p);
+        match t {
+            Turn::Done(w) => {
+                return w;
+            }
+            Turn::Atom(next, n2, p2, s) => {
+                i = next;
+                n = n2;
+                p = p2;
+                state = s;
+                continue;
+            }
+            Turn::List(place, class, next, s) => {
+                let w = past_bracket(text, inside(text, place, next, kind, class, n, p));
+                if w.number != 0 {
+                    return w;
+                }
+                i = w.next;
+                n = w.nodes;
+                p = w.pool;
+                state = s;
+                continue;
+            }
+        }
+    }
+}
