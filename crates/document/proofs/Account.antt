@@ -12,7 +12,7 @@ use Rattle.utf8.specs.Scalar.{IsUtf8, IllFormedAt}
 use Rattle.utf8.specs.Sequence.{validUpTo}
 use Rattle.utf8.proofs.Walk.{valid-within}
 use Rattle.utf8.proofs.Agree.{valid-utf8, utf8-valid, fault-place, place-fault}
-use Rattle.lexer.specs.Expression.{Expr}
+use Rattle.syntax.specs.Expression.{Expr}
 use Rattle.document.specs.Document.{Node, says}
 use Rattle.document.specs.Spelling.{Spelling, Spells}
 use Rattle.document.specs.Meaning.{treeOf, places}
@@ -66,7 +66,7 @@ within-limits s text m short utf8 =
     let valid : length text ≤ validUpTo text = omega (arith, utf8-valid text utf8) in
     rw (le-ltb 65536 (length text) short, le-ltb (validUpTo text) (length text) valid)
 
-spelled-stored : (s : Spelling) (text : List ℕ) (m : Memory) (d : Node) → length text ≤ 65536 → (sp : Spells s d text)
+pub spelled-stored : (s : Spelling) (text : List ℕ) (m : Memory) (d : Node) → length text ≤ 65536 → (sp : Spells s d text)
     → outcome s text m ≡ stored text m (places (sp .expression)) d
 unfolding afterReading
 spelled-stored s text m d short sp = within-limits s text m short (sp .utf8) ∙ rw (spelled-read sp, spelled-means sp)

@@ -9,7 +9,7 @@ use lib.Dec.{eqb}
 use lib.ListN.{length}
 use borrow.Author.Tests.{eqb-true, eq-eqb}
 use Rattle.laws.proofs.Booleans.{cond-case}
-use Rattle.kind.specs.Class as Class
+use Rattle.elements.specs.Class as Class
 use Rattle.document.specs.Document.{Node, node, Nodes, childless, child, missing}
 use Rattle.document.specs.Table.{count, pool}
 use Rattle.document.specs.WellFormed.{First, nowhere, at-node, orElse, childCount, Cells, any-number, exactly, cellsIn, cellsBelow, differs, badRow, badRowAmong}

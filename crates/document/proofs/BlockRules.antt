@@ -9,11 +9,11 @@ use lib.Dec.{T, eqb, leb, ltb, leb→le, ltb→lt, eqb→eq}
 use borrow.Author.Tests.{eqb-true}
 use Rattle.laws.proofs.Tables.{every, below, each-below}
 use Rattle.laws.proofs.Booleans.{cond-case, both, true-T, T-true, not-true}
-use Rattle.kind.specs.Bytes.{among}
-use Rattle.kind.specs.Class as Class
-use Rattle.kind.specs.Rules.{Slot, must, may, id-type, Content, any-of, exactly-one, rules, ruleIn, ruleOf}
-use Rattle.kind.specs.Inside.{State, expecting, holding, Step, go, bad, sort, isInclude, allows, firstChild, nextChild, nextParameter, step, start}
-use Rattle.kind.proofs.Same.{each-among}
+use Rattle.elements.specs.Bytes.{among}
+use Rattle.elements.specs.Class as Class
+use Rattle.elements.specs.Rules.{Slot, must, may, id-type, Content, any-of, exactly-one, rules, ruleIn, ruleOf}
+use Rattle.elements.specs.Inside.{State, expecting, holding, Step, go, bad, sort, isInclude, allows, firstChild, nextChild, nextParameter, step, start}
+use Rattle.elements.proofs.Same.{each-among}
 use Rattle.document.specs.Spelling.{isBlockParameter}
 
 -- Parameters that a block may have.

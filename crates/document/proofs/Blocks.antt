@@ -6,9 +6,9 @@ use native.Mathlib.Omega.{arith}
 use lib.Dec.{T, eqb}
 use borrow.Author.Tests.{eqb-true, le-leb, ne-eqb}
 use Rattle.laws.proofs.Booleans.{cond-case}
-use Rattle.kind.specs.Class as Class
-use Rattle.kind.specs.Inside.{State, go, step, start}
-use Rattle.lexer.specs.Expression.{Expr, symbol, quoted, list, Exprs, none, and, place}
+use Rattle.elements.specs.Class as Class
+use Rattle.elements.specs.Inside.{State, go, step, start}
+use Rattle.syntax.specs.Expression.{Expr, symbol, quoted, list, Exprs, none, and, place}
 use Rattle.document.specs.Spelling.{leadClass, listClass, exprClass, isBlockParameter, parameters, join, flatten, flattenContent}
 use Rattle.document.specs.Meaning.{Verdict, fine, finish, judge, judgeList, run, judgeRoot}
 use Rattle.document.proofs.Nested.{not-fine, passed}

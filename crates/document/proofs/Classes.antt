@@ -6,12 +6,12 @@ use mathlib.Core.List.{List, [], _∷_}
 use lib.Dec.{T, eqb}
 use Rattle.laws.proofs.Booleans.{cond-case, both}
 use Rattle.laws.proofs.Tables.{every}
-use Rattle.kind.specs.Bytes.{same}
-use Rattle.kind.specs.Class as Class
-use Rattle.kind.specs.Class.{Named, names, classIn, classOf}
-use Rattle.kind.specs.Rules.{Slot, must, may, id-type, Content, any-of, exactly-one, Rule, rules, ruleIn, ruleOf}
-use Rattle.kind.proofs.Same.{each-among}
-use Rattle.lexer.specs.Expression.{Expr, symbol, quoted, list}
+use Rattle.elements.specs.Bytes.{same}
+use Rattle.elements.specs.Class as Class
+use Rattle.elements.specs.Class.{Named, names, classIn, classOf}
+use Rattle.elements.specs.Rules.{Slot, must, may, id-type, Content, any-of, exactly-one, Rule, rules, ruleIn, ruleOf}
+use Rattle.elements.proofs.Same.{each-among}
+use Rattle.syntax.specs.Expression.{Expr, symbol, quoted, list}
 use Rattle.document.specs.Spelling.{leadClass}
 use Rattle.document.specs.Faults.{Next, Begun, due, children, Allowed, Taken}
 

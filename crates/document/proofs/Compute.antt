@@ -3,15 +3,15 @@ use lib.Count.{leadingZeros}
 use Rattle.utf8.specs.Scalar
 use Rattle.utf8.specs.Sequence
 use Rattle.utf8.specs.Position
-use Rattle.kind.specs.Bytes
-use Rattle.kind.specs.Class
-use Rattle.kind.specs.Rules
-use Rattle.kind.specs.Characters
-use Rattle.kind.specs.Inside
-use Rattle.lexer.specs.Byte
-use Rattle.lexer.specs.Syntax
-use Rattle.lexer.specs.Expression
-use Rattle.lexer.specs.Scan
+use Rattle.elements.specs.Bytes
+use Rattle.elements.specs.Class
+use Rattle.elements.specs.Rules
+use Rattle.elements.specs.Characters
+use Rattle.elements.specs.Inside
+use Rattle.syntax.specs.Byte
+use Rattle.syntax.specs.Syntax
+use Rattle.syntax.specs.Expression
+use Rattle.syntax.specs.Scan
 use Rattle.document.specs.Value
 use Rattle.document.specs.Document
 use Rattle.document.specs.Spelling
@@ -120,7 +120,7 @@ unfolding Canonical.valueBefore Canonical.sizeBefore Canonical.keyClass Canonica
 canonical = tt
 
 unfoldable printing : Unit {0}
-unfolding Printing.part Printing.below Printing.notBelow Printing.addRecord Printing.rebuild Printing.candidate Printing.isSound Printing.hasTable
+unfolding Printing.part Printing.below Printing.notBelow Printing.addRecord Printing.rebuild Printing.candidate Printing.hasDraft Printing.checkedAs Printing.checking
     Printing.treeOfTable Printing.written Printing.printing
 printing = tt
 

@@ -5,9 +5,9 @@ use mathlib.Core.Bool.{false}
 use native.Mathlib.Omega.{arith}
 use lib.Dec.{T}
 use Rattle.laws.proofs.Booleans.{bool-case, true-T, T-true}
-use Rattle.kind.specs.Class as Class
-use Rattle.kind.specs.Inside.{State, expecting, holding, start}
-use Rattle.lexer.specs.Expression.{Expr, symbol, quoted, list, Exprs, none, and, depth, depthAll}
+use Rattle.elements.specs.Class as Class
+use Rattle.elements.specs.Inside.{State, expecting, holding, start}
+use Rattle.syntax.specs.Expression.{Expr, symbol, quoted, list, Exprs, none, and, depth, depthAll}
 use Rattle.document.specs.Spelling.{leadClass, listClass, exprClass, isBlockParameter, parameters, join, flatten, flattenContent}
 use Rattle.document.specs.Meaning.{fine, judge, judgeList, judgeRoot}
 use Rattle.document.specs.Imperative.{regroup}

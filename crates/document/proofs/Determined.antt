@@ -21,7 +21,7 @@ cut (a ∷ s) (b ∷ t) x y l e =
     (cc, r .1)
 
 -- A node counts itself.
-count-positive : (n : Node) → 0 < count n
+pub count-positive : (n : Node) → 0 < count n
 unfolding count
 count-positive (node k key type text w h ns) = omega arith
 

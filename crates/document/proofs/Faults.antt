@@ -7,11 +7,11 @@ use lib.Dec.{T, eqb, T-not}
 use native.Mathlib.Omega.{arith}
 use borrow.Author.Tests.{eqb-true, eqb-false, eq-eqb, ne-eqb}
 use Rattle.laws.proofs.Booleans.{both, cond-case, true-T, T-true, or-true, not-T-false, false-not-T}
-use Rattle.kind.specs.Class as Class
-use Rattle.kind.specs.Rules.{ruleOf}
-use Rattle.kind.specs.Inside.{State, Step, go, bad, step, start, ended}
-use Rattle.lexer.specs.Expression.{Expr, symbol, quoted, list, Exprs, none, and, place}
-use Rattle.lexer.proofs.Atoms.{AtomsOf}
+use Rattle.elements.specs.Class as Class
+use Rattle.elements.specs.Rules.{ruleOf}
+use Rattle.elements.specs.Inside.{State, Step, go, bad, step, start, ended}
+use Rattle.syntax.specs.Expression.{Expr, symbol, quoted, list, Exprs, none, and, place}
+use Rattle.syntax.proofs.Atoms.{AtomsOf}
 use Rattle.document.specs.Document.{keepsRules}
 use Rattle.document.specs.Spelling.{leadClass, listClass, exprClass}
 use Rattle.document.specs.Meaning.{Verdict, fine, fault, Progress, reached, faultAt, advance, finish, judgeValue, valueTree}

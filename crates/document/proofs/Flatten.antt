@@ -7,9 +7,9 @@ use native.Mathlib.Omega.{arith}
 use lib.Dec.{T, eqb}
 use borrow.Author.Tests.{le-leb, lt-leb}
 use Rattle.laws.proofs.Booleans.{bool-case, true-T, T-true}
-use Rattle.kind.specs.Class as Class
-use Rattle.kind.specs.Inside.{State, expecting, holding, go, start}
-use Rattle.lexer.specs.Expression.{Expr, symbol, quoted, list, Exprs, none, and}
+use Rattle.elements.specs.Class as Class
+use Rattle.elements.specs.Inside.{State, expecting, holding, go, start}
+use Rattle.syntax.specs.Expression.{Expr, symbol, quoted, list, Exprs, none, and}
 use Rattle.document.specs.Spelling.{leadClass, listClass, exprClass, isBlockParameter, parameters, join, flatten, flattenContent}
 use Rattle.document.specs.Meaning.{fine, judge, judgeList, judgeRoot}
 use Rattle.document.specs.Imperative.{inCommand, loose, isCommand, block, stillOpen, childOf, opened}

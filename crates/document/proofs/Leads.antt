@@ -1,8 +1,8 @@
 -- A list whose lead has a class is led by that class's own name. Assumes nothing.
 use Prim.Native.Nat.{ℕ}
 use mathlib.Core.Path.{_≡_, sym}
-use Rattle.kind.proofs.Names.{named}
-use Rattle.lexer.specs.Expression.{Expr, symbol, quoted, list, Exprs, and}
+use Rattle.elements.proofs.Names.{named}
+use Rattle.syntax.specs.Expression.{Expr, symbol, quoted, list, Exprs, and}
 use Rattle.document.specs.Document.{Tree}
 use Rattle.document.specs.Spelling.{Writes, bracketed, leadClass}
 

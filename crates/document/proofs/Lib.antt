@@ -25,3 +25,14 @@ pub mod Prose
 pub mod TableRows
 pub mod Depth
 pub mod CheckedNode
+pub mod SameDocument
+pub mod Unaltered
+pub mod Arranged
+pub mod LaidOut
+pub mod Levels
+pub mod CanonicalStrings
+pub mod CanonicalSymbols
+pub mod CanonicalSpells
+pub mod Rebuild
+pub mod PrintingDecided
+pub mod RoundTrip

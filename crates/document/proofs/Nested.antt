@@ -8,10 +8,10 @@ use lib.Dec.{T, eqb, leb, leb→le, T-not, lit≤}
 use native.Mathlib.Omega.{arith}
 use borrow.Author.Tests.{eqb-true, eq-eqb, lt-leb}
 use Rattle.laws.proofs.Booleans.{cond-case, both, both-true, and-false, true-T, T-true}
-use Rattle.kind.specs.Class as Class
-use Rattle.kind.specs.Inside.{State, Step, go, bad, step, start, ended}
-use Rattle.lexer.specs.Expression.{Expr, symbol, quoted, list, Exprs, none, and, place}
-use Rattle.lexer.proofs.Atoms.{AtomsOf, AllAtoms}
+use Rattle.elements.specs.Class as Class
+use Rattle.elements.specs.Inside.{State, Step, go, bad, step, start, ended}
+use Rattle.syntax.specs.Expression.{Expr, symbol, quoted, list, Exprs, none, and, place}
+use Rattle.syntax.proofs.Atoms.{AtomsOf, AllAtoms}
 use Rattle.document.specs.Value.{nonEmpty, isText, isValue}
 use Rattle.document.specs.Document.{Tree, text, value, size, element, Trees, empty, holds, treeClass, goesOn, keepsRules, keepRules, isDocument}
 use Rattle.document.specs.Spelling.{Writes, writes-text, writes-value, writes-type, writes-size, writes-element, WritesAll}
@@ -21,7 +21,7 @@ use Rattle.document.specs.Meaning.{textBytes, onlyOne, sizeTree, valueTr
 use Rattle.document.specs.Meaning.{faultAt, advance, finish, judgeValue, judge, judgeList, run, judgeRoot}
 use Rattle.document.proofs.Leads.{by-lead}
 use Rattle.document.proofs.Values.{value-written, OfText, of-text, text-bytes, type-tree, size-tree}
-use Rattle.kind.proofs.Names.{name-of-class}
+use Rattle.elements.proofs.Names.{name-of-class}
 
 -- Every symbol and quoted string, at any depth, is a text: one or more code points.
 abbrev pub AllText : Expr → Type 0
@@ -122,7 +122,7 @@ mutual
       let hs = run-sound at k (on .0) es (a .1) (on .3) in
       (kept-on k s (on .0) (treeOf e) (treesOf es) (rw (tree-class e) (on .1)) (h .0) (hs .0), writes-and (h .1) (hs .1))
 
-goes-on : (st : Step) (rest : State → Bool) → T (goesOn st rest) → (s : State) × (st ≡ go s) × T (rest s)
+pub goes-on : (st : Step) (rest : State → Bool) → T (goesOn st rest) → (s : State) × (st ≡ go s) × T (rest s)
 unfolding goesOn
 goes-on (go s) rest t = (s, refl, t)
 goes-on (bad n) rest t = absurd t

@@ -1,4 +1,4 @@
--- Which numbers a refusal can have: the scan answers from 3 on, the walk 8 to 12, the check from 15 on. Assumes nothing.
+-- Which numbers a refusal can have: the scan answers 3 to 6, the walk 8 to 12, the check 15 to 18. Assumes nothing.
 use Prim.Native.Nat.{ℕ, _≤_}
 use mathlib.Core.Path.{_≡_, refl}
 use mathlib.Core.Bool.{Bool, true, false, cond}
@@ -6,12 +6,12 @@ use mathlib.Core.List.{List, [], _∷_}
 use native.Mathlib.Omega.{arith}
 use lib.Dec.{T, eqb}
 use Rattle.laws.proofs.Booleans.{cond-case}
-use Rattle.kind.specs.Bytes.{among}
-use Rattle.kind.specs.Class as Class
-use Rattle.kind.specs.Rules.{Slot, must, may, id-type, Content, any-of, exactly-one, ruleOf}
-use Rattle.kind.specs.Inside.{State, expecting, holding, Step, go, bad, step, start, ended, firstChild, nextChild, nextParameter, isInclude, allows, sort}
-use Rattle.lexer.specs.Expression.{Expr, symbol, quoted, list, Exprs, none, and, place}
-use Rattle.lexer.specs.Fault.{Opened, Hit, control, lone-return, no-escape, empty-string, unclosed-string, unopened, other-partner, left-open, too-deep}
+use Rattle.elements.specs.Bytes.{among}
+use Rattle.elements.specs.Class as Class
+use Rattle.elements.specs.Rules.{Slot, must, may, id-type, Content, any-of, exactly-one, ruleOf}
+use Rattle.elements.specs.Inside.{State, expecting, holding, Step, go, bad, step, start, ended, firstChild, nextChild, nextParameter, isInclude, allows, sort}
+use Rattle.syntax.specs.Expression.{Expr, symbol, quoted, list, Exprs, none, and, place}
+use Rattle.syntax.specs.Fault.{Opened, Hit, control, lone-return, no-escape, empty-string, unclosed-string, unopened, other-partner, left-open, too-deep}
 use Rattle.document.specs.Document.{Node, keepsRules}
 use Rattle.document.specs.Faults.{RootFault}
 use Rattle.document.specs.Account as Account
@@ -105,7 +105,7 @@ unfolding judgeRoot
 root-number e = cond-case VerdictNumber (eqb (exprClass e) Class.document) (λ _. judge-number 0 e) (λ _. omega arith)
 
 -- The numbers of the other groups.
-hit-number : {room : ℕ} {o : Opened} {rest : List ℕ} {n p : ℕ} → Hit room o rest n p → 3 ≤ n
+hit-number : {room : ℕ} {o : Opened} {rest : List ℕ} {n p : ℕ} → Hit room o rest n p → (3 ≤ n) × (n ≤ 6)
 hit-number (control c) = omega arith
 hit-number (lone-return c) = omega arith
 hit-number (no-escape ps s a e) = omega arith
@@ -116,13 +116,13 @@ hit-number (other-partner c e) = omega arith
 hit-number left-open = omega arith
 hit-number (too-deep b e) = omega arith
 
-root-fault-number : (e : Expr) (n p : ℕ) → RootFault e n p → 8 ≤ n
+root-fault-number : (e : Expr) (n p : ℕ) → RootFault e n p → OfWalk n
 root-fault-number e n p f =
     let h : VerdictNumber (fault n p) = rw (named-fault e n p f) at (root-number e) in
-    h .0
+    h
 
-pub refused-number : {s : Spelling} {text : List ℕ} {n p : ℕ} → RefusedFor s text n p → 3 ≤ n
-refused-number (Account.no-syntax f) = hit-number (f .hit)
+pub refused-number : {s : Spelling} {text : List ℕ} {n p : ℕ} → RefusedFor s text n p → (3 ≤ n) × (n ≤ 19)
+refused-number (Account.no-syntax f) = omega (arith, hit-number (f .hit))
 refused-number (Account.no-expression x) = omega arith
 refused-number (Account.second-expression e x) = omega arith
 refused-number (Account.against-rules {e = e} {n = n} {p = p} x form f) = omega (arith, root-fault-number e n p f)
@@ -130,14 +130,14 @@ refused-number (Account.too-deep i x form w l deep) = omega arith
 
 abbrev CheckNumber : Check → Type 0
 CheckNumber sound = Unit {0}
-CheckNumber (unsound n i) = 15 ≤ n
+CheckNumber (unsound n i) = (15 ≤ n) × (n ≤ 18)
 
-by-number : (n : ℕ) (f : First) (next : Check) → 15 ≤ n → CheckNumber next → CheckNumber (checkedBy n f next)
+by-number : (n : ℕ) (f : First) (next : Check) → (15 ≤ n) × (n ≤ 18) → CheckNumber next → CheckNumber (checkedBy n f next)
 unfolding checkedBy
 by-number n nowhere next h i = i
 by-number n (at-node j) next h i = h
 
-pub check-number : (d : Node) (n i : ℕ) → check d ≡ unsound n i → 15 ≤ n
+pub check-number : (d : Node) (n i : ℕ) → check d ≡ unsound n i → (15 ≤ n) × (n ≤ 18)
 unfolding check
 check-number d n i e =
     let numbers : CheckNumber (check d) =

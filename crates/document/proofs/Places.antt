@@ -8,9 +8,9 @@ use lib.Dec.{T, eqb}
 use lib.ListN.{length, length-append}
 use borrow.Author.Tests.{eqb-true}
 use Rattle.laws.proofs.Booleans.{cond-case, T-true}
-use Rattle.kind.specs.Class as Class
-use Rattle.kind.specs.Inside.{State, step, start}
-use Rattle.lexer.specs.Expression.{Expr, symbol, quoted, list, Exprs, none, and, place}
+use Rattle.elements.specs.Class as Class
+use Rattle.elements.specs.Inside.{State, step, start}
+use Rattle.syntax.specs.Expression.{Expr, symbol, quoted, list, Exprs, none, and, place}
 use Rattle.document.specs.Document.{Tree, element, Trees, holds, isNode, says, sayAll, child}
 use Rattle.document.specs.Table.{count, countAll}
 use Rattle.document.specs.Spelling.{leadClass, listClass, exprClass}

@@ -10,19 +10,19 @@ use lib.Dec.{T, eqb, eqb→eq, eqb-refl}
 use lib.Seq.{append-snoc}
 use borrow.Author.Tests.{eqb-true, eq-eqb, not-false}
 use Rattle.laws.proofs.Booleans.{cond-case, bool-case, both, both-true, or-true, or-left, or-right, true-T, T-true, not-true, false-not-T}
-use Rattle.kind.specs.Bytes.{same}
-use Rattle.kind.specs.Class as Class
+use Rattle.elements.specs.Bytes.{same}
+use Rattle.elements.specs.Class as Class
 use Rattle.document.specs.Document.{Node, node, Nodes, childless, child}
 use Rattle.document.specs.Value.{nonEmpty}
 use Rattle.document.specs.Table.{count}
 use Rattle.document.specs.WellFormed.{First, nowhere, at-node, orElse, childCount, Cells, any-number, exactly, cellsIn, cellsBelow, differs, badRow, badRowAmong, Entry, entries, hasId, isAmong, repeatedId, idsWhere, unknownTarget, unknownLink, unknownFootnote, Check, sound, unsound, checkedBy, check, WellFormed}
 use Rattle.document.specs.Prose.{nodeKind, nodeChildren, In, InSome, RowAt, RowAmong, RowsMatch, IdsDifferAmong, HasIdAmong, IdsDiffer, LinksFound, RefsFound, Prose}
-use Rattle.kind.proofs.Same.{same-equal}
+use Rattle.elements.proofs.Same.{same-equal}
 use Rattle.document.proofs.Records.{upFrom, entry-numbers}
 use Rattle.document.proofs.BadRow.{rowEntries, FirstBad, BadAnswer, bad-row-answer, BadRowAt, first-bad-row}
 
 -- A string is the same as itself.
-same-refl : (xs : List ℕ) → T (same xs xs)
+pub same-refl : (xs : List ℕ) → T (same xs xs)
 unfolding same
 same-refl [] = tt
 same-refl (x ∷ xs) = both-true (eqb x x) (same xs xs) (eqb-refl x) (same-refl xs)

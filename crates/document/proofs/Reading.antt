@@ -10,16 +10,16 @@ use lib.Dec.{T, ltb, eqb}
 use lib.ListN.{length}
 use Rattle.laws.proofs.Booleans.{cond-case}
 use Rattle.utf8.specs.Scalar.{IsUtf8}
-use Rattle.lexer.specs.Syntax.{Forest, another, Ok, bytesOf, levels}
-use Rattle.lexer.specs.Expression.{Expr, symbol, quoted, list, Exprs, none, and, locate, place, depth, depthAll}
-use Rattle.lexer.specs.Scan as Scan
-use Rattle.lexer.specs.Scan.{Scanned, scan}
-use Rattle.lexer.specs.Fault.{Fault}
-use Rattle.lexer.proofs.Accepted.{accepted}
-use Rattle.lexer.proofs.Decided.{accepts, refused-fault}
-use Rattle.lexer.proofs.Refused.{fault-refused}
-use Rattle.lexer.proofs.Located.{located-depth}
-use Rattle.lexer.proofs.Atoms.{AtomsOf}
+use Rattle.syntax.specs.Syntax.{Forest, another, Ok, bytesOf, levels}
+use Rattle.syntax.specs.Expression.{Expr, symbol, quoted, list, Exprs, none, and, locate, place, depth, depthAll}
+use Rattle.syntax.specs.Scan as Scan
+use Rattle.syntax.specs.Scan.{Scanned, scan}
+use Rattle.syntax.specs.Fault.{Fault}
+use Rattle.syntax.proofs.Accepted.{accepted}
+use Rattle.syntax.proofs.Decided.{accepts, refused-fault}
+use Rattle.syntax.proofs.Refused.{fault-refused}
+use Rattle.syntax.proofs.Located.{located-depth}
+use Rattle.syntax.proofs.Atoms.{AtomsOf}
 use Rattle.document.specs.Document.{Tree, Node, isDocument, says}
 use Rattle.document.specs.Spelling.{Spelling, nested, imperative, Spells, Writes, spelledAs, mostLevels, flatten}
 use Rattle.document.specs.Meaning.{Verdict, fine, fault, judgeRoot, treeOf}
@@ -135,6 +135,11 @@ one-found imperative n e ok deep =
     rw (fl, re, ok, le-ltb _ _ deep)
 
 -- What is spelled is read as the expression that spells it, and means the document.
+pub spelled-one : {s : Spelling} {d : Node} {text : List ℕ} (sp : Spells s d text) → oneExpression s (length text) (locate 0 (sp .forest)) ≡ read (sp .expression)
+spelled-one {s} {d} {text} sp =
+    let (ok, same) = root-complete (sp .tree) (sp .expression) (sp .writes) (sp .lawful) in
+    rw (sp .expressions) (one-found s (length text) (sp .expression) ok (sp .nested-within))
+
 pub spelled-read : {s : Spelling} {d : Node} {text : List ℕ} (sp : Spells s d text) → reading s text ≡ read (sp .expression)
 spelled-read {s} {d} {text} sp =
     let (ok, same) = root-complete (sp .tree) (sp .expression) (sp .writes) (sp .lawful) in

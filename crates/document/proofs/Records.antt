@@ -293,7 +293,7 @@ unfolding visitsOf
 strings-placed d v m = rw (pool-strings d 0 missing 0) (strings-at (visitsOf d) [] 0 v (visits-started d 0 missing 0) refl m)
 
 -- Offset and length name a string's bytes; of an empty one they name nothing.
-named : (q s r : List ℕ) (p : ℕ) → length q ≡ p → take (length s) (drop (offset p s) (q ++ (s ++ r))) ≡ s
+pub named : (q s r : List ℕ) (p : ℕ) → length q ≡ p → take (length s) (drop (offset p s) (q ++ (s ++ r))) ≡ s
 unfolding offset
 named q [] r p e = refl
 named q (b ∷ s) r p e = part-at q (b ∷ s) r p (length (b ∷ s)) e refl

@@ -8,10 +8,10 @@ use lib.Dec.{T, eqb, leb, lit<}
 use lib.ListN.{length}
 use borrow.Author.Tests.{leb-true, ne-eqb}
 use Rattle.laws.proofs.Booleans.{cond-case, bool-case, both, and-true, or-false, true-T, T-true, not-true}
-use Rattle.kind.specs.Bytes.{among}
-use Rattle.kind.specs.Class as Class
-use Rattle.kind.specs.Inside.{State, start}
-use Rattle.lexer.specs.Expression.{Expr, symbol, quoted, list, Exprs, none, and}
+use Rattle.elements.specs.Bytes.{among}
+use Rattle.elements.specs.Class as Class
+use Rattle.elements.specs.Inside.{State, start}
+use Rattle.syntax.specs.Expression.{Expr, symbol, quoted, list, Exprs, none, and}
 use Rattle.document.specs.Spelling.{leadClass, listClass, exprClass, isBlockParameter, parameters, join, flatten, flattenContent}
 use Rattle.document.specs.Meaning.{fine, judge, judgeList, judgeRoot}
 use Rattle.document.specs.Imperative.{notAllowed, inCommand, loose, isCommand, block, stillOpen, childOf, opened}

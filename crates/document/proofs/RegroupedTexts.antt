@@ -1,8 +1,8 @@
 -- Regrouping an imperative text brings nothing into it: where all its symbols and strings are texts, so are those of its nested form. Assumes nothing.
 use Prim.Native.Nat.{ℕ}
 use native.Mathlib.Omega.{arith}
-use Rattle.lexer.specs.Expression.{Expr, Exprs, and}
-use Rattle.lexer.proofs.Atoms.{AtomsOf}
+use Rattle.syntax.specs.Expression.{Expr, Exprs, and}
+use Rattle.syntax.proofs.Atoms.{AtomsOf}
 use Rattle.document.specs.Imperative.{notAllowed, regroup}
 use Rattle.document.proofs.Nested.{AllText, AllTexts}
 use Rattle.document.proofs.RegroupedAll.{Laws, regrouped-all}

@@ -9,9 +9,9 @@ use Rattle.laws.proofs.Booleans.{true-T}
 use Rattle.utf8.specs.Scalar.{IsUtf8}
 use Rattle.utf8.specs.Sequence.{validUpTo}
 use Rattle.utf8.proofs.Agree.{utf8-valid}
-use Rattle.lexer.specs.Syntax.{Forest, another, Ok, bytesOf}
-use Rattle.lexer.specs.Expression.{Exprs, locate}
-use Rattle.lexer.proofs.Atoms.{IsText, AllAtoms, all-atoms-map, atoms-utf8}
+use Rattle.syntax.specs.Syntax.{Forest, another, Ok, bytesOf}
+use Rattle.syntax.specs.Expression.{Exprs, locate}
+use Rattle.syntax.proofs.Atoms.{IsText, AllAtoms, all-atoms-map, atoms-utf8}
 use Rattle.document.specs.Value.{nonEmpty, isText}
 use Rattle.document.proofs.Nested.{AllTexts}
 

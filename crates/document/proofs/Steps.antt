@@ -7,11 +7,11 @@ use mathlib.Core.List.{List, [], _∷_}
 use lib.Dec.{T, eqb, eqb-refl, eqb→eq}
 use borrow.Author.Tests.{eqb-true, eqb-false, ne-eqb, eq-eqb}
 use Rattle.laws.proofs.Booleans.{cond-case, bool-case, true-T, T-true, not-T-false, false-not-T}
-use Rattle.kind.specs.Bytes.{among}
-use Rattle.kind.specs.Class as Class
-use Rattle.kind.specs.Rules.{Slot, must, may, id-type, Content, any-of, exactly-one, ruleOf}
-use Rattle.kind.specs.Inside.{State, expecting, holding, Step, go, bad, step, ended, noneRequired, mayBeEmpty}
-use Rattle.kind.specs.Inside.{firstChild, nextChild, nextParameter, isInclude, allows, sort}
+use Rattle.elements.specs.Bytes.{among}
+use Rattle.elements.specs.Class as Class
+use Rattle.elements.specs.Rules.{Slot, must, may, id-type, Content, any-of, exactly-one, ruleOf}
+use Rattle.elements.specs.Inside.{State, expecting, holding, Step, go, bad, step, ended, noneRequired, mayBeEmpty}
+use Rattle.elements.specs.Inside.{firstChild, nextChild, nextParameter, isInclude, allows, sort}
 use Rattle.document.specs.Faults.{Next, NoneDue, Absent, Begun, due, children, ContentPlace, Allowed, SameSort, Taken, NoneRequired, MayEnd}
 
 abbrev pub begunOf : State → Begun

@@ -8,10 +8,10 @@ use native.Mathlib.Omega.{arith}
 use lib.Dec.{T, eqb}
 use borrow.Author.Tests.{eqb-true, eq-eqb, ne-eqb}
 use Rattle.laws.proofs.Booleans.{cond-case, both}
-use Rattle.kind.specs.Bytes.{among}
-use Rattle.kind.specs.Class as Class
-use Rattle.kind.specs.Rules.{Slot, must, may, id-type, Content, any-of, exactly-one, rules, ruleIn, ruleOf}
-use Rattle.kind.specs.Inside.{State, expecting, holding, Step, go, bad, sort, isInclude, allows, firstChild, nextChild, nextParameter, step, start}
+use Rattle.elements.specs.Bytes.{among}
+use Rattle.elements.specs.Class as Class
+use Rattle.elements.specs.Rules.{Slot, must, may, id-type, Content, any-of, exactly-one, rules, ruleIn, ruleOf}
+use Rattle.elements.specs.Inside.{State, expecting, holding, Step, go, bad, sort, isInclude, allows, firstChild, nextChild, nextParameter, step, start}
 use Rattle.document.specs.Document.{Tree, text, value, size, element, Trees, empty, holds, treeClass, goesOn, keepsRules, keepRules, Node, node, Nodes, childless, child, isNode, says, sayAll, isDocument, Document}
 use Rattle.document.specs.WellFormed.{childCount, Cells, exactly, headCells, cellsIn, WellFormed}
 use Rattle.document.specs.Prose.{nodeKind, nodeChildren, OneOf, In, InSome, RowAt, RowAmong, RowsMatch, RowsMatchHead, IdsDiffer, LinksFound, RefsFound}

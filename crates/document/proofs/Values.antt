@@ -7,9 +7,9 @@ use mathlib.Core.List.{List}
 use lib.Dec.{T, eqb, leb, eqb→eq, lit≤}
 use borrow.Author.Tests.{eqb-true}
 use Rattle.laws.proofs.Booleans.{cond-case, both, or-true, true-T, T-true}
-use Rattle.kind.specs.Class as Class
-use Rattle.lexer.specs.Expression.{Expr, symbol, quoted, list, Exprs, none, and}
-use Rattle.kind.specs.Characters.{typeCharacter, idCharacter}
+use Rattle.elements.specs.Class as Class
+use Rattle.syntax.specs.Expression.{Expr, symbol, quoted, list, Exprs, none, and}
+use Rattle.elements.specs.Characters.{typeCharacter, idCharacter}
 use Rattle.document.specs.Value.{nonEmpty, every, isValue, isSize, isDecimal, targetCharacter}
 use Rattle.document.specs.Document.{Tree, value, size, keepsRules}
 use Rattle.document.specs.Spelling.{WritesText, as-symbol, as-string, WritesNumber, Writes, writes-value, writes-type, writes-size}

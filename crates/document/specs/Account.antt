@@ -3,12 +3,13 @@
 use Prim.Native.Nat.{ℕ, _≤_, _<_}
 use mathlib.Core.Path.{_≡_}
 use mathlib.Core.List.{List}
-use lib.Dec.{T}
+use mathlib.Core.Bool.{Bool, _&&_, _||_}
+use lib.Dec.{T, eqb, leb}
 use lib.ListN.{length, getD}
 use Rattle.utf8.specs.Scalar.{IsUtf8, IllFormedAt}
-use Rattle.lexer.specs.Syntax.{Forest, another, Ok, bytesOf, levels}
-use Rattle.lexer.specs.Expression.{Expr, Exprs, none, and, place, locate, depth}
-use Rattle.lexer.specs.Fault.{Fault}
+use Rattle.syntax.specs.Syntax.{Forest, another, Ok, bytesOf, levels}
+use Rattle.syntax.specs.Expression.{Expr, Exprs, none, and, place, locate, depth}
+use Rattle.syntax.specs.Fault.{Fault}
 use Rattle.document.specs.Document.{Tree, Node, isDocument}
 use Rattle.document.specs.Spelling.{Spelling, nested, imperative, mostLevels, Writes, Spells}
 use Rattle.document.specs.Meaning.{places}
@@ -43,6 +44,10 @@ pub data RefusedFor (s : Spelling) (text : List ℕ) : ℕ → ℕ → Type 0 wh
   -- 19
   too-deep : {es : Exprs} {e : Expr} {t : Tree} → s ≡ imperative → Scans s text es → NestedForm s es e → Writes t e → T (isDocument t) → 64 < depth e
       → RefusedFor s text 19 0
+
+-- "1 to 14 and 19 keep all lent memory unaltered."
+unfoldable pub keepsMemory : ℕ → Bool
+keepsMemory n = (leb 1 n && leb n 14) || eqb n 19
 
 -- The outcome of reading the text into the lent memory m.
 pub data Answers (s : Spelling) (text : List ℕ) (m : Memory) : Outcome → Type 0 where

@@ -6,9 +6,9 @@ use lib.Dec.{ltb}
 use lib.ListN.{length, getD, drop}
 use Rattle.utf8.specs.Sequence.{validUpTo}
 use Rattle.utf8.specs.Position.{lineOf, columnOf}
-use Rattle.lexer.specs.Expression.{Expr, Exprs, none, and, place, locate, depth}
-use Rattle.lexer.specs.Scan.{Scanned, scan}
-use Rattle.lexer.specs.Scan as Scan
+use Rattle.syntax.specs.Expression.{Expr, Exprs, none, and, place, locate, depth}
+use Rattle.syntax.specs.Scan.{Scanned, scan}
+use Rattle.syntax.specs.Scan as Scan
 use Rattle.document.specs.Document.{Node, says}
 use Rattle.document.specs.Spelling.{Spelling, nested, imperative, mostLevels}
 use Rattle.document.specs.Meaning.{Verdict, fine, fault, judgeRoot, treeOf, places}

@@ -3,8 +3,8 @@ use Prim.Native.Nat.{ℕ, suc, _+_, _/_, _%_, max}
 use mathlib.Core.Bool.{Bool, true, false, cond, _||_}
 use mathlib.Core.List.{List, [], _∷_, _++_}
 use lib.Dec.{eqb, ltb}
-use Rattle.kind.specs.Class as Class
-use Rattle.kind.specs.Rules.{Slot, must, may, id-type, ruleOf}
+use Rattle.elements.specs.Class as Class
+use Rattle.elements.specs.Rules.{Slot, must, may, id-type, ruleOf}
 use Rattle.document.specs.Document.{Tree, text, value, size, element, Trees, empty, holds, Node, node, Nodes, childless, child, missing}
 
 -- A string that is there, as a value of class c.

@@ -30,3 +30,11 @@ pub record Read (m : Memory) (o : Outcome) (d : Node) : Type 0 where
   pub bytes : o .answer .pool ≡ length (pool d)
   pub node-words : o .memory .nodes ≡ over (tableOf d) (m .nodes)
   pub pool-bytes : o .memory .pool ≡ over (pool d) (m .pool)
+
+-- Two outcomes have one number, the same counts, node words and pool: they may differ in places alone.
+pub record Alike (o o′ : Outcome) : Type 0 where
+  pub number : o .answer .number ≡ o′ .answer .number
+  pub nodes : o .answer .nodes ≡ o′ .answer .nodes
+  pub bytes : o .answer .pool ≡ o′ .answer .pool
+  pub node-words : o .memory .nodes ≡ o′ .memory .nodes
+  pub pool-bytes : o .memory .pool ≡ o′ .memory .pool

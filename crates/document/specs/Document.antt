@@ -4,8 +4,8 @@ use mathlib.Core.Path.{_≡_}
 use mathlib.Core.Bool.{Bool, true, false, cond, _&&_}
 use mathlib.Core.List.{List, [], _++_}
 use lib.Dec.{T, eqb}
-use Rattle.kind.specs.Class as Class
-use Rattle.kind.specs.Inside.{State, Step, go, bad, step, start, ended}
+use Rattle.elements.specs.Class as Class
+use Rattle.elements.specs.Inside.{State, Step, go, bad, step, start, ended}
 use Rattle.document.specs.Value.{isValue, isText, isSize}
 
 -- An element with its parameters among its children, in the order in which they are written.

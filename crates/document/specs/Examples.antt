@@ -6,7 +6,7 @@ use Prim.Native.String.{String}
 use mathlib.Core.List.{List, [], _∷_, _++_}
 use lib.ListN.{length, replicate}
 use Rattle.utf8.specs.Scalar.{encodeAll}
-use Rattle.kind.specs.Bytes.{codes}
+use Rattle.elements.specs.Bytes.{codes}
 use Rattle.document.specs.Spelling.{Spelling, nested, imperative}
 use Rattle.document.specs.Answer.{Answer, Memory, Outcome, outcome, over}
 use Rattle.document.specs.Printing.{Printed, printing}

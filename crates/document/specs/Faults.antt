@@ -5,11 +5,11 @@ use mathlib.Core.Path.{_≡_}
 use mathlib.Core.Bool.{false}
 use mathlib.Core.List.{List, [], _∷_}
 use lib.Dec.{T}
-use Rattle.kind.specs.Bytes.{among}
-use Rattle.kind.specs.Class as Class
-use Rattle.kind.specs.Rules.{Slot, must, may, id-type, Content, any-of, exactly-one, ruleOf}
-use Rattle.kind.specs.Inside.{sort, isInclude}
-use Rattle.lexer.specs.Expression.{Expr, list, Exprs, none, and, place}
+use Rattle.elements.specs.Bytes.{among}
+use Rattle.elements.specs.Class as Class
+use Rattle.elements.specs.Rules.{Slot, must, may, id-type, Content, any-of, exactly-one, ruleOf}
+use Rattle.elements.specs.Inside.{sort, isInclude}
+use Rattle.syntax.specs.Expression.{Expr, list, Exprs, none, and, place}
 use Rattle.document.specs.Document.{Tree, keepsRules}
 use Rattle.document.specs.Spelling.{Writes, exprClass, leadClass}
 

@@ -4,9 +4,9 @@ use Prim.Native.Nat.{ℕ}
 use mathlib.Core.Bool.{Bool, cond}
 use mathlib.Core.List.{List, [], _∷_, _++_}
 use lib.Dec.{eqb}
-use Rattle.kind.specs.Class as Class
-use Rattle.kind.specs.Inside.{State, Step, go, bad, step, start, ended}
-use Rattle.lexer.specs.Expression.{Expr, symbol, quoted, list, Exprs, none, and, place}
+use Rattle.elements.specs.Class as Class
+use Rattle.elements.specs.Inside.{State, Step, go, bad, step, start, ended}
+use Rattle.syntax.specs.Expression.{Expr, symbol, quoted, list, Exprs, none, and, place}
 use Rattle.document.specs.Value.{isDecimal, decimalAfter}
 use Rattle.document.specs.Document.{Tree, text, value, size, element, Trees, empty, holds, keepsRules}
 use Rattle.document.specs.Spelling.{leadClass, exprClass}

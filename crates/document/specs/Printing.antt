@@ -3,25 +3,28 @@ use Prim.Native.Nat.{ℕ, zero, suc, _*_, _+_}
 use mathlib.Core.Path.{_≡_}
 use mathlib.Core.Bool.{Bool, true, false, cond, _&&_}
 use mathlib.Core.List.{List, [], _∷_}
-use lib.Dec.{T, leb, ltb}
+use lib.Dec.{T, eqb, leb, ltb}
 use lib.ListN.{length, getD, take, drop}
-use Rattle.kind.specs.Bytes.{same}
+use Rattle.elements.specs.Bytes.{same}
 use Rattle.document.specs.Document.{Tree, Node, node, Nodes, childless, child, missing, isDocument, says, Document}
 use Rattle.document.specs.Table.{recordLength, tableOf, pool, count}
 use Rattle.document.specs.WellFormed.{Check, sound, unsound, check, WellFormed}
 use Rattle.document.specs.Answer.{over}
 use Rattle.document.specs.Canonical.{layout, treeLevels, canonical}
 
--- These words and this pool are the node table of the document d, well-formed and "within the limits
--- (at most 4,096 nodes, canonical nesting at most 64, pool at most 65,536)".
-pub record IsTableOf (d : Node) (words bytes : List ℕ) : Type 0 where
+-- These words and this pool are the node table of the document d "within the limits (at most 4,096 nodes, canonical nesting at most 64, pool at most 65,536)".
+pub record IsDraft (d : Node) (words bytes : List ℕ) : Type 0 where
   pub document : Document d
-  pub well-formed : WellFormed d
   pub node-words : tableOf d ≡ words
   pub pool-bytes : pool d ≡ bytes
   pub few-nodes : T (leb (count d) 4096)
   pub nests-within : T (leb (treeLevels (layout d)) 64)
   pub short-pool : T (leb (length (pool d)) 65536)
+
+-- And that document is well-formed.
+pub record IsTableOf (d : Node) (words bytes : List ℕ) : Type 0 where
+  pub draft : IsDraft d words bytes
+  pub well-formed : WellFormed d
 
 -- The test for it looks for the one document that could have this table: each record becomes a node with the strings that its offsets and lengths name,
 -- and takes as children the nodes after it whose numbers are below its end. Whether that document has this table is then tested.
@@ -60,15 +63,10 @@ unfoldable pub candidate : List Numbered → Node
 candidate [] = node 0 [] [] [] missing missing childless
 candidate (n ∷ ns) = n .made
 
-unfoldable pub isSound : Check → Bool
-isSound sound = true
-isSound (unsound n i) = false
-
 -- The document d, laid out as the tree t, has this table and is within the limits.
-unfoldable pub hasTable : Tree → Node → List ℕ → List ℕ → Bool
-hasTable t d words bytes =
+unfoldable pub hasDraft : Tree → Node → List ℕ → List ℕ → Bool
+hasDraft t d words bytes =
     isDocument t
-    && isSound (check d)
     && same (tableOf d) words
     && same (pool d) bytes
     && leb (count d) 4096
@@ -90,15 +88,30 @@ written s out =
     cond (ltb (lib.ListN.length out) (lib.ListN.length s)) (record { number = 21; length = lib.ListN.length s; out = out })
     (record { number = 0; length = lib.ListN.length s; out = over s out })
 
--- 20: "not the node table of a well-formed document within the limits ..., or a count beyond what is lent; length 0".
-unfoldable pub printing : List ℕ → ℕ → List ℕ → ℕ → List ℕ → Printed
-printing words n bytes m out =
+-- The answer of the check of a table: 20, or 15 to 18 with the number of the first node that has the fault, or 0 at node 0.
+pub record Checked : Type 0 where
+  pub number : ℕ
+  pub node : ℕ
+
+unfoldable pub checkedAs : Check → Checked
+checkedAs sound = record { number = 0; node = 0 }
+checkedAs (unsound n i) = record { number = n; node = i }
+
+-- 20: "not the node table of a ... document within the limits ..., or a count beyond what is lent". Then 15 to 18.
+unfoldable pub checking : List ℕ → ℕ → List ℕ → ℕ → Checked
+checking words n bytes m =
     let w = take (recordLength * n) words in
     let b = take m bytes in
     let t = treeOfTable n w b in
+    cond
+    (leb (recordLength * n) (lib.ListN.length words) && leb m (lib.ListN.length bytes) && hasDraft t (says t) w b)
+    (checkedAs (check (says t)))
+    (record { number = 20; node = 0 })
+
+-- 20 where the check of the table refuses: "not the node table of a well-formed document within the limits"; "length 0".
+unfoldable pub printing : List ℕ → ℕ → List ℕ → ℕ → List ℕ → Printed
+printing words n bytes m out =
+    let t = treeOfTable n (take (recordLength * n) words) (take m bytes) in
     let spelled = written (canonical (says t)) out in
     let refused : Printed = record { number = 20; length = 0; out = out } in
-    cond
-    (leb (recordLength * n) (lib.ListN.length words) && leb m (lib.ListN.length bytes) && hasTable t (says t) w b)
-    spelled
-    refused
+    cond (eqb (checking words n bytes m .number) 0) spelled refused

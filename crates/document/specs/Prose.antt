@@ -4,7 +4,7 @@ use mathlib.Core.Path.{_≡_}
 use mathlib.Core.Logic.{_⊎_}
 use mathlib.Core.List.{List, List·Memᴰ}
 use lib.Dec.{T}
-use Rattle.kind.specs.Class as Class
+use Rattle.elements.specs.Class as Class
 use Rattle.document.specs.Document.{Node, node, Nodes, childless, child}
 use Rattle.document.specs.WellFormed.{childCount, exactly, cellsIn, Entry, entries, hasId}
 

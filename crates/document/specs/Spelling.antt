@@ -5,9 +5,9 @@ use mathlib.Core.Bool.{Bool, cond, _&&_, _||_}
 use mathlib.Core.List.{List, []}
 use lib.Dec.{T, eqb}
 use Rattle.utf8.specs.Scalar.{IsUtf8}
-use Rattle.kind.specs.Class as Class
-use Rattle.lexer.specs.Syntax.{Forest, another, Ok, bytesOf, levels}
-use Rattle.lexer.specs.Expression.{Expr, symbol, quoted, list, Exprs, none, and, locate, depth}
+use Rattle.elements.specs.Class as Class
+use Rattle.syntax.specs.Syntax.{Forest, another, Ok, bytesOf, levels}
+use Rattle.syntax.specs.Expression.{Expr, symbol, quoted, list, Exprs, none, and, locate, depth}
 use Rattle.document.specs.Value.{isDecimal, decimalAfter}
 use Rattle.document.specs.Document.{Tree, text, value, size, element, Trees, empty, holds, Node, isDocument, says}
 

@@ -5,8 +5,8 @@ use mathlib.Core.List.{List, [], _∷_}
 use lib.Dec.{eqb, leb}
 use lib.ListN.{length}
 use Rattle.utf8.specs.Sequence.{validUpTo}
-use Rattle.kind.specs.Class as Class
-use Rattle.kind.specs.Characters.{isDigit, typeCharacter, idCharacter, uriCharacter}
+use Rattle.elements.specs.Class as Class
+use Rattle.elements.specs.Characters.{isDigit, typeCharacter, idCharacter, uriCharacter}
 
 unfoldable pub nonEmpty : List ℕ → Bool
 nonEmpty [] = false

@@ -4,8 +4,8 @@ use mathlib.Core.Path.{_≡_}
 use mathlib.Core.Bool.{Bool, false, not, cond, _&&_, _||_}
 use mathlib.Core.List.{List, [], _∷_, _++_}
 use lib.Dec.{eqb}
-use Rattle.kind.specs.Bytes.{same}
-use Rattle.kind.specs.Class as Class
+use Rattle.elements.specs.Bytes.{same}
+use Rattle.elements.specs.Class as Class
 use Rattle.document.specs.Value.{nonEmpty}
 use Rattle.document.specs.Document.{Node, node, Nodes, childless, child}
 use Rattle.document.specs.Table.{count}

@@ -4,10 +4,10 @@ use mathlib.Core.Path.{_≡_, _∙_, refl, sym, ap}
 use mathlib.Core.Bool.{Bool, true, false, cond, true≢false}
 use mathlib.Core.List.{List, [], _∷_}
 use lib.ListN.{length}
-use Rattle.kind.specs.Bytes.{same}
-use Rattle.kind.specs.Class.{Named, names, classIn, classOf}
+use Rattle.elements.specs.Bytes.{same}
+use Rattle.elements.specs.Class.{Named, names, classIn, classOf}
 use Rattle.kind.specs.ByLength.{pick, namesOf}
-use Rattle.kind.proofs.Same.{same-lengths}
+use Rattle.elements.proofs.Same.{same-lengths}
 
 module _ (passes : ℕ → Bool) (bytes : List ℕ) (h : passes (length bytes) ≡ true) where
   -- A name that the test leaves out has another length.

@@ -10,9 +10,9 @@ use lib.Dec.{eqb}
 use lib.ListN.{drop}
 use lib.Seq.{drop-drop}
 use borrow.Author.Tests.{lt-ltb, le-ltb, eq-eqb, ne-eqb, eqb-true, eqb-false}
-use Rattle.kind.specs.Class as Class
-use Rattle.kind.specs.Rules.{Slot, must, may, id-type, Content, any-of, exactly-one, ruleOf}
-use Rattle.kind.specs.Inside.{expecting, holding, go, bad, sort, isInclude, allows, firstChild, nextChild, nextParameter, start, noneRequired, mayBeEmpty, ended}
+use Rattle.elements.specs.Class as Class
+use Rattle.elements.specs.Rules.{Slot, must, may, id-type, Content, any-of, exactly-one, ruleOf}
+use Rattle.elements.specs.Inside.{expecting, holding, go, bad, sort, isInclude, allows, firstChild, nextChild, nextParameter, start, noneRequired, mayBeEmpty, ended}
 use Rattle.kind.specs.Machine.{stateOf}
 use Rattle.kind.specs.Table.{led}
 use Rattle.kind.proofs.Table.{past-four}

@@ -11,12 +11,12 @@ use lib.Seq.{drop-drop}
 use borrow.Author.Tests.{ne-eqb, leb-true, leb-false, lt-ltb, le-ltb}
 use Rattle.laws.proofs.Booleans.{cond-case, both, not-T-false}
 use Rattle.laws.proofs.Tables.{every, below, each-below, alike, alike-eq}
-use Rattle.kind.specs.Bytes.{among}
-use Rattle.kind.specs.Class as Class
-use Rattle.kind.specs.Rules.{Slot, must, may, id-type, Content, any-of, exactly-one, Rule, rules, ruleIn, ruleOf}
-use Rattle.kind.specs.Inside.{allows, mayBeEmpty}
+use Rattle.elements.specs.Bytes.{among}
+use Rattle.elements.specs.Class as Class
+use Rattle.elements.specs.Rules.{Slot, must, may, id-type, Content, any-of, exactly-one, Rule, rules, ruleIn, ruleOf}
+use Rattle.elements.specs.Inside.{allows, mayBeEmpty}
 use Rattle.kind.specs.Table.{led}
-use Rattle.kind.proofs.Same.{each-among}
+use Rattle.elements.proofs.Same.{each-among}
 
 -- The row of a kind that has none.
 abbrev empty : ℕ → Rule

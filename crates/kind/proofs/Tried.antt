@@ -3,8 +3,8 @@ use Prim.Native.Nat.{ℕ}
 use mathlib.Core.Path.{_≡_, _∙_, refl, ap}
 use mathlib.Core.Bool.{cond}
 use mathlib.Core.List.{List, [], _∷_}
-use Rattle.kind.specs.Bytes.{same}
-use Rattle.kind.specs.Class.{Named, classIn}
+use Rattle.elements.specs.Bytes.{same}
+use Rattle.elements.specs.Class.{Named, classIn}
 
 -- The class of the first name, or else what the others gave.
 pub tried : (n : Named) (ns : List Named) (bytes : List ℕ) {r before : ℕ} → r ≡ cond (same bytes (n .spelled)) (n .class) before → before ≡ classIn ns bytes → r ≡ classIn (n ∷ ns) bytes

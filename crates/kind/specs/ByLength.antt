@@ -3,7 +3,7 @@ use Prim.Native.Nat.{ℕ}
 use mathlib.Core.Bool.{Bool, cond}
 use mathlib.Core.List.{List, [], _∷_}
 use lib.ListN.{length}
-use Rattle.kind.specs.Class.{Named, names}
+use Rattle.elements.specs.Class.{Named, names}
 
 unfoldable pub pick : (ℕ → Bool) → List Named → List Named
 pick passes [] = []

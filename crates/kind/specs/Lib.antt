@@ -1,9 +1,3 @@
-pub mod Bytes
-pub mod Class
 pub mod ByLength
-pub mod Rules
-pub mod Inside
-pub mod Examples
 pub mod Machine
 pub mod Table
-pub mod Characters

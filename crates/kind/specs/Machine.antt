@@ -5,9 +5,9 @@ use mathlib.Core.Bool.{cond}
 use mathlib.Core.List.{[], _∷_}
 use lib.Dec.{eqb, ltb}
 use lib.ListN.{drop}
-use Rattle.kind.specs.Class as Class
-use Rattle.kind.specs.Rules.{may, ruleOf}
-use Rattle.kind.specs.Inside.{State, expecting, holding, Step, go, bad}
+use Rattle.elements.specs.Class as Class
+use Rattle.elements.specs.Rules.{may, ruleOf}
+use Rattle.elements.specs.Inside.{State, expecting, holding, Step, go, bad}
 
 unfoldable pub stateOf : ℕ → ℕ → State
 stateOf k n =

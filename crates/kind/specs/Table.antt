@@ -3,7 +3,7 @@ use Prim.Native.Nat.{ℕ, _-_}
 use mathlib.Core.Bool.{cond}
 use mathlib.Core.List.{List, [], _∷_}
 use lib.Dec.{eqb, ltb}
-use Rattle.kind.specs.Rules.{Slot, must, may, id-type}
+use Rattle.elements.specs.Rules.{Slot, must, may, id-type}
 
 -- The parameters that a number and what follows it stand for: 0 is the end, a class below 64 a required one, 64 and a class an optional one,
 -- and 255 is `id?/type?`, which is always the last.

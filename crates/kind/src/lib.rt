@@ -1,12 +1,14 @@
 // The names of the language and their numbers (document 01, "Elements").
 mod machine; // machine.rt: what may stand inside an element
+mod values; // values.rt: the characters of values
 mod words; // words.rt: the comparisons with the names
 
 pub use machine::Stepped;
 pub use machine::may_end;
 pub use machine::step;
+pub use values::character;
 ghost use mathlib.Core.Path.{_≡_};
-ghost use Rattle.kind.specs.Class.{classOf, kindOf, keywordOf, significance};
+ghost use Rattle.elements.specs.Class.{classOf, kindOf, keywordOf, significance};
 
 // An element's kind: "Kinds are numbered 1 to 25". Number 0 is no kind.
 pub struct Kind {

@@ -9,9 +9,9 @@ ghost use mathlib.Core.Bool.{cond};
 ghost use mathlib.Core.List.{[], _∷_};
 ghost use lib.Dec.{eqb};
 ghost use lib.ListN.{drop};
-ghost use Rattle.kind.specs.Class as Class;
-ghost use Rattle.kind.specs.Rules.{may, ruleOf};
-ghost use Rattle.kind.specs.Inside.{allows, ended, firstChild, isInclude, nextChild, nextParameter, noneRequired, step as stepped};
+ghost use Rattle.elements.specs.Class as Class;
+ghost use Rattle.elements.specs.Rules.{may, ruleOf};
+ghost use Rattle.elements.specs.Inside.{allows, ended, firstChild, isInclude, nextChild, nextParameter, noneRequired, step as stepped};
 ghost use Rattle.kind.specs.Machine.{stateOf, stepOf};
 ghost use Rattle.kind.specs.Table.{led};
 

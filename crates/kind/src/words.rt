@@ -5,8 +5,8 @@ ghost use mathlib.Core.Path.{_≡_};
 ghost use mathlib.Core.Bool.{_&&_, cond};
 ghost use lib.Dec.{eqb, leb};
 ghost use lib.ListN.{drop};
-ghost use Rattle.kind.specs.Bytes.{same};
-ghost use Rattle.kind.specs.Class.{classIn};
+ghost use Rattle.elements.specs.Bytes.{same};
+ghost use Rattle.elements.specs.Class.{classIn};
 ghost use Rattle.kind.specs.ByLength.{namesOf};
 
 fn is(name: &[u8], word: &[u8]) -> bool

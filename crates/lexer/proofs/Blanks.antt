@@ -10,8 +10,8 @@ use borrow.Author.Tests.{lt-ltb, eq-eqb, ne-eqb}
 use lib.ListN.{length, take, drop, getD, length-drop, drop-of-length-le}
 use lib.Seq.{drop-cons, drop-drop, getD-drop}
 use Rattle.laws.proofs.Booleans.{bool-case}
-use Rattle.lexer.specs.Byte.{byteClass, isBlank, isOrdinary}
-use Rattle.lexer.specs.Scan.{ordinaryRun}
+use Rattle.syntax.specs.Byte.{byteClass, isBlank, isOrdinary}
+use Rattle.syntax.specs.Scan.{ordinaryRun}
 use Rattle.lexer.specs.Token.{blanks, codeOf}
 use Rattle.lexer.proofs.Codes.{blank-code}
 

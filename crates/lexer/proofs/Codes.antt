@@ -7,7 +7,7 @@ use lib.Dec.{eqb, eqb→eq}
 use lib.ListN.{getD, replicate}
 use borrow.Author.Tests.{eq-eqb, ne-eqb}
 use Rattle.laws.proofs.Tables.{each-below}
-use Rattle.lexer.specs.Byte.{round, square, ByteClass, blank, return, quote, forbidden, ordinary, opening, closing, byteClass, blankClass, ordinaryClass, isBlank, isOrdinary}
+use Rattle.syntax.specs.Byte.{round, square, ByteClass, blank, return, quote, forbidden, ordinary, opening, closing, byteClass, blankClass, ordinaryClass, isBlank, isOrdinary}
 use Rattle.lexer.specs.Token.{codeOf}
 
 unfoldable pub codes : List ℕ

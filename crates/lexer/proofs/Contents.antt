@@ -10,10 +10,10 @@ use borrow.Author.Tests.{eq-eqb, ne-eqb, leb-true, leb-false}
 use lib.ListN.{length, take, drop, getD, length-append, drop-of-length-le}
 use lib.Seq.{sets, drop-cons, drop-drop}
 use Rattle.laws.proofs.Booleans.{bool-case, true-T}
-use Rattle.lexer.specs.Syntax.{Piece, raw, isPiece, pieceBefore, pieceValue, piecesValue}
-use Rattle.lexer.specs.Scan.{Quoted, closed, unclosed, bad-escape, piece, escapeAt, quotedFrom, ordinaryRun}
+use Rattle.syntax.specs.Syntax.{Piece, raw, isPiece, pieceBefore, pieceValue, piecesValue}
+use Rattle.syntax.specs.Scan.{Quoted, closed, unclosed, bad-escape, piece, escapeAt, quotedFrom, ordinaryRun}
 use Rattle.lexer.specs.Token.{stringEnd, stringAt, contentOf, pieceAt, atomValue}
-use Rattle.lexer.proofs.Escapes.{first-of}
+use Rattle.syntax.proofs.Escapes.{first-of}
 use Rattle.lexer.proofs.PieceAt.{piece-few, piece-short, Told, Stands, stands-told, raw-piece, read-on}
 use Rattle.lexer.proofs.Written.{sets-append, bytes-of}
 

@@ -7,9 +7,9 @@ use native.Mathlib.Omega.{arith}
 use native.Mathlib.Numerals.{add-one}
 use lib.ListN.{length, take, drop, getD, length-drop, drop-of-length-le}
 use lib.Seq.{drop-cons, drop-drop}
-use Rattle.kind.specs.Class.{classOf}
-use Rattle.lexer.specs.Byte.{round, square, ByteClass, blank, return, quote, forbidden, ordinary, opening, closing, byteClass}
-use Rattle.lexer.specs.Scan.{ordinaryRun}
+use Rattle.elements.specs.Class.{classOf}
+use Rattle.syntax.specs.Byte.{round, square, ByteClass, blank, return, quote, forbidden, ordinary, opening, closing, byteClass}
+use Rattle.syntax.specs.Scan.{ordinaryRun}
 use Rattle.lexer.specs.Token.{codeOf, blanks, stringAt, leadClassAt, leadLength, Seen, seenEnd, seenBy, seenFirst, seen}
 use Rattle.lexer.proofs.Blanks.{blanks-fit, run-fits, run-part}
 use Rattle.lexer.proofs.Codes.{classBy, code-class}

@@ -11,13 +11,13 @@ use lib.Seq.{drop-cons, drop-drop, drop-at}
 use borrow.Author.Tests.{eqb-true, ne-eqb, le-leb}
 use Rattle.laws.proofs.Booleans.{bool-case, cond-case, true-T}
 use Rattle.utf8.specs.Scalar.{encode}
-use Rattle.lexer.specs.Byte.{isRaw}
-use Rattle.lexer.specs.Syntax.{Piece, raw, letter, number, isPiece, pieceBefore, pieceValue, letterValue, hexValue}
-use Rattle.lexer.specs.Scan.{piece, escapeAt, quotedFrom}
+use Rattle.syntax.specs.Byte.{isRaw}
+use Rattle.syntax.specs.Syntax.{Piece, raw, letter, number, isPiece, pieceBefore, pieceValue, letterValue, hexValue}
+use Rattle.syntax.specs.Scan.{piece, escapeAt, quotedFrom}
 use Rattle.lexer.specs.Token.{pieceAt}
 use Rattle.lexer.specs.Step.{pieceLength, pieceBytes}
-use Rattle.lexer.proofs.Strings.{Digits, digits-of, piece-append, quoted-piece, escape-spelled}
-use Rattle.lexer.proofs.Escapes.{hex-small, first-of}
+use Rattle.syntax.proofs.Strings.{Digits, digits-of, piece-append, quoted-piece, escape-spelled}
+use Rattle.syntax.proofs.Escapes.{hex-small, first-of}
 
 -- ---- how long a piece is
 

@@ -11,14 +11,14 @@ use lib.ListN.{length, drop, getD, set, drop-of-length-le}
 use lib.Seq.{drop-cons, drop-drop, getD-set-same, getD-set-other}
 use borrow.Author.Tests.{eqb-true}
 use Rattle.laws.proofs.Booleans.{bool-case, cond-case, true-T}
-use Rattle.lexer.specs.Byte.{Bracket, round, square, ByteClass, blank, return, quote, forbidden, ordinary, opening, closing, byteClass, isOrdinary, sameBracket}
-use Rattle.lexer.specs.Syntax.{Leaf, space, line-end, word, string, piecesBefore}
-use Rattle.lexer.specs.Scan.{Quoted, closed, unclosed, bad-escape, quotedFrom, quotedItem, ordinaryRun, Items, a-leaf, itemAt, itemsFrom, Open, Levels, fault, level, addLeaf, wrap, endLevel, atEnd, oneMore, oneLess, build, outermost}
+use Rattle.syntax.specs.Byte.{Bracket, round, square, ByteClass, blank, return, quote, forbidden, ordinary, opening, closing, byteClass, isOrdinary, sameBracket}
+use Rattle.syntax.specs.Syntax.{Leaf, space, line-end, word, string, piecesBefore}
+use Rattle.syntax.specs.Scan.{Quoted, closed, unclosed, bad-escape, quotedFrom, quotedItem, ordinaryRun, Items, a-leaf, itemAt, itemsFrom, Open, Levels, fault, level, addLeaf, wrap, endLevel, atEnd, oneMore, oneLess, build, outermost}
 use Rattle.lexer.specs.Token.{codeOf, stringEnd, stringAt, scanNumber, scanPlace}
 use Rattle.lexer.specs.Step.{Passed, goesOn, stops, pastString, passedAt, bracketOf, closesIt}
-use Rattle.lexer.proofs.Classes.{ordinary-class}
-use Rattle.lexer.proofs.Items.{item-of}
-use Rattle.lexer.proofs.Escapes.{later}
+use Rattle.syntax.proofs.Classes.{ordinary-class}
+use Rattle.syntax.proofs.Items.{item-of}
+use Rattle.syntax.proofs.Escapes.{later}
 
 -- ---- the answer
 

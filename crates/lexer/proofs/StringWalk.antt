@@ -9,11 +9,11 @@ use lib.Dec.{eqb}
 use lib.ListN.{length, drop, getD, length-append, drop-of-length-le}
 use lib.Seq.{drop-cons, drop-drop}
 use borrow.Author.Tests.{ne-eqb}
-use Rattle.lexer.specs.Syntax.{Piece, raw, isPiece, pieceBefore, piecesBefore, pieceValue, piecesValue}
-use Rattle.lexer.specs.Scan.{Quoted, closed, unclosed, bad-escape, piece, escapeAt, quotedFrom}
+use Rattle.syntax.specs.Syntax.{Piece, raw, isPiece, pieceBefore, piecesBefore, pieceValue, piecesValue}
+use Rattle.syntax.specs.Scan.{Quoted, closed, unclosed, bad-escape, piece, escapeAt, quotedFrom}
 use Rattle.lexer.specs.Token.{StringEnd, stringEnd, stringAt, pieceAt}
 use Rattle.lexer.specs.Step.{badString, stoppedAt}
-use Rattle.lexer.proofs.Strings.{piece-append}
+use Rattle.syntax.proofs.Strings.{piece-append}
 use Rattle.lexer.proofs.PieceAt.{piece-few, Told, moves, stands-told, read-on, raw-piece}
 
 -- ---- the answer from a piece on

@@ -6,7 +6,7 @@ use native.Mathlib.Nat.{add-zero}
 use native.Mathlib.Omega.{arith}
 use lib.ListN.{length, take, drop, getD, set}
 use lib.Seq.{sets, take-all}
-use Rattle.lexer.specs.Scan.{ordinaryRun}
+use Rattle.syntax.specs.Scan.{ordinaryRun}
 use Rattle.lexer.proofs.Blanks.{run-some}
 
 pub sets-append : (out vs ws : List ℕ) (i : ℕ) → sets out i (vs ++ ws) ≡ sets (sets out i vs) (i + length vs) ws

@@ -1,7 +1,2 @@
-pub mod Byte
-pub mod Syntax
-pub mod Expression
-pub mod Scan
-pub mod Fault
 pub mod Token
 pub mod Step

@@ -4,8 +4,8 @@ use mathlib.Core.Bool.{Bool, cond}
 use mathlib.Core.List.{List, [], _∷_}
 use lib.Dec.{eqb}
 use lib.ListN.{length, getD}
-use Rattle.lexer.specs.Byte.{Bracket, round, square}
-use Rattle.lexer.specs.Syntax.{Piece, isPiece, pieceBefore, pieceValue}
+use Rattle.syntax.specs.Byte.{Bracket, round, square}
+use Rattle.syntax.specs.Syntax.{Piece, isPiece, pieceBefore, pieceValue}
 use Rattle.lexer.specs.Token.{StringEnd, stringAt}
 
 -- How many bytes a piece takes, and those that it stands for; nothing for what is no piece.

@@ -3,59 +3,11 @@ use super::class::byte_at;
 use super::pieces::piece;
 use super::string::string_at;
 use super::token::symbol_end;
+use kind::character;
 ghost use mathlib.Core.Path.{_≡_};
 ghost use lib.ListN.{drop};
-ghost use Rattle.kind.specs.Characters.{typeCharacter, idCharacter, uriCharacter, characterOf};
-ghost use Rattle.lexer.specs.Scan.{ordinaryRun, quotedFrom};
+ghost use Rattle.syntax.specs.Scan.{ordinaryRun, quotedFrom};
 ghost use Rattle.lexer.specs.Token.{atomValue, contentOf, fits};
-
-fn type_character(b: u8) -> bool
-    ensures { λ r. ⌜ r ≡ typeCharacter b ⌝ }
-{
-    if b <= b'9' {
-        return b'0' <= b;
-    }
-    if b <= b'Z' {
-        return b'A' <= b;
-    }
-    if b < b'a' {
-        return b == b'_';
-    }
-    b <= b'z'
-}
-
-fn id_character(b: u8) -> bool
-    ensures { λ r. ⌜ r ≡ idCharacter b ⌝ }
-{
-    if b == b'-' {
-        return true;
-    }
-    if b == b'.' {
-        return true;
-    }
-    type_character(b)
-}
-
-fn uri_character(b: u8) -> bool
-    ensures { λ r. ⌜ r ≡ uriCharacter b ⌝ }
-{
-    if b < 0x21 {
-        return false;
-    }
-    b <= 0x7E
-}
-
-fn character(sort: u8, b: u8) -> bool
-    ensures { λ r. ⌜ r ≡ characterOf sort b ⌝ }
-{
-    if sort == 0 {
-        return type_character(b);
-    }
-    if sort == 1 {
-        return id_character(b);
-    }
-    uri_character(b)
-}
 
 fn symbol_fits(text: &[u8], place: usize, sort: u8) -> bool
     ensures { λ r. ⌜ r ≡ fits sort (ordinaryRun (drop place (now (text .entry)))) ⌝ }

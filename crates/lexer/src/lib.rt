@@ -11,8 +11,6 @@ mod token; // token.rt: white space, symbols and what is seen at a place
 
 pub use class::byte_class;
 pub use fit::atom_fits;
-pub use pieces::PieceSeen;
-pub use pieces::piece;
 pub use scanner::Scanned;
 pub use scanner::scan;
 pub use stores::put_atom;

@@ -5,7 +5,7 @@ ghost use mathlib.Core.Path.{_≡_};
 ghost use Prim.Native.Nat.{_+_, _%_, _≤_, _<_};
 ghost use lib.ListN.{drop, getD, length};
 ghost use Rattle.utf8.specs.Scalar.{encode};
-ghost use Rattle.lexer.specs.Scan.{escapeAt};
+ghost use Rattle.syntax.specs.Scan.{escapeAt};
 ghost use Rattle.lexer.specs.Token.{pieceAt};
 ghost use Rattle.lexer.specs.Step.{pieceLength, pieceBytes};
 

@@ -11,7 +11,7 @@ use super::string::string_at;
 ghost use mathlib.Core.Path.{_≡_};
 ghost use Prim.Native.Nat.{_<_, min};
 ghost use lib.ListN.{length, drop};
-ghost use Rattle.lexer.specs.Scan.{scan};
+ghost use Rattle.syntax.specs.Scan.{scan};
 ghost use Rattle.lexer.specs.Token.{scanNumber, scanPlace};
 ghost use Rattle.lexer.specs.Step.{passedAt, closesIt};
 

@@ -5,7 +5,7 @@ ghost use mathlib.Core.Path.{_≡_};
 ghost use lib.ListN.{drop, length};
 ghost use lib.Dec.{ltb};
 ghost use Prim.Native.Nat.{_+_, _<_};
-ghost use Rattle.lexer.specs.Scan.{ordinaryRun};
+ghost use Rattle.syntax.specs.Scan.{ordinaryRun};
 ghost use Rattle.lexer.specs.Token.{a-list, blanks, leadClassAt, leadLength, seen, seenFirst};
 
 // What is seen at a place after white space: sort 0 the end of the run, 1 a symbol, 2 a string, 3 a list.

@@ -5,11 +5,12 @@ use mathlib.Core.Bool.{Bool, true, false, cond}
 use mathlib.Core.List.{List, []}
 use native.Mathlib.Nat.{zero-add}
 use native.Mathlib.Omega.{arith}
-use borrow.Author.Tests.{lt-ltb, le-ltb, ltb-false}
+use borrow.Author.Tests.{lt-ltb, le-ltb, ltb-false, le-leb}
+use Rattle.laws.proofs.Booleans.{true-T}
 use lib.Dec.{ltb}
-use lib.ListN.{length, take, drop, getD, List·getD-append, List·getD-eq-default}
+use lib.ListN.{length, length-append, take, drop, getD, List·getD-append, List·getD-eq-default}
 use lib.Seq.{sets, sets-eq, take-at}
-use Rattle.lexer.specs.Expression.{Expr, Exprs, none, and, depthAll}
+use Rattle.syntax.specs.Expression.{Expr, Exprs, none, and, depthAll}
 use Rattle.document.specs.Document.{Node, says, Document}
 use Rattle.document.specs.Spelling.{Spelling, nested, imperative, mostLevels}
 use Rattle.document.specs.Meaning.{fine, judgeRoot, treeOf, places}
@@ -23,11 +24,17 @@ use Rattle.document.proofs.Places.{root-places}
 use Rattle.document.proofs.Records.{table-length}
 use Rattle.document.proofs.Numbers.{check-number}
 use Rattle.document.proofs.CheckedNode.{unsound-below}
+use Rattle.document.specs.Canonical.{layout, treeLevels}
+use Rattle.document.specs.Printing.{IsDraft, checkedAs, checking}
+use Rattle.document.proofs.PrintingDecided.{checks}
+use Rattle.validate.specs.Checked.{checkNumber, checkNode}
+use Rattle.validate.specs.Checks.{Checks}
+use Rattle.validate.specs.declared.Checked.{Checked}
 use Rattle.reader.specs.declared.Answer.{Answer}
 use Rattle.reader.specs.declared.walk.Walked.{Walked}
 use Rattle.reader.specs.Stands.{Stands}
 use Rattle.reader.specs.Walked.{readWalked}
-use Rattle.reader.specs.Checked.{checkNumber, checkNode, checkPlace, Holds}
+use Rattle.reader.specs.Checked.{checkPlace, Held}
 use Rattle.reader.specs.Groups.{groupNumber, groupPlace, roomNumber}
 use Rattle.reader.specs.Read.{Answers, Reads}
 use Rattle.reader.specs.Filling.{Fits32}
@@ -53,6 +60,18 @@ module _ (words places bytes n p : ℕ) where
   room-enough h g = rw (le-ltb (min 4096 (min (words / recordLength) places)) n h, le-ltb bytes p g)
 
 -- ---- the ways through `checked`
+
+-- The check of a table that holds a document answers of that document.
+pub document-checked : (words : List ℕ) (n : ℕ) (bytes : List ℕ) (m : ℕ) (r : Checked) → Checks (checking words n bytes m) r → (d : Node) → Held words n bytes m d
+    → (r .number ≡ checkNumber (check d)) × (r .node ≡ checkNode (check d))
+unfolding checkNumber checkNode checkedAs
+document-checked words n bytes m r c d h =
+    let x = rw (checks words n bytes m d (h .words-within) (h .bytes-within) (h .draft)) at c in
+    go (check d) x
+  where
+    go : (k : Check) → Checks (checkedAs k) r → (r .number ≡ checkNumber k) × (r .node ≡ checkNode k)
+    go sound x = (x .number, x .node)
+    go (unsound i j) x = (x .number, x .node)
 
 module _ (ps : List ℕ) (d : Node) (number node : ℕ) (n-is : number ≡ checkNumber (check d)) (i-is : node ≡ checkNode (check d)) where
   pub place-of-none : number ≡ 0 → (0 ≡ checkNumber (check d)) × (0 ≡ checkPlace ps (check d))
@@ -115,14 +134,22 @@ module _ (text : List ℕ) (m : Memory) (ps : List ℕ) (d : Node) where
     written-over =
         rw (sets-over (m .nodes) (tableOf d) (omega (arith, table-length d)), sets-over (m .places) ps (omega arith), sets-over (m .pool) (pool d) bytes)
 
-    written-holds : Document d → Holds (written m ps d .nodes) (count d) (written m ps d .pool) d
-    unfolding over
-    written-holds doc =
+    written-holds : Document d → treeLevels (layout d) ≤ 64 → length (pool d) ≤ 65536 → Held (written m ps d .nodes) (count d) (written m ps d .pool) (length (pool d)) d
+    unfolding over nodeRoom
+    written-holds doc levels short =
+        let words = ap (λ (x : Memory). x .nodes) written-over in
+        let strings = ap (λ (x : Memory). x .pool) written-over in
         record {
-          document = doc;
-          counted = refl;
-          node-words = ap (λ (x : Memory). take (recordLength * count d) (x .nodes)) written-over ∙ take-at (tableOf d) _ (recordLength * count d) (table-length d);
-          pool-bytes = ap (λ (x : Memory). take (length (pool d)) (x .pool)) written-over ∙ take-at (pool d) _ (length (pool d)) refl;
+          words-within = omega (arith, ap length words, length-append (tableOf d) (drop (length (tableOf d)) (m .nodes)), table-length d);
+          bytes-within = omega (arith, ap length strings, length-append (pool d) (drop (length (pool d)) (m .pool)));
+          draft = record {
+            document = doc;
+            node-words = sym (ap (take (recordLength * count d)) words ∙ take-at (tableOf d) _ (recordLength * count d) (table-length d));
+            pool-bytes = sym (ap (take (length (pool d))) strings ∙ take-at (pool d) _ (length (pool d)) refl);
+            few-nodes = true-T (le-leb (count d) 4096 (omega arith));
+            nests-within = true-T (le-leb (treeLevels (layout d)) 64 levels);
+            short-pool = true-T (le-leb (length (pool d)) 65536 short);
+          };
         }
 
     -- The place that the filled place list has for the checked node is the place of that node.
@@ -173,7 +200,7 @@ module _ (s : Spelling) (text : List ℕ) (m : Memory) where
   reads-of a exit r e h = record { answers = rw e h; leaves = rw e }
 
   -- After the judge, over the expression that it found.
-  module _ (e : Expr) (ok : judgeRoot e ≡ fine) (doc : Document (says (treeOf e))) (goes-on : outcome s text m ≡ stored text m (places e) (says (treeOf e)))
+  module _ (e : Expr) (ok : judgeRoot e ≡ fine) (doc : Document (says (treeOf e))) (levels : treeLevels (layout (says (treeOf e))) ≤ 64) (goes-on : outcome s text m ≡ stored text m (places e) (says (treeOf e)))
       (nodes bytes : ℕ) (nodes-are : nodes ≡ count (says (treeOf e))) (bytes-are : bytes ≡ length (pool (says (treeOf e))))
       (f : ℕ) (room : f ≡ roomNumber (length (m .nodes)) (length (m .places)) (length (m .pool)) nodes bytes) where
     abbrev d : Node
@@ -188,7 +215,8 @@ module _ (s : Spelling) (text : List ℕ) (m : Memory) where
         (goes-on ∙ stored-full text m (places e) d (λ q. h (room-is ∙ q)) ∙ rw (← room-is, ← nodes-are, ← bytes-are))
 
     module _ (y : f ≡ 0) (exit : Memory) (exit-is : exit ≡ written m (places e) d) (number place : ℕ)
-        (checks : (d : Node) → Holds (exit .nodes) nodes (exit .pool) d
+        (short : bytes ≤ 65536)
+        (checks : (d : Node) → Held (exit .nodes) nodes (exit .pool) bytes d
         → (number ≡ checkNumber (check d)) × (place ≡ checkPlace (exit .places) (check d))) where
       room-enough-for : (stored text m (places e) d ≡ checked text m (places e) d (check d)) × (count d ≤ nodeRoom m) × (length (pool d) ≤ length (m .pool))
       room-enough-for = stored-fits text m (places e) d (sym room-is ∙ y)
@@ -196,8 +224,8 @@ module _ (s : Spelling) (text : List ℕ) (m : Memory) where
       check-is : (number ≡ checkNumber (check d)) × (place ≡ checkPlace (places e) (check d))
       check-is =
           let (q, few, fit) = room-enough-for in
-          let holds : Holds (exit .nodes) nodes (exit .pool) d
-          = rw (exit-is, nodes-are) (written-holds text m (places e) d few fit (root-places e ok) doc) in
+          let holds : Held (exit .nodes) nodes (exit .pool) bytes d
+          = rw (exit-is, nodes-are, bytes-are) (written-holds text m (places e) d few fit (root-places e ok) doc levels (rw bytes-are at short)) in
           let (a, b) = checks d holds in
           (a, b ∙ ap (λ (x : Memory). checkPlace (x .places) (check d)) exit-is ∙ checked-place text m (places e) d few fit (root-places e ok))
 
@@ -248,28 +276,31 @@ module _ (s : Spelling) (text : List ℕ) (m : Memory) where
         -- 13 and 14.
         pub full-reads : (f ≡ 0 → ⊥) → (r : Answer) → Answers (answerAt text f 0 (w .nodes) (w .pool)) r → Reads s text m r m
         full-reads =
-            full-after (found .expr) (found .fine-root) (found .document) (found .goes-on) (w .nodes) (w .pool) (found .nodes-are) (found .bytes-are) f room
+            full-after (found .expr) (found .fine-root) (found .document) (found .levels) (found .goes-on) (w .nodes) (w .pool) (found .nodes-are) (found .bytes-are) f room
 
         module _ (y : f ≡ 0) (exit : Memory) (fills : Fills exit) (number place : ℕ)
-            (checks : (d : Node) → Holds (exit .nodes) (w .nodes) (exit .pool) d
+            (checks : (d : Node) → Held (exit .nodes) (w .nodes) (exit .pool) (w .pool) d
             → (number ≡ checkNumber (check d)) × (place ≡ checkPlace (exit .places) (check d))) where
           exit-is : exit ≡ written m (places (found .expr)) (says (treeOf (found .expr)))
           exit-is = fills (passed .es) (found .expr) (passed .stands) (found .form) (found .fine-root) (passed .short)
+
+          few-bytes : w .pool ≤ 65536
+          few-bytes = walk-fits s text n p group z w judges .2
 
           pub check-fits : place ≤ 65536
           check-fits =
               let short : length text ≤ 65536 = passed .short in
               omega (
                 arith,
-                place-after (found .expr) (found .fine-root) (found .document) (found .goes-on) (w .nodes) (w .pool) (found .nodes-are) (found .bytes-are) f room
-                    y exit exit-is number place checks (read-placed s text (passed .es) (passed .stands) (found .expr) (found .reads)),
+                place-after (found .expr) (found .fine-root) (found .document) (found .levels) (found .goes-on) (w .nodes) (w .pool) (found .nodes-are) (found .bytes-are) f room
+                    y exit exit-is number place few-bytes checks (read-placed s text (passed .es) (passed .stands) (found .expr) (found .reads)),
               )
 
           -- 15 to 18, and 0.
           pub filled-reads : (r : Answer) → Answers (answerAt text number place (w .nodes) (w .pool)) r → Reads s text m r exit
           filled-reads =
-              filled-after (found .expr) (found .fine-root) (found .document) (found .goes-on) (w .nodes) (w .pool) (found .nodes-are) (found .bytes-are) f room
-              y exit exit-is number place checks
+              filled-after (found .expr) (found .fine-root) (found .document) (found .levels) (found .goes-on) (w .nodes) (w .pool) (found .nodes-are) (found .bytes-are) f room
+              y exit exit-is number place few-bytes checks
 
 -- ---- the fill of each spelling
 

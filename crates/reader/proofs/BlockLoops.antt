@@ -10,12 +10,12 @@ use lib.Dec.{eqb, leb}
 use lib.ListN.{length, drop}
 use borrow.Author.Tests.{eqb-true, eqb-false, leb-true}
 use Rattle.laws.proofs.Booleans.{cond-case, bool-case, both, true-T, T-true}
-use Rattle.kind.specs.Class as Class
-use Rattle.kind.specs.Inside.{ended}
+use Rattle.elements.specs.Class as Class
+use Rattle.elements.specs.Inside.{ended}
 use Rattle.kind.specs.Machine.{stateOf}
 use Rattle.kind.proofs.Steps.{start-state}
-use Rattle.lexer.specs.Byte.{Bracket, closing}
-use Rattle.lexer.specs.Expression.{Expr, list, Exprs, none, and, place}
+use Rattle.syntax.specs.Byte.{Bracket, closing}
+use Rattle.syntax.specs.Expression.{Expr, list, Exprs, none, and, place}
 use Rattle.lexer.specs.Token.{Seen, seen}
 use Rattle.document.specs.Spelling.{leadClass, exprClass, listClass, isBlockParameter, join}
 use Rattle.document.specs.Meaning.{Verdict, fine, fault, finish, run, judge}

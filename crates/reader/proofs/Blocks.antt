@@ -8,8 +8,8 @@ use lib.Dec.{eqb, leb}
 use lib.ListN.{drop}
 use borrow.Author.Tests.{eqb-false, leb-false, le-leb, lt-leb, ne-eqb}
 use Rattle.laws.proofs.Booleans.{cond-case, cond-under, bool-case, both, or-false, and-true, and-false, true-T, T-true, not-true}
-use Rattle.kind.specs.Class as Class
-use Rattle.lexer.specs.Expression.{Expr, symbol, quoted, list, Exprs, none, and, place}
+use Rattle.elements.specs.Class as Class
+use Rattle.syntax.specs.Expression.{Expr, symbol, quoted, list, Exprs, none, and, place}
 use Rattle.lexer.specs.Token.{Seen, atomValue}
 use Rattle.document.specs.Spelling.{exprClass, listClass, isBlockParameter}
 use Rattle.document.specs.Meaning.{fine, judge}

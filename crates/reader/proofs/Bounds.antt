@@ -9,17 +9,17 @@ use lib.ListN.{length, take, getD, length-append, length-take}
 use Rattle.laws.proofs.Booleans.{cond-case}
 use Rattle.utf8.specs.Sequence.{validUpTo}
 use Rattle.utf8.specs.Position.{lineFeed, lineFeeds, lineOf, hasLineFeed, lastLine, isContinuation, characters, columnOf}
-use Rattle.lexer.specs.Byte.{openByte}
-use Rattle.lexer.specs.Syntax.{piecesBefore, bytesBefore}
-use Rattle.lexer.specs.Expression.{Expr, symbol, quoted, list, Exprs, none, and, place}
-use Rattle.lexer.specs.Scan as Scan
-use Rattle.lexer.specs.Scan.{Scanned, scan}
+use Rattle.syntax.specs.Byte.{openByte}
+use Rattle.syntax.specs.Syntax.{piecesBefore, bytesBefore}
+use Rattle.syntax.specs.Expression.{Expr, symbol, quoted, list, Exprs, none, and, place}
+use Rattle.syntax.specs.Scan as Scan
+use Rattle.syntax.specs.Scan.{Scanned, scan}
 use Rattle.lexer.specs.Token.{scanPlace}
-use Rattle.lexer.specs.Fault.{Opened, within, openedBefore, size, Hit, control, lone-return, no-escape, empty-string, unclosed-string, unopened, other-partner, left-open, too-deep, Fault}
-use Rattle.lexer.proofs.Strings.{pieces-append}
-use Rattle.lexer.proofs.Prefixes.{opened-length}
-use Rattle.lexer.proofs.Decided.{refused-fault}
-use Rattle.kind.specs.Class as Class
+use Rattle.syntax.specs.Fault.{Opened, within, openedBefore, size, Hit, control, lone-return, no-escape, empty-string, unclosed-string, unopened, other-partner, left-open, too-deep, Fault}
+use Rattle.syntax.proofs.Strings.{pieces-append}
+use Rattle.syntax.proofs.Prefixes.{opened-length}
+use Rattle.syntax.proofs.Decided.{refused-fault}
+use Rattle.elements.specs.Class as Class
 use Rattle.document.specs.Spelling.{Spelling, nested, imperative, leadClass}
 use Rattle.document.specs.Meaning.{Verdict, fine, fault, judgeRoot, places, listPlaces, allPlaces}
 use Rattle.document.specs.Imperative.{notAllowed, regroup}

@@ -7,8 +7,8 @@ use native.Mathlib.Omega.{arith}
 use lib.Dec.{T, eqb}
 use lib.ListN.{length, length-append}
 use Rattle.laws.proofs.Booleans.{cond-case}
-use Rattle.kind.specs.Class as Class
-use Rattle.lexer.specs.Expression.{Expr, symbol, quoted, list, Exprs, none, and}
+use Rattle.elements.specs.Class as Class
+use Rattle.syntax.specs.Expression.{Expr, symbol, quoted, list, Exprs, none, and}
 use Rattle.document.specs.Document.{Tree, text, value, size, element, Trees, empty, holds, child, keyOf, typeOf, keyIn, typeIn, isNode, says, sayAll}
 use Rattle.document.specs.Spelling.{leadClass}
 use Rattle.document.specs.Meaning.{textBytes, symbolBytes, onlyOne, sizeTree, valueTree, treeOf, listTree, treesOf, places, listPlaces, allPlaces}

@@ -9,8 +9,8 @@ use lib.ListN.{length, getD, take, drop, length-drop}
 use lib.Seq.{drop-cons, length-take-le}
 use borrow.Author.Tests.{le-leb, lt-leb}
 use Rattle.laws.proofs.Booleans.{and-false}
-use Rattle.lexer.specs.Expression.{symbol}
-use Rattle.kind.specs.Characters.{isDigit}
+use Rattle.syntax.specs.Expression.{symbol}
+use Rattle.elements.specs.Characters.{isDigit}
 use Rattle.document.specs.Value.{every, isDecimal, decimalAfter, nonEmpty}
 use Rattle.document.specs.Meaning.{numberOf, symbolBytes}
 

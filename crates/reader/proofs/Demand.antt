@@ -1,16 +1,21 @@
--- Demand 3 of the two functions, from their contracts: a call answers 0 exactly when the text is within the limits and spells a well-formed document that fits the room;
+-- The demands of the two functions, from their contracts. Demand 1: a call has one of the numbered answers, and 1 to 14 and 19 leave the lent memory as it was. Demand 3: a call answers 0 exactly when the text is within the limits and spells a well-formed document that fits the room;
 -- node words, pool and counts are then that document's; and no text spells two documents. Assumes nothing.
 use mathlib.Core.Path.{_≡_, sym, ap, _∙_}
 use mathlib.Core.List.{List}
-use Prim.Native.Nat.{ℕ}
+use Prim.Native.Nat.{ℕ, _≤_}
+use lib.Dec.{T}
+use lib.ListN.{length}
 use Rattle.document.specs.Document.{Node}
 use Rattle.document.specs.Spelling.{Spelling, Spells}
 use Rattle.document.specs.Answer.{Memory, outcome}
 use Rattle.document.specs.Demand.{Readable, Read}
+use Rattle.document.specs.Account.{keepsMemory}
 use Rattle.document.proofs.Demand as Definition
+use Rattle.document.proofs.Unaltered as Unaltered
+use Rattle.document.proofs.SameDocument as Same
 use Rattle.reader.specs.declared.Answer.{Answer}
 use Rattle.reader.specs.Read.{Reads}
-use Rattle.reader.specs.Demand.{ReadBy}
+use Rattle.reader.specs.Demand.{ReadBy, ReadAlike}
 
 module _ (s : Spelling) (text : List ℕ) (m : Memory) (r : Answer) (exit : Memory) (reads : Reads s text m r exit) where
   read-by : (d : Node) → Read m (outcome s text m) d → ReadBy m r exit d
@@ -23,9 +28,27 @@ module _ (s : Spelling) (text : List ℕ) (m : Memory) (r : Answer) (exit : Memo
         pool-bytes = ap (λ (x : Memory). x .pool) (reads .leaves) ∙ h .pool-bytes;
       }
 
+  pub demand-1 : (r .number ≤ 19) × (T (keepsMemory (r .number)) → exit ≡ m)
+  demand-1 =
+      let (most, kept) = Unaltered.demand-1 s text m in
+      rw (reads .answers .number) (most, λ t. reads .leaves ∙ kept t)
+
   pub demand-3 : (r .number ≡ 0 → (d : Node) × Readable s text m d × ReadBy m r exit d)
       × ((d : Node) → Readable s text m d → ReadBy m r exit d)
       × ((d d′ : Node) → Spells s d text → Spells s d′ text → d ≡ d′)
   demand-3 =
       let (zero, back, once) = Definition.demand-3 s text m in
       ((λ z. let (d, readable, h) = zero (sym (reads .answers .number) ∙ z) in (d, readable, read-by d h)), (λ d readable. read-by d (back d readable)), once)
+
+-- Two texts that spell one document, in either spelling each, read into the same lent memory.
+pub same-document : (s s′ : Spelling) (d : Node) (text text′ : List ℕ) (m exit exit′ : Memory) (r r′ : Answer) → Reads s text m r exit → Reads s′ text′ m r′ exit′
+    → length text ≤ 65536 → length text′ ≤ 65536 → Spells s d text → Spells s′ d text′ → ReadAlike r r′ exit exit′
+same-document s s′ d text text′ m exit exit′ r r′ a b short short′ spells spells′ =
+    let same = Same.same-document s s′ d text text′ m short short′ spells spells′ in
+    record {
+      number = a .answers .number ∙ same .number ∙ sym (b .answers .number);
+      nodes = a .answers .nodes ∙ same .nodes ∙ sym (b .answers .nodes);
+      bytes = a .answers .pool ∙ same .bytes ∙ sym (b .answers .pool);
+      node-words = ap (λ (x : Memory). x .nodes) (a .leaves) ∙ same .node-words ∙ sym (ap (λ (x : Memory). x .nodes) (b .leaves));
+      pool-bytes = ap (λ (x : Memory). x .pool) (a .leaves) ∙ same .pool-bytes ∙ sym (ap (λ (x : Memory). x .pool) (b .leaves));
+    }

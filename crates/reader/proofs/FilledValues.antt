@@ -10,9 +10,9 @@ use lib.Seq.{sets}
 use Rattle.document.specs.Table.{offset}
 use borrow.Author.Tests.{ne-eqb}
 use Rattle.laws.proofs.Booleans.{cond-case, both, or-true}
-use Rattle.kind.specs.Class as Class
-use Rattle.kind.specs.Characters.{typeCharacter}
-use Rattle.lexer.specs.Expression.{Expr, symbol, quoted, list, Exprs, none, and}
+use Rattle.elements.specs.Class as Class
+use Rattle.elements.specs.Characters.{typeCharacter}
+use Rattle.syntax.specs.Expression.{Expr, symbol, quoted, list, Exprs, none, and}
 use Rattle.document.specs.Value.{nonEmpty, every, isValue}
 use Rattle.document.specs.Document.{Tree, size, keepsRules, keyOf, typeOf, widthOr, heightOr, keyIn, typeIn, widthIn, heightIn, missing}
 use Rattle.document.specs.Spelling.{holdsText, leadClass, listClass, exprClass}

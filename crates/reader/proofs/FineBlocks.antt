@@ -7,10 +7,10 @@ use native.Mathlib.Omega.{arith}
 use lib.Dec.{T, eqb}
 use borrow.Author.Tests.{eqb-true}
 use Rattle.laws.proofs.Booleans.{cond-case, both, or-false, true-T, false-not-T}
-use Rattle.kind.specs.Class as Class
-use Rattle.kind.specs.Rules.{Slot, must, may, id-type, Content, rules, ruleIn, ruleOf}
-use Rattle.kind.specs.Inside.{State, expecting, holding, Step, go, firstChild, nextParameter, step, start, noneRequired, mayBeEmpty, ended}
-use Rattle.lexer.specs.Expression.{Expr, Exprs, none, and, place}
+use Rattle.elements.specs.Class as Class
+use Rattle.elements.specs.Rules.{Slot, must, may, id-type, Content, rules, ruleIn, ruleOf}
+use Rattle.elements.specs.Inside.{State, expecting, holding, Step, go, firstChild, nextParameter, step, start, noneRequired, mayBeEmpty, ended}
+use Rattle.syntax.specs.Expression.{Expr, Exprs, none, and, place}
 use Rattle.document.specs.Spelling.{exprClass, isBlockParameter, join}
 use Rattle.document.specs.Meaning.{fine, finish, advance, judge}
 use Rattle.document.specs.Imperative.{notAllowed, inCommand, loose, isCommand}

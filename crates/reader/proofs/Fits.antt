@@ -7,9 +7,9 @@ use native.Mathlib.Omega.{arith}
 use lib.Dec.{T, eqb}
 use lib.ListN.{length}
 use Rattle.laws.proofs.Booleans.{both, true-T}
-use Rattle.kind.specs.Class as Class
-use Rattle.kind.specs.Inside.{start}
-use Rattle.lexer.specs.Expression.{Expr, symbol, quoted, list, Exprs, none, and}
+use Rattle.elements.specs.Class as Class
+use Rattle.elements.specs.Inside.{start}
+use Rattle.syntax.specs.Expression.{Expr, symbol, quoted, list, Exprs, none, and}
 use Rattle.document.specs.Spelling.{leadClass, listClass, exprClass, join}
 use Rattle.document.specs.Meaning.{fine, judge, judgeRoot}
 use Rattle.document.specs.Imperative.{inCommand, isCommand, loose, block, regroup}

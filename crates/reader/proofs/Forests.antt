@@ -8,16 +8,16 @@ use lib.Dec.{T}
 use lib.ListN.{length, getD, drop, length-append, length-drop}
 use lib.Seq.{getD-drop, drop-drop, drop-append-seam}
 use Rattle.laws.proofs.Booleans.{both}
-use Rattle.lexer.specs.Byte.{ByteClass, blank, return, quote, ordinary, opening, closing, byteClass, openByte, closeByte, isOrdinary}
-use Rattle.lexer.specs.Syntax.{Piece, piecesBefore, piecesValue, arePieces, areOrdinary, Leaf, space, line-end, word, string, leafBefore, isLeaf}
-use Rattle.lexer.specs.Syntax.{Before, another, after, Forest, end, leaf, brackets, bytesBefore, bytesOf, Ok}
-use Rattle.lexer.specs.Expression.{Exprs, locateLeaf, locate}
-use Rattle.lexer.specs.Scan.{closed, quotedFrom, ordinaryRun}
+use Rattle.syntax.specs.Byte.{ByteClass, blank, return, quote, ordinary, opening, closing, byteClass, openByte, closeByte, isOrdinary}
+use Rattle.syntax.specs.Syntax.{Piece, piecesBefore, piecesValue, arePieces, areOrdinary, Leaf, space, line-end, word, string, leafBefore, isLeaf}
+use Rattle.syntax.specs.Syntax.{Before, another, after, Forest, end, leaf, brackets, bytesBefore, bytesOf, Ok}
+use Rattle.syntax.specs.Expression.{Exprs, locateLeaf, locate}
+use Rattle.syntax.specs.Scan.{closed, quotedFrom, ordinaryRun}
 use Rattle.lexer.specs.Token.{stringEnd, stringAt, contentOf, atomValue}
-use Rattle.lexer.proofs.Classes.{Fits, blank-class, ordinary-class, open-class, close-class, fits-end, fits-close}
-use Rattle.lexer.proofs.Strings.{pieces-append}
-use Rattle.lexer.proofs.Items.{run-ends, quoted-string}
-use Rattle.lexer.proofs.Runs.{leaf-append, leaf-length, run-append, run-length, lastOf, fits-run}
+use Rattle.syntax.proofs.Classes.{Fits, blank-class, ordinary-class, open-class, close-class, fits-end, fits-close}
+use Rattle.syntax.proofs.Strings.{pieces-append}
+use Rattle.syntax.proofs.Items.{run-ends, quoted-string}
+use Rattle.syntax.proofs.Runs.{leaf-append, leaf-length, run-append, run-length, lastOf, fits-run}
 use Rattle.reader.specs.Stands.{Has, Ends, at-bracket, at-end, Stands, ended, after-blank, after-line-end, a-symbol, a-string, a-list}
 
 -- ---- a place where known bytes stand

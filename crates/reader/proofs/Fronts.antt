@@ -11,12 +11,12 @@ use lib.ListN.{length, getD, drop, length-drop, List·getD-eq-default}
 use lib.Seq.{drop-cons, getD-drop}
 use borrow.Author.Tests.{ne-eqb, ltb-true, ltb-false}
 use Rattle.laws.proofs.Booleans.{bool-case}
-use Rattle.kind.specs.Class as Class
-use Rattle.lexer.specs.Byte.{ByteClass, blank, return, quote, forbidden, ordinary, opening, closing, byteClass, blankClass, isBlank, ordinaryClass}
-use Rattle.lexer.specs.Byte.{isOrdinary}
-use Rattle.lexer.specs.Scan.{ordinaryRun}
+use Rattle.elements.specs.Class as Class
+use Rattle.syntax.specs.Byte.{ByteClass, blank, return, quote, forbidden, ordinary, opening, closing, byteClass, blankClass, isBlank, ordinaryClass}
+use Rattle.syntax.specs.Byte.{isOrdinary}
+use Rattle.syntax.specs.Scan.{ordinaryRun}
 use Rattle.lexer.specs.Token.{blanks, stringAt, atomValue, leadClassAt, leadLength, seenBy, seenFirst, seen}
-use Rattle.lexer.proofs.Classes.{ByteOf, class-byte}
+use Rattle.syntax.proofs.Classes.{ByteOf, class-byte}
 use Rattle.lexer.proofs.Blanks.{blanks-fit, run-fits}
 use Rattle.reader.specs.Stands.{Has}
 use Rattle.reader.proofs.Strings.{Spans, string-spans, string-value}

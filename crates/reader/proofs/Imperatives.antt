@@ -6,8 +6,8 @@ use native.Mathlib.Nat.{zero-add}
 use native.Mathlib.Omega.{arith}
 use lib.ListN.{length}
 use borrow.Author.Tests.{le-ltb, ne-eqb}
-use Rattle.kind.specs.Class as Class
-use Rattle.lexer.specs.Expression.{Expr, Exprs, and, place, depth, depthAll}
+use Rattle.elements.specs.Class as Class
+use Rattle.syntax.specs.Expression.{Expr, Exprs, and, place, depth, depthAll}
 use Rattle.lexer.specs.Token.{Seen}
 use Rattle.document.specs.Spelling.{imperative, exprClass, listClass}
 use Rattle.document.specs.Meaning.{fine, fault, judge, judgeRoot}

@@ -9,10 +9,10 @@ use mathlib.Core.Logic.{_⊎_, inl, inr, ⊎-elim}
 use borrow.Author.Tests.{eqb-true, eqb-false}
 use lib.Dec.{T, eqb, eqb→eq}
 use Rattle.laws.proofs.Booleans.{bool-case, or-true}
-use Rattle.kind.specs.Bytes.{among}
-use Rattle.kind.specs.Class as Class
-use Rattle.kind.specs.Rules.{Slot, Content, any-of, rules, ruleIn, ruleOf}
-use Rattle.kind.specs.Inside.{State, expecting, holding}
+use Rattle.elements.specs.Bytes.{among}
+use Rattle.elements.specs.Class as Class
+use Rattle.elements.specs.Rules.{Slot, Content, any-of, rules, ruleIn, ruleOf}
+use Rattle.elements.specs.Inside.{State, expecting, holding}
 use Rattle.kind.specs.Machine.{stateOf}
 use Rattle.document.specs.Faults.{Begun, Next, Taken, Allowed}
 use Rattle.document.proofs.Steps.{begunOf, stepped as step-says}

@@ -5,7 +5,7 @@ use mathlib.Core.Bool.{Bool, true, false, cond}
 use mathlib.Core.List.{[], _++_, append-assoc}
 use native.Mathlib.Omega.{arith}
 use lib.ListN.{length, length-append}
-use Rattle.lexer.specs.Expression.{Exprs, none, and}
+use Rattle.syntax.specs.Expression.{Exprs, none, and}
 use Rattle.document.specs.Document.{Nodes, child, isNode, says, sayAll, missing, keyIn, typeIn, widthIn, heightIn}
 use Rattle.document.specs.Spelling.{join}
 use Rattle.document.specs.Meaning.{treeOf, treesOf, places, allPlaces}

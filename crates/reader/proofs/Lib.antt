@@ -14,12 +14,6 @@ pub mod Blocks
 pub mod BlockLoops
 pub mod Imperatives
 pub mod Tops
-pub mod Parts
-pub mod Ids
-pub mod Children
-pub mod Rows
-pub mod Tables
-pub mod Answers
 pub mod Stores
 pub mod Picked
 pub mod FilledValues
@@ -39,3 +33,4 @@ pub mod Outcomes
 pub mod Bounds
 pub mod Answered
 pub mod Demand
+pub mod Pools

@@ -6,11 +6,11 @@ use mathlib.Core.List.{List, [], _∷_}
 use native.Mathlib.Nat.{add-zero}
 use native.Mathlib.Omega.{arith}
 use lib.ListN.{length, getD, drop, length-drop, drop-of-length-le}
-use Rattle.kind.specs.Class as Class
-use Rattle.kind.specs.Bytes.{codes, same}
-use Rattle.lexer.specs.Byte.{Bracket, ByteClass, blank, return, quote, forbidden, ordinary, opening, closing, byteClass, ordinaryClass}
-use Rattle.lexer.specs.Scan.{ordinaryRun}
-use Rattle.lexer.specs.Expression.{Expr, symbol, quoted, list, Exprs, none, and}
+use Rattle.elements.specs.Class as Class
+use Rattle.elements.specs.Bytes.{codes, same}
+use Rattle.syntax.specs.Byte.{Bracket, ByteClass, blank, return, quote, forbidden, ordinary, opening, closing, byteClass, ordinaryClass}
+use Rattle.syntax.specs.Scan.{ordinaryRun}
+use Rattle.syntax.specs.Expression.{Expr, symbol, quoted, list, Exprs, none, and}
 use Rattle.lexer.specs.Token.{blanks, stringAt, leadClassAt, leadLength, Seen, seenEnd, seenBy, seenFirst, seen, atomValue, the-end, a-symbol}
 use Rattle.lexer.specs.Token.{a-string, a-list}
 use Rattle.document.specs.Spelling.{leadClass, listClass}

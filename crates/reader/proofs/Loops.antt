@@ -11,11 +11,11 @@ use lib.Dec.{eqb, leb}
 use lib.ListN.{length}
 use borrow.Author.Tests.{ne-eqb, lt-leb, eqb-true, eqb-false, leb-false}
 use Rattle.laws.proofs.Booleans.{bool-case}
-use Rattle.kind.specs.Class as Class
-use Rattle.kind.specs.Class.{isElement}
-use Rattle.kind.specs.Inside.{start}
+use Rattle.elements.specs.Class as Class
+use Rattle.elements.specs.Class.{isElement}
+use Rattle.elements.specs.Inside.{start}
 use Rattle.kind.proofs.Steps.{start-state}
-use Rattle.lexer.specs.Expression.{Expr, list, Exprs, and}
+use Rattle.syntax.specs.Expression.{Expr, list, Exprs, and}
 use Rattle.document.specs.Spelling.{exprClass, listClass}
 use Rattle.document.specs.Meaning.{Verdict, fine, fault, finish, run, judge, judgeValue, valueTree}
 use Rattle.reader.specs.Stands.{Stands}

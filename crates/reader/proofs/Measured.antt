@@ -9,10 +9,10 @@ use borrow.Author.Tests.{ne-eqb}
 use lib.ListN.{length, drop, take}
 use lib.Seq.{drop-drop}
 use Rattle.laws.proofs.Booleans.{both}
-use Rattle.lexer.specs.Byte.{ByteClass, blank, return, quote, forbidden, ordinary, opening, closing, byteClass}
-use Rattle.lexer.specs.Scan.{ordinaryRun}
+use Rattle.syntax.specs.Byte.{ByteClass, blank, return, quote, forbidden, ordinary, opening, closing, byteClass}
+use Rattle.syntax.specs.Scan.{ordinaryRun}
 use Rattle.lexer.specs.Token.{Seen, blanks, seen, seenFirst, seenBy, seenEnd, atomValue}
-use Rattle.lexer.specs.Expression.{Expr, symbol, quoted, list, Exprs, none, and}
+use Rattle.syntax.specs.Expression.{Expr, symbol, quoted, list, Exprs, none, and}
 use Rattle.lexer.proofs.Blanks.{run-part}
 use Rattle.document.specs.Value.{nonEmpty, isDecimal, decimalAfter, isSize}
 use Rattle.document.specs.Document.{size, keepsRules}

@@ -9,8 +9,8 @@ use lib.ListN.{length, take, drop}
 use lib.Seq.{drop-drop}
 use borrow.Author.Tests.{ne-eqb, le-leb, lt-leb}
 use Rattle.laws.proofs.Booleans.{and-false}
-use Rattle.lexer.specs.Byte.{ByteClass, blank, return, quote, forbidden, ordinary, opening, closing, byteClass}
-use Rattle.lexer.specs.Expression.{Expr, symbol, list, Exprs, none, and}
+use Rattle.syntax.specs.Byte.{ByteClass, blank, return, quote, forbidden, ordinary, opening, closing, byteClass}
+use Rattle.syntax.specs.Expression.{Expr, symbol, list, Exprs, none, and}
 use Rattle.lexer.specs.Token.{Seen, blanks, seenEnd, seenBy, seenFirst, seen, atomValue}
 use Rattle.lexer.proofs.Blanks.{run-part}
 use Rattle.document.specs.Value.{isSize, isDecimal, nonEmpty}

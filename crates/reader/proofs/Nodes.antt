@@ -6,10 +6,10 @@ use mathlib.Core.List.{List, [], _∷_}
 use native.Mathlib.Omega.{arith}
 use lib.ListN.{length, drop, set}
 use lib.Seq.{sets}
-use Rattle.kind.specs.Class as Class
-use Rattle.kind.specs.Inside.{start}
+use Rattle.elements.specs.Class as Class
+use Rattle.elements.specs.Inside.{start}
 use Rattle.lexer.specs.Token.{Seen, seen, atomValue}
-use Rattle.lexer.specs.Expression.{Expr, list, Exprs, none, and}
+use Rattle.syntax.specs.Expression.{Expr, list, Exprs, none, and}
 use Rattle.document.specs.Document.{text, missing, keyIn, typeIn}
 use Rattle.document.specs.Spelling.{leadClass, listClass}
 use Rattle.document.specs.Meaning.{fine, judge, judgeList, finish, run, treeOf, treesOf, places}

@@ -13,18 +13,20 @@ use Rattle.utf8.specs.Scalar.{IsUtf8}
 use Rattle.utf8.specs.Sequence.{validUpTo}
 use Rattle.utf8.proofs.Walk.{valid-within}
 use Rattle.utf8.proofs.Agree.{valid-utf8}
-use Rattle.lexer.specs.Syntax.{Forest, another, Ok, bytesOf as forestBytes, levels}
-use Rattle.lexer.specs.Expression.{Expr, Exprs, none, and, locate, depthAll}
-use Rattle.lexer.specs.Scan as Scan
-use Rattle.lexer.specs.Scan.{Scanned, scan}
+use Rattle.syntax.specs.Syntax.{Forest, another, Ok, bytesOf as forestBytes, levels}
+use Rattle.syntax.specs.Expression.{Expr, Exprs, none, and, locate, depthAll}
+use Rattle.syntax.specs.Scan as Scan
+use Rattle.syntax.specs.Scan.{Scanned, scan}
 use Rattle.lexer.specs.Token.{scanNumber, scanPlace}
-use Rattle.lexer.proofs.Decided.{accepts, refused-fault}
-use Rattle.lexer.proofs.Located.{located-depth}
-use Rattle.kind.specs.Class as Class
+use Rattle.syntax.proofs.Decided.{accepts, refused-fault}
+use Rattle.syntax.proofs.Located.{located-depth}
+use Rattle.elements.specs.Class as Class
 use Rattle.document.specs.Document.{Node, says, Document, isNode}
 use Rattle.document.specs.Meaning.{Verdict, fine, fault, judgeRoot, treeOf, places}
 use Rattle.document.specs.Imperative.{regroup}
 use Rattle.document.specs.Table.{count, pool}
+use Rattle.document.specs.Canonical.{layout, treeLevels}
+use Rattle.document.proofs.Levels.{spelled-levels}
 use Rattle.document.proofs.Reading.{Found, found}
 use Rattle.document.proofs.Places.{root-places, element-node}
 use Rattle.document.proofs.Blocks.{root-document}
@@ -56,6 +58,7 @@ pub record Judged (s : Spelling) (text : List ℕ) (m : Memory) (x : Passed s te
   pub form : NestedForm s (x .es) expr
   pub fine-root : judgeRoot expr ≡ fine
   pub document : Document (says (treeOf expr))
+  pub levels : treeLevels (layout (says (treeOf expr))) ≤ 64
   pub nodes-are : w .nodes ≡ count (says (treeOf expr))
   pub bytes-are : w .pool ≡ length (pool (says (treeOf expr)))
   pub goes-on : outcome s text m ≡ stored text m (places expr) (says (treeOf expr))
@@ -88,7 +91,7 @@ one-read imperative n (and x es) e o =
     let (ok, same) = judged-fine imperative (regroup x es) e (judgeRoot (regroup x es)) o in
     (rw (← same) (regrouped x es), rw same at ok)
 
-root-node : (e : Expr) → judgeRoot e ≡ fine → T (isNode (treeOf e))
+pub root-node : (e : Expr) → judgeRoot e ≡ fine → T (isNode (treeOf e))
 unfolding Class.isElement Class.isKind
 root-node e ok = element-node e (rw (root-document e ok .0))
 
@@ -161,6 +164,7 @@ module _ (s : Spelling) (text : List ℕ) (m : Memory) where
               form = form;
               fine-root = ok;
               document = record { tree = sp .tree; lawful = sp .lawful; said = sp .said };
+              levels = spelled-levels s (says (treeOf e′)) text sp;
               nodes-are = ap (λ (v : Walked). v .nodes) e ∙ sym (nodes-places e′) ∙ root-places e′ ok;
               bytes-are = ap (λ (v : Walked). v .pool) e ∙ sym (bytes-pool e′ (root-node e′ ok));
               goes-on = x .goes-on ∙ rw o;

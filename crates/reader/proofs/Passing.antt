@@ -7,9 +7,9 @@ use mathlib.Core.List.{List}
 use native.Mathlib.Omega.{arith}
 use lib.ListN.{length, drop}
 use lib.Seq.{drop-length}
-use Rattle.lexer.specs.Scan.{ordinaryRun}
+use Rattle.syntax.specs.Scan.{ordinaryRun}
 use Rattle.lexer.specs.Token.{Seen, seen, atomValue}
-use Rattle.lexer.specs.Expression.{Expr, Exprs, none, and}
+use Rattle.syntax.specs.Expression.{Expr, Exprs, none, and}
 use Rattle.document.specs.Spelling.{listClass, exprClass}
 use Rattle.document.specs.Meaning.{textBytes, onlyOne}
 use Rattle.lexer.specs.declared.token.Seen.{Seen as Answered}

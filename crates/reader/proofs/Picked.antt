@@ -8,11 +8,11 @@ use lib.Dec.{T, eqb, leb, eqb→eq, leb→le, T-not}
 use native.Mathlib.Omega.{arith}
 use borrow.Author.Tests.{eqb-true, eqb-false, eq-eqb, ne-eqb}
 use Rattle.laws.proofs.Booleans.{cond-case, bool-case, both, both-true, or-true, or-false, true-T}
-use Rattle.kind.specs.Bytes.{among}
-use Rattle.kind.specs.Class as Class
-use Rattle.kind.specs.Rules.{Slot, must, may, id-type, Content, any-of, exactly-one, Rule, rules, ruleIn, ruleOf}
-use Rattle.kind.specs.Inside.{State, expecting, holding, Step, go, bad, sort, isInclude, allows, firstChild, nextChild, nextParameter, step, start}
-use Rattle.lexer.specs.Expression.{Expr, symbol, quoted, list, Exprs, none, and}
+use Rattle.elements.specs.Bytes.{among}
+use Rattle.elements.specs.Class as Class
+use Rattle.elements.specs.Rules.{Slot, must, may, id-type, Content, any-of, exactly-one, Rule, rules, ruleIn, ruleOf}
+use Rattle.elements.specs.Inside.{State, expecting, holding, Step, go, bad, sort, isInclude, allows, firstChild, nextChild, nextParameter, step, start}
+use Rattle.syntax.specs.Expression.{Expr, symbol, quoted, list, Exprs, none, and}
 use Rattle.document.specs.Spelling.{leadClass, listClass, exprClass}
 use Rattle.document.specs.Value.{nonEmpty, isValue, isSize, isDecimal}
 use Rattle.document.specs.Document.{Tree, keepsRules}

@@ -7,10 +7,10 @@ use lib.Dec.{T, eqb}
 use native.Mathlib.Omega.{arith}
 use lib.ListN.{length, drop, set}
 use Rattle.laws.proofs.Booleans.{both, true-T, false-not-T}
-use Rattle.kind.specs.Class as Class
-use Rattle.kind.specs.Inside.{start}
+use Rattle.elements.specs.Class as Class
+use Rattle.elements.specs.Inside.{start}
 use Rattle.lexer.specs.Token.{Seen, seen}
-use Rattle.lexer.specs.Expression.{Expr, list, Exprs, none, and}
+use Rattle.syntax.specs.Expression.{Expr, list, Exprs, none, and}
 use Rattle.document.specs.Document.{keyIn, typeIn}
 use Rattle.document.specs.Spelling.{leadClass, exprClass, join}
 use Rattle.document.specs.Meaning.{fine, judge, finish, run, treesOf}

@@ -10,7 +10,7 @@ use native.Mathlib.Nat.{zero-add}
 use lib.ListN.{length, drop, length-append}
 use lib.Seq.{sets, sets-eq}
 use Rattle.laws.proofs.Booleans.{true-T, T-true}
-use Rattle.lexer.specs.Expression.{Expr, Exprs, none, and}
+use Rattle.syntax.specs.Expression.{Expr, Exprs, none, and}
 use Rattle.document.specs.Document.{childless, child, isNode, says, sayAll, missing}
 use Rattle.document.specs.Meaning.{treeOf, treesOf, places, allPlaces}
 use Rattle.document.specs.Table.{count, countAll, pool, poolAll, rows, rowsAll, tableOf}

@@ -6,10 +6,10 @@ use native.Mathlib.Omega.{arith}
 use lib.Dec.{eqb}
 use lib.ListN.{length, length-append}
 use Rattle.laws.proofs.Booleans.{cond-case}
-use Rattle.lexer.specs.Syntax.{Piece, raw, letter, number, pieceBefore, piecesBefore, isPiece, pieceValue, piecesValue}
-use Rattle.lexer.specs.Scan.{Quoted, closed, unclosed, bad-escape, piece, escapeAt, quotedFrom}
+use Rattle.syntax.specs.Syntax.{Piece, raw, letter, number, pieceBefore, piecesBefore, isPiece, pieceValue, piecesValue}
+use Rattle.syntax.specs.Scan.{Quoted, closed, unclosed, bad-escape, piece, escapeAt, quotedFrom}
 use Rattle.lexer.specs.Token.{StringEnd, stringEnd, stringAt, contentOf, atomValue}
-use Rattle.lexer.proofs.Strings.{piece-append}
+use Rattle.syntax.proofs.Strings.{piece-append}
 use Rattle.lexer.proofs.PieceAt.{piece-few}
 use Rattle.lexer.proofs.Contents.{content-anywhere}
 

@@ -6,8 +6,8 @@ use mathlib.Core.List.{List, _∷_}
 use native.Mathlib.Omega.{arith}
 use borrow.Author.Tests.{le-leb, lt-leb, leb-true, leb-false}
 use lib.Dec.{leb}
-use Rattle.kind.specs.Class as Class
-use Rattle.lexer.specs.Expression.{Exprs, none, and}
+use Rattle.elements.specs.Class as Class
+use Rattle.syntax.specs.Expression.{Exprs, none, and}
 use Rattle.document.specs.Spelling.{exprClass}
 use Rattle.document.specs.Imperative.{isCommand, loose, block, stillOpen, childOf, opened, atInnermost, contentsOf}
 use Rattle.reader.specs.Takes.{Takes, at-end, at-command, expression, a-block}

@@ -6,10 +6,10 @@ use native.Mathlib.Omega.{arith}
 use native.Mathlib.Numerals.{add-one}
 use lib.ListN.{length}
 use borrow.Author.Tests.{ne-eqb}
-use Rattle.kind.specs.Class as Class
-use Rattle.kind.specs.Inside.{start}
-use Rattle.lexer.specs.Byte.{Bracket, closing}
-use Rattle.lexer.specs.Expression.{Expr, symbol, quoted, list, Exprs, none, and, place}
+use Rattle.elements.specs.Class as Class
+use Rattle.elements.specs.Inside.{start}
+use Rattle.syntax.specs.Byte.{Bracket, closing}
+use Rattle.syntax.specs.Expression.{Expr, symbol, quoted, list, Exprs, none, and, place}
 use Rattle.lexer.specs.Token.{Seen}
 use Rattle.document.specs.Spelling.{nested, leadClass, listClass, exprClass}
 use Rattle.document.specs.Meaning.{Verdict, fine, fault, finish, run, judge, judgeRoot}

@@ -9,11 +9,11 @@ use lib.Dec.{T, eqb, ltb}
 use lib.ListN.{length, drop}
 use borrow.Author.Tests.{ne-eqb}
 use Rattle.laws.proofs.Booleans.{cond-case, both}
-use Rattle.kind.specs.Class as Class
-use Rattle.kind.specs.Rules.{Slot, must, may, id-type, ruleOf}
-use Rattle.kind.specs.Inside.{State, expecting, holding, Step, go, bad, step as stepped, ended}
+use Rattle.elements.specs.Class as Class
+use Rattle.elements.specs.Rules.{Slot, must, may, id-type, ruleOf}
+use Rattle.elements.specs.Inside.{State, expecting, holding, Step, go, bad, step as stepped, ended}
 use Rattle.kind.specs.Machine.{stateOf, stepOf}
-use Rattle.lexer.specs.Expression.{Expr, symbol, quoted, list, Exprs, and, place}
+use Rattle.syntax.specs.Expression.{Expr, symbol, quoted, list, Exprs, and, place}
 use Rattle.lexer.specs.Token.{Seen, seen}
 use Rattle.document.specs.Spelling.{exprClass}
 use Rattle.document.specs.Faults.{Begun, Taken, Allowed}

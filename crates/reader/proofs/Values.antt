@@ -9,11 +9,11 @@ use lib.ListN.{length, drop, length-append}
 use native.Mathlib.Nat.{add-zero}
 use borrow.Author.Tests.{ne-eqb, eqb-true, eqb-false, not-true, not-false}
 use Rattle.laws.proofs.Booleans.{bool-case, and-true, and-false}
-use Rattle.kind.specs.Class as Class
-use Rattle.kind.specs.Characters.{typeCharacter, idCharacter, uriCharacter, characterOf}
-use Rattle.lexer.specs.Expression.{Expr, symbol, quoted, list, Exprs, none, and}
-use Rattle.lexer.specs.Syntax.{pieceValue, piecesValue}
-use Rattle.lexer.specs.Scan.{Quoted, closed, unclosed, bad-escape, quotedFrom}
+use Rattle.elements.specs.Class as Class
+use Rattle.elements.specs.Characters.{typeCharacter, idCharacter, uriCharacter, characterOf}
+use Rattle.syntax.specs.Expression.{Expr, symbol, quoted, list, Exprs, none, and}
+use Rattle.syntax.specs.Syntax.{pieceValue, piecesValue}
+use Rattle.syntax.specs.Scan.{Quoted, closed, unclosed, bad-escape, quotedFrom}
 use Rattle.lexer.specs.Token.{Seen, stringEnd, stringAt, atomValue, fits}
 use Rattle.lexer.proofs.PieceAt.{piece-few}
 use Rattle.document.specs.Value.{nonEmpty, every, namesBlock, targetCharacter, isValue}

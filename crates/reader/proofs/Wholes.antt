@@ -7,8 +7,8 @@ use native.Mathlib.Omega.{arith}
 use lib.ListN.{length}
 use lib.Seq.{sets}
 use Rattle.laws.proofs.Booleans.{true-T}
-use Rattle.kind.specs.Class as Class
-use Rattle.lexer.specs.Expression.{Expr, symbol, quoted, list, Exprs, none, and}
+use Rattle.elements.specs.Class as Class
+use Rattle.syntax.specs.Expression.{Expr, symbol, quoted, list, Exprs, none, and}
 use Rattle.document.specs.Document.{isNode, says, missing}
 use Rattle.document.specs.Spelling.{listClass, exprClass}
 use Rattle.document.specs.Meaning.{fine, judgeRoot, treeOf, places, allPlaces}

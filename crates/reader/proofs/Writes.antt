@@ -8,8 +8,8 @@ use native.Mathlib.Numerals.{add-one}
 use native.Mathlib.Omega.{arith}
 use lib.ListN.{length, set, length-append}
 use lib.Seq.{sets}
-use Rattle.kind.specs.Class as Class
-use Rattle.lexer.specs.Expression.{Expr, list, Exprs, none, and}
+use Rattle.elements.specs.Class as Class
+use Rattle.syntax.specs.Expression.{Expr, list, Exprs, none, and}
 use Rattle.document.specs.Document.{Trees, text, node, Nodes, childless, child, isNode, says, sayAll, missing, keyIn, typeIn, widthIn, heightIn}
 use Rattle.document.specs.Spelling.{leadClass}
 use Rattle.document.specs.Meaning.{treeOf, treesOf, places, allPlaces}

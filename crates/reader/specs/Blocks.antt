@@ -4,11 +4,11 @@ use mathlib.Core.Path.{_≡_}
 use mathlib.Core.Bool.{Bool, true, not, cond, _&&_, _||_}
 use mathlib.Core.List.{List}
 use lib.Dec.{eqb, leb}
-use Rattle.kind.specs.Class as Class
-use Rattle.kind.specs.Inside.{step as stepped, bad}
+use Rattle.elements.specs.Class as Class
+use Rattle.elements.specs.Inside.{step as stepped, bad}
 use Rattle.kind.specs.Machine.{stateOf}
-use Rattle.lexer.specs.Byte.{Bracket, closing}
-use Rattle.lexer.specs.Expression.{Expr, Exprs, none, and}
+use Rattle.syntax.specs.Byte.{Bracket, closing}
+use Rattle.syntax.specs.Expression.{Expr, Exprs, none, and}
 use Rattle.document.specs.Spelling.{exprClass, isBlockParameter, join}
 use Rattle.document.specs.Meaning.{fault, judge}
 use Rattle.document.specs.Imperative.{inCommand}

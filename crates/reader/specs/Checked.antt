@@ -1,28 +1,19 @@
--- The answer of the check of a table, 15 to 18, in numbers: 0 at node 0 where the document is well-formed.
-use Prim.Native.Nat.{ℕ, _*_}
-use mathlib.Core.Path.{_≡_}
+-- The check of a filled table, with the place of the node that it names. It serves the contracts of private functions.
+use Prim.Native.Nat.{ℕ, _*_, _≤_}
 use mathlib.Core.List.{List}
 use lib.ListN.{length, take, getD}
-use Rattle.document.specs.Document.{Node, Document}
-use Rattle.document.specs.Table.{recordLength, tableOf, pool, count}
-use Rattle.document.specs.WellFormed.{Check, sound, unsound, check}
-
-unfoldable pub checkNumber : Check → ℕ
-checkNumber sound = 0
-checkNumber (unsound n i) = n
-
-unfoldable pub checkNode : Check → ℕ
-checkNode sound = 0
-checkNode (unsound n i) = i
+use Rattle.document.specs.Document.{Node}
+use Rattle.document.specs.Table.{recordLength}
+use Rattle.document.specs.WellFormed.{Check, sound, unsound}
+use Rattle.document.specs.Printing.{IsDraft}
 
 -- The place of the node, from the place list; 0 where there is no fault.
 unfoldable pub checkPlace : List ℕ → Check → ℕ
 checkPlace ps sound = 0
 checkPlace ps (unsound n i) = getD ps i 0
 
--- The words and bytes begin with the table and the pool of the document d, which has n nodes.
-pub record Holds (words : List ℕ) (n : ℕ) (bytes : List ℕ) (d : Node) : Type 0 where
-  pub document : Document d
-  pub counted : count d ≡ n
-  pub node-words : take (recordLength * n) words ≡ tableOf d
-  pub pool-bytes : take (length (pool d)) bytes ≡ pool d
+-- The words begin with the table of the document d, which has n nodes, and the bytes with its pool of m bytes.
+pub record Held (words : List ℕ) (n : ℕ) (bytes : List ℕ) (m : ℕ) (d : Node) : Type 0 where
+  pub words-within : recordLength * n ≤ length words
+  pub bytes-within : m ≤ length bytes
+  pub draft : IsDraft d (take (recordLength * n) words) (take m bytes)

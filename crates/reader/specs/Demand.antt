@@ -1,4 +1,4 @@
--- Demand 3 of a call: what it answered and left in the lent memory is a document's. No definition of reading is in it.
+-- The demands of calls: what one answered and left in the lent memory is a document's, and what two of them did is alike. No definition of reading is in it.
 use mathlib.Core.Path.{_≡_}
 use lib.ListN.{length}
 use Rattle.document.specs.Document.{Node}
@@ -13,3 +13,11 @@ pub record ReadBy (m : Memory) (r : Answer) (exit : Memory) (d : Node) : Type 0 
   pub bytes : r .pool ≡ length (pool d)
   pub node-words : exit .nodes ≡ over (tableOf d) (m .nodes)
   pub pool-bytes : exit .pool ≡ over (pool d) (m .pool)
+
+-- Two calls answered one number and the same counts, and left the same node words and pool.
+pub record ReadAlike (r r′ : Answer) (exit exit′ : Memory) : Type 0 where
+  pub number : r .number ≡ r′ .number
+  pub nodes : r .nodes ≡ r′ .nodes
+  pub bytes : r .pool ≡ r′ .pool
+  pub node-words : exit .nodes ≡ exit′ .nodes
+  pub pool-bytes : exit .pool ≡ exit′ .pool

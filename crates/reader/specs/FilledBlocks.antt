@@ -4,8 +4,8 @@ use mathlib.Core.Path.{_≡_}
 use mathlib.Core.List.{List}
 use lib.Dec.{T}
 use lib.ListN.{length}
-use Rattle.kind.specs.Class as Class
-use Rattle.lexer.specs.Expression.{Expr, list, Exprs, none, and}
+use Rattle.elements.specs.Class as Class
+use Rattle.syntax.specs.Expression.{Expr, list, Exprs, none, and}
 use Rattle.document.specs.Spelling.{leadClass}
 use Rattle.document.specs.Meaning.{fine, judge}
 use Rattle.document.specs.Imperative.{block}

@@ -7,8 +7,8 @@ use mathlib.Core.List.{List, [], _∷_, _++_}
 use lib.Dec.{eqb, leb}
 use lib.ListN.{length, set}
 use lib.Seq.{sets}
-use Rattle.kind.specs.Class as Class
-use Rattle.lexer.specs.Expression.{Expr, symbol, quoted, list, Exprs, none, and}
+use Rattle.elements.specs.Class as Class
+use Rattle.syntax.specs.Expression.{Expr, symbol, quoted, list, Exprs, none, and}
 use Rattle.document.specs.Document.{Nodes, sayAll, keyIn, typeIn, widthIn, heightIn}
 use Rattle.document.specs.Spelling.{leadClass, exprClass}
 use Rattle.document.specs.Meaning.{fine, judge, treesOf, allPlaces}

@@ -5,7 +5,7 @@ use mathlib.Core.List.{List}
 use lib.Dec.{ltb}
 use lib.ListN.{length}
 use Rattle.utf8.specs.Sequence.{validUpTo}
-use Rattle.lexer.specs.Scan.{scan}
+use Rattle.syntax.specs.Scan.{scan}
 use Rattle.lexer.specs.Token.{scanNumber, scanPlace}
 use Rattle.document.specs.Table.{recordLength}
 

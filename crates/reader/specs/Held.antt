@@ -5,8 +5,8 @@ use mathlib.Core.Bool.{Bool, true, false, cond, not, _&&_, _||_}
 use mathlib.Core.List.{List, []}
 use lib.Dec.{eqb}
 use lib.ListN.{length, drop}
-use Rattle.kind.specs.Class as Class
-use Rattle.lexer.specs.Expression.{Expr, Exprs, none, and}
+use Rattle.elements.specs.Class as Class
+use Rattle.syntax.specs.Expression.{Expr, Exprs, none, and}
 use Rattle.lexer.specs.Token.{a-symbol, a-string, atomValue}
 use Rattle.document.specs.Meaning.{onlyOne, textBytes, symbolBytes, numberOf}
 use Rattle.reader.specs.Stands.{Stands}

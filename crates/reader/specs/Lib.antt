@@ -7,7 +7,6 @@ pub mod Takes
 pub mod Blocks
 pub mod Second
 pub mod Checked
-pub mod Words
 pub mod Filling
 pub mod FilledBlocks
 pub mod Groups

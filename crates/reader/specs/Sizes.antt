@@ -2,8 +2,8 @@
 use Prim.Native.Nat.{ℕ, suc, _+_}
 use mathlib.Core.Bool.{cond}
 use lib.ListN.{length}
-use Rattle.kind.specs.Class as Class
-use Rattle.lexer.specs.Expression.{Expr, symbol, quoted, list, Exprs, none, and}
+use Rattle.elements.specs.Class as Class
+use Rattle.syntax.specs.Expression.{Expr, symbol, quoted, list, Exprs, none, and}
 use Rattle.document.specs.Document.{keyOf, typeOf}
 use Rattle.document.specs.Spelling.{leadClass}
 use Rattle.document.specs.Meaning.{valueTree}

@@ -3,9 +3,9 @@ use Prim.Native.Nat.{ℕ, _+_, _<_}
 use mathlib.Core.Path.{_≡_}
 use mathlib.Core.List.{List}
 use lib.ListN.{length, getD, drop}
-use Rattle.lexer.specs.Byte.{Bracket, ByteClass, blank, return, quote, ordinary, opening, closing, byteClass}
-use Rattle.lexer.specs.Expression.{symbol, quoted, list, Exprs, none, and}
-use Rattle.lexer.specs.Scan.{ordinaryRun}
+use Rattle.syntax.specs.Byte.{Bracket, ByteClass, blank, return, quote, ordinary, opening, closing, byteClass}
+use Rattle.syntax.specs.Expression.{symbol, quoted, list, Exprs, none, and}
+use Rattle.syntax.specs.Scan.{ordinaryRun}
 use Rattle.lexer.specs.Token.{atomValue, stringAt}
 
 -- A byte of this class stands at i.

@@ -3,8 +3,8 @@
 use Prim.Native.Nat.{ℕ, _≤_, _<_}
 use mathlib.Core.Path.{_≡_}
 use mathlib.Core.Bool.{true, false}
-use Rattle.kind.specs.Class as Class
-use Rattle.lexer.specs.Expression.{Expr, Exprs, none, and}
+use Rattle.elements.specs.Class as Class
+use Rattle.syntax.specs.Expression.{Expr, Exprs, none, and}
 use Rattle.document.specs.Spelling.{exprClass}
 use Rattle.document.specs.Imperative.{isCommand, loose, block}
 

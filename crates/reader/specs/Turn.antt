@@ -5,11 +5,11 @@ use mathlib.Core.Bool.{cond}
 use mathlib.Core.List.{List}
 use lib.Dec.{eqb, leb}
 use lib.ListN.{length}
-use Rattle.kind.specs.Class.{isElement}
-use Rattle.kind.specs.Inside.{step as stepped, start, go}
+use Rattle.elements.specs.Class.{isElement}
+use Rattle.elements.specs.Inside.{step as stepped, start, go}
 use Rattle.kind.specs.Machine.{stateOf}
-use Rattle.lexer.specs.Byte.{Bracket, closing}
-use Rattle.lexer.specs.Expression.{Expr, list, Exprs, and}
+use Rattle.syntax.specs.Byte.{Bracket, closing}
+use Rattle.syntax.specs.Expression.{Expr, list, Exprs, and}
 use Rattle.document.specs.Spelling.{leadClass}
 use Rattle.document.specs.Meaning.{Verdict, fine, fault, finish, run, judgeValue, valueTree}
 use Rattle.reader.specs.Stands.{Has, Stands}

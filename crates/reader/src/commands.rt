@@ -15,7 +15,7 @@ ghost use mathlib.Core.Path.{_≡_};
 ghost use Prim.Native.Nat.{ℕ, _+_, _≤_, _<_};
 ghost use lib.ListN.{length};
 ghost use Rattle.document.specs.Spelling.{isBlockParameter};
-ghost use Rattle.lexer.specs.Expression.{Exprs, depthAll};
+ghost use Rattle.syntax.specs.Expression.{Exprs, depthAll};
 ghost use Rattle.document.specs.Spelling.{Spelling};
 ghost use Rattle.document.specs.Answer.{oneExpression};
 ghost use Rattle.reader.specs.Stands.{Stands};

@@ -3,7 +3,6 @@ mod block_fill; // block_fill.rt: the fill of a whole text, in either spelling
 mod commands; // commands.rt: judging an imperative text
 mod fill; // fill.rt: the fill of the table from expressions that were judged
 mod nested; // nested.rt: judging a nested text
-mod validate; // validate.rt: the check of a filled table
 mod value; // value.rt: the values of parameters
 mod walk; // walk.rt: the judging walk over elements
 
@@ -12,14 +11,14 @@ use block_fill::fill_nested;
 use commands::judge_imperative;
 use lexer::scan;
 use nested::judge_nested;
-use validate::check_table;
 ghost use mathlib.Core.Path.{_≡_};
 ghost use Prim.Native.Nat.{_≤_, min};
 ghost use Rattle.document.specs.Document.{Node};
 ghost use Rattle.document.specs.WellFormed.{check};
 ghost use Rattle.document.specs.Spelling.{nested, imperative};
 ghost use Rattle.document.specs.Answer.{answerAt};
-ghost use Rattle.reader.specs.Checked.{checkNumber, checkPlace, Holds};
+ghost use Rattle.validate.specs.Checked.{checkNumber};
+ghost use Rattle.reader.specs.Checked.{checkPlace, Held};
 ghost use Rattle.reader.specs.Groups.{groupNumber, groupPlace, roomNumber};
 ghost use Rattle.reader.specs.Read.{Answers, Reads};
 
@@ -83,12 +82,13 @@ fn room(words: usize, places: usize, bytes: usize, nodes: usize, pool: usize) ->
 }
 
 // The check of a table that was filled, 15 to 18 at the place of their node, or 0.
-fn checked(nodes: &[u32], places: &[u32], pool: &[u8], count: usize) -> Group
-    ensures { λ r. ⌜ ((d : Node) → Holds (now (nodes .entry)) count (now (pool .entry)) d
+fn checked(nodes: &[u32], places: &[u32], pool: &[u8], count: usize, bytes: usize) -> Group
+    requires { ⌜ (count ≤ 65536) × (bytes ≤ 65536) ⌝ }
+    ensures { λ r. ⌜ ((d : Node) → Held (now (nodes .entry)) count (now (pool .entry)) bytes d
         → (r .number ≡ checkNumber (check d)) × (r .place ≡ checkPlace (now (places .entry)) (check d))) ⌝ }
 {
-    let c = check_table(nodes, count, pool);
-    let node = c.node;
+    let c = validate::check(nodes, count as u32, pool, bytes as u32);
+    let node = c.node as usize;
     if c.number == 0 {
         return Group {
             number: 0,
@@ -123,7 +123,8 @@ fn answer_at(text: &[u8], number: u32, place: usize, nodes: usize, pool: usize) 
     }
 }
 
-fn read_nested(text: &[u8], nodes: &mut [u32], places: &mut [u32], pool: &mut [u8]) -> Answer
+// Reads a text in the nested spelling into the lent memory: the answer, and what is left in each slice, whatever the text and however little is lent.
+pub fn read_nested(text: &[u8], nodes: &mut [u32], places: &mut [u32], pool: &mut [u8]) -> Answer
     ensures { λ r. ⌜ Reads nested (now (text .entry)) (record { nodes = now (nodes .entry); places = now (places .entry); pool = now (pool .entry) }) r
         (record { nodes = now (nodes .exit); places = now (places .exit); pool = now (pool .exit) }) ⌝ }
 {
@@ -140,11 +141,17 @@ fn read_nested(text: &[u8], nodes: &mut [u32], places: &mut [u32], pool: &mut [u
         return answer_at(text, full, 0, w.nodes, w.pool);
     }
     fill_nested(text, nodes, places, pool);
-    let c = checked(nodes, places, pool, w.nodes);
+    let c = checked(nodes, places, pool, w.nodes, w.pool);
     answer_at(text, c.number, c.place, w.nodes, w.pool)
 }
 
-fn read_imperative(text: &[u8], nodes: &mut [u32], places: &mut [u32], pool: &mut [u8]) -> Answer
+// The same in the imperative spelling.
+pub fn read_imperative(
+    text: &[u8],
+    nodes: &mut [u32],
+    places: &mut [u32],
+    pool: &mut [u8],
+) -> Answer
     ensures { λ r. ⌜ Reads imperative (now (text .entry)) (record { nodes = now (nodes .entry); places = now (places .entry); pool = now (pool .entry) }) r
         (record { nodes = now (nodes .exit); places = now (places .exit); pool = now (pool .exit) }) ⌝ }
 {
@@ -161,6 +168,6 @@ fn read_imperative(text: &[u8], nodes: &mut [u32], places: &mut [u32], pool: &mu
         return answer_at(text, full, 0, w.nodes, w.pool);
     }
     fill_imperative(text, nodes, places, pool);
-    let c = checked(nodes, places, pool, w.nodes);
+    let c = checked(nodes, places, pool, w.nodes, w.pool);
     answer_at(text, c.number, c.place, w.nodes, w.pool)
 }

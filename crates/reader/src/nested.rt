@@ -6,7 +6,7 @@ use lexer::look;
 ghost use mathlib.Core.Path.{_≡_};
 ghost use Prim.Native.Nat.{ℕ};
 ghost use lib.ListN.{length};
-ghost use Rattle.lexer.specs.Expression.{Expr, Exprs, and};
+ghost use Rattle.syntax.specs.Expression.{Expr, Exprs, and};
 ghost use Rattle.document.specs.Spelling.{nested};
 ghost use Rattle.document.specs.Answer.{oneExpression};
 ghost use Rattle.reader.specs.Stands.{Stands};

@@ -7,7 +7,7 @@ ghost use mathlib.Core.Path.{_≡_};
 ghost use mathlib.Core.Bool.{cond, _&&_};
 ghost use Prim.Native.Nat.{ℕ, _+_, _≤_};
 ghost use lib.ListN.{length, take, drop};
-ghost use Rattle.lexer.specs.Expression.{Exprs, Expr};
+ghost use Rattle.syntax.specs.Expression.{Exprs, Expr};
 ghost use Rattle.lexer.specs.Token.{atomValue};
 ghost use Rattle.document.specs.Value.{nonEmpty, isValue, namesBlock};
 ghost use Rattle.document.specs.Meaning.{judgeValue, valueTree, sizeTree, numberOf};

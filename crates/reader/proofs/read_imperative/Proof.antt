@@ -64,7 +64,11 @@ fill-imperative-requires : tie.Need-fill-imperative-requires
 fill-imperative-requires c κs = search needs
 
 checked-requires : tie.Need-checked-requires
-checked-requires c κs = search needs
+unfolding mostLevels
+checked-requires c κs =
+    let (p, n, b) = walk-fits imperative _ _ _ (c .before .before .before .before .before .before .before .before .before .before .before .before .before .before .before .before .before .before .before .before .first-groups .ensures) (c .before .before .before .before .before .before .before .before .before .before .before .before .before .before .before .before .before .before .if1 .left)
+    _ (λ es st deep. c .before .before .before .before .before .before .before .before .before .before .before .before .before .before .before .before .before .judge-imperative .ensures es st deep) in
+    (n, b)
 
 answer-at-requires-4 : tie.Need-answer-at-requires-4
 unfolding mostLevels

@@ -64,7 +64,11 @@ fill-nested-requires : tie.Need-fill-nested-requires
 fill-nested-requires c κs = search needs
 
 checked-requires : tie.Need-checked-requires
-checked-requires c κs = search needs
+unfolding mostLevels
+checked-requires c κs =
+    let (p, n, b) = walk-fits nested _ _ _ (c .before .before .before .before .before .before .before .before .before .before .before .before .before .before .before .before .before .before .before .before .first-groups .ensures) (c .before .before .before .before .before .before .before .before .before .before .before .before .before .before .before .before .before .before .if1 .left)
+    _ (λ es st deep. c .before .before .before .before .before .before .before .before .before .before .before .before .before .before .before .before .before .judge-nested .ensures es st) in
+    (n, b)
 
 answer-at-requires-4 : tie.Need-answer-at-requires-4
 unfolding mostLevels

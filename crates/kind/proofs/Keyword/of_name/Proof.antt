@@ -1,7 +1,7 @@
 -- `Keyword::of_name` meets its contract: the classes from 26 on are the keywords. Assumes nothing.
 use borrow.Author.Needs.{needs}
 use borrow.Author.Tests.{le-leb, lt-leb}
-use Rattle.kind.specs.Class.{keywordOf}
+use Rattle.elements.specs.Class.{keywordOf}
 use Rattle.kind.proofs.Keyword.of_name.Statement.{statement}
 use Rattle.kind.proofs.Keyword.of_name.Tie as tie
 

@@ -5,7 +5,7 @@ use mathlib.Core.Bool.{cond}
 use native.Mathlib.Omega.{arith}
 use borrow.Author.Needs.{needs}
 use borrow.Author.Tests.{le-leb, lt-leb}
-use Rattle.kind.specs.Class.{isKind, kindOf}
+use Rattle.elements.specs.Class.{isKind, kindOf}
 use Rattle.kind.proofs.Kind.of_name.Statement.{statement}
 use Rattle.kind.proofs.Kind.of_name.Tie as tie
 

@@ -1,9 +1,9 @@
 -- `machine::allowed` meets its contract: the table agrees with the rules, and past it no kind has a row and no class may stand. Assumes nothing.
 use mathlib.Core.Path.{sym}
 use borrow.Author.Needs.{needs}
-use Rattle.kind.specs.Bytes.{among}
-use Rattle.kind.specs.Rules.{rules, ruleIn, ruleOf}
-use Rattle.kind.specs.Inside.{allows}
+use Rattle.elements.specs.Bytes.{among}
+use Rattle.elements.specs.Rules.{rules, ruleIn, ruleOf}
+use Rattle.elements.specs.Inside.{allows}
 use Rattle.kind.proofs.Table.{no-row, past-classes, contents, rows, bits, content-at}
 use Rattle.kind.proofs.machine.allowed.Statement.{statement}
 use Rattle.kind.proofs.machine.allowed.Tie as tie

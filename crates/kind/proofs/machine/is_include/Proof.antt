@@ -1,6 +1,6 @@
 -- `machine::is_include` meets its contract. Assumes nothing.
 use borrow.Author.Tests.{ne-eqb}
-use Rattle.kind.specs.Inside.{isInclude}
+use Rattle.elements.specs.Inside.{isInclude}
 use Rattle.kind.proofs.machine.is_include.Statement.{statement}
 use Rattle.kind.proofs.machine.is_include.Tie as tie
 

@@ -1,7 +1,7 @@
 -- `machine::last_parameter` meets its contract. Assumes nothing.
 use borrow.Author.Needs.{needs}
 use borrow.Author.Tests.{eq-eqb, ne-eqb}
-use Rattle.kind.specs.Inside.{nextParameter}
+use Rattle.elements.specs.Inside.{nextParameter}
 use Rattle.kind.specs.Machine.{stepOf}
 use Rattle.kind.proofs.Steps.{last-state}
 use Rattle.kind.proofs.machine.last_parameter.Statement.{statement}

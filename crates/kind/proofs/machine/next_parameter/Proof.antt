@@ -5,8 +5,8 @@ use mathlib.Core.Path.{_≡_, _∙_, refl, sym, ap}
 use native.Mathlib.Omega.{arith}
 use borrow.Author.Needs.{needs}
 use lib.ListN.{drop}
-use Rattle.kind.specs.Rules.{ruleOf}
-use Rattle.kind.specs.Inside.{go, nextParameter}
+use Rattle.elements.specs.Rules.{ruleOf}
+use Rattle.elements.specs.Inside.{go, nextParameter}
 use Rattle.kind.specs.Machine.{stepOf}
 use Rattle.kind.proofs.Table.{past-four}
 use Rattle.kind.proofs.Steps.{first-child, absent, required-taken, neither, either-taken, optional-taken, passed, first-child-end, place-state}

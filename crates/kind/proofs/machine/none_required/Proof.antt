@@ -4,8 +4,8 @@ use Prim.Native.Nat.{_-_}
 use mathlib.Core.Path.{_≡_, _∙_, refl, sym}
 use borrow.Author.Needs.{needs}
 use lib.ListN.{drop}
-use Rattle.kind.specs.Rules.{ruleOf}
-use Rattle.kind.specs.Inside.{noneRequired}
+use Rattle.elements.specs.Rules.{ruleOf}
+use Rattle.elements.specs.Inside.{noneRequired}
 use Rattle.kind.proofs.Table.{past-four}
 use Rattle.kind.proofs.Steps.{none-left, none-required-end, required-first, not-required}
 use Rattle.kind.proofs.machine.none_required.Statement.{statement}

@@ -1,7 +1,7 @@
 -- `machine::slot` meets its contract: the table agrees with the rules, and past it no kind has a row and no row a place. Assumes nothing.
 use borrow.Author.Needs.{needs}
 use lib.Seq.{drop-nil}
-use Rattle.kind.specs.Rules.{rules, ruleIn, ruleOf}
+use Rattle.elements.specs.Rules.{rules, ruleIn, ruleOf}
 use Rattle.kind.specs.Table.{led}
 use Rattle.kind.proofs.Table.{no-row, past-four, parameters, rows, padded, code, slot-at}
 use Rattle.kind.proofs.machine.slot.Statement.{statement}

@@ -3,7 +3,7 @@ use Prim.Native.Nat.{ℕ, _<_, _≤_}
 use mathlib.Core.Path.{_≡_}
 use native.Mathlib.Omega.{arith}
 use borrow.Author.Needs.{needs}
-use Rattle.kind.specs.Inside.{step}
+use Rattle.elements.specs.Inside.{step}
 use Rattle.kind.specs.Machine.{stateOf}
 use Rattle.kind.proofs.Steps.{place-state, child-state}
 use Rattle.kind.proofs.machine.step.Statement.{statement}

@@ -4,8 +4,8 @@ use Prim.Native.Nat.{_≤_, _-_}
 use mathlib.Core.Path.{_≡_, _∙_, refl, sym}
 use native.Mathlib.Omega.{arith}
 use lib.ListN.{length, drop}
-use Rattle.kind.specs.Bytes.{same}
-use Rattle.kind.proofs.Same.{same-lengths, same-on, same-not, same-end}
+use Rattle.elements.specs.Bytes.{same}
+use Rattle.elements.proofs.Same.{same-lengths, same-on, same-not, same-end}
 use Rattle.kind.proofs.words.is.Statement.{statement}
 use Rattle.kind.proofs.words.is.Tie as tie
 

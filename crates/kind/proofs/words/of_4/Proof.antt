@@ -1,6 +1,6 @@
 -- `words::of_4` meets its contract: the words are tried from the last of the specification's names to the first. Assumes nothing.
 use borrow.Author.Needs.{needs}
-use Rattle.kind.specs.Class.{names}
+use Rattle.elements.specs.Class.{names}
 use Rattle.kind.specs.ByLength.{namesOf, pick}
 use Rattle.kind.proofs.Tried.{tried}
 use Rattle.kind.proofs.words.of_4.Statement.{statement}

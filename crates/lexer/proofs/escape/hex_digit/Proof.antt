@@ -3,7 +3,7 @@ use Prim.Native.Nat.{ℕ}
 use native.Mathlib.Omega.{arith}
 use borrow.Author.Needs.{needs}
 use borrow.Author.Tests.{le-leb, lt-leb}
-use Rattle.lexer.specs.Syntax.{isHex, hexDigit}
+use Rattle.syntax.specs.Syntax.{isHex, hexDigit}
 use Rattle.lexer.proofs.escape.hex_digit.Statement.{statement}
 use Rattle.lexer.proofs.escape.hex_digit.Tie as tie
 

@@ -5,8 +5,8 @@ use native.Mathlib.Omega.{arith}
 use borrow.Author.Needs.{needs}
 use lib.ListN.{getD, List·getD-eq-default}
 use Rattle.laws.proofs.Booleans.{and-false}
-use Rattle.lexer.specs.Syntax.{isHex}
-use Rattle.lexer.proofs.Escapes.{no-digit, a-digit}
+use Rattle.syntax.specs.Syntax.{isHex}
+use Rattle.syntax.proofs.Escapes.{no-digit, a-digit}
 use Rattle.lexer.proofs.escape.hex_pair.Statement.{statement}
 use Rattle.lexer.proofs.escape.hex_pair.Tie as tie
 

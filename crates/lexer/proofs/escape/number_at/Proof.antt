@@ -6,8 +6,8 @@ use native.Mathlib.Omega.{arith}
 use borrow.Author.Needs.{needs}
 use lib.ListN.{drop, getD, drop-of-length-le}
 use Rattle.utf8.specs.Scalar.{isScalar}
-use Rattle.lexer.specs.Syntax.{isHex, isPiece, number, hexValue}
-use Rattle.lexer.proofs.Escapes.{pairOr, pair-at, pairs, high-bad, low-bad, below-surrogates, surrogate, above-surrogates}
+use Rattle.syntax.specs.Syntax.{isHex, isPiece, number, hexValue}
+use Rattle.syntax.proofs.Escapes.{pairOr, pair-at, pairs, high-bad, low-bad, below-surrogates, surrogate, above-surrogates}
 use Rattle.lexer.proofs.escape.number_at.Statement.{statement}
 use Rattle.lexer.proofs.escape.number_at.Tie as tie
 

@@ -6,8 +6,8 @@ use native.Mathlib.Omega.{arith}
 use borrow.Author.Needs.{needs}
 use borrow.Author.Tests.{ne-eqb}
 use lib.ListN.{drop}
-use Rattle.lexer.specs.Syntax.{isPiece, letter, letterValue}
-use Rattle.lexer.proofs.Escapes.{later, first-of}
+use Rattle.syntax.specs.Syntax.{isPiece, letter, letterValue}
+use Rattle.syntax.proofs.Escapes.{later, first-of}
 use Rattle.lexer.proofs.PieceAt.{numberIn, by-number, by-letter, told-none, told-number, told-letter}
 use Rattle.lexer.proofs.pieces.escape_at.Statement.{statement}
 use Rattle.lexer.proofs.pieces.escape_at.Tie as tie

@@ -2,8 +2,8 @@
 use native.Mathlib.Omega.{arith}
 use borrow.Author.Needs.{needs}
 use borrow.Author.Tests.{ne-eqb}
-use Rattle.lexer.specs.Byte.{isRaw}
-use Rattle.lexer.specs.Syntax.{isPiece, pieceBefore, pieceValue}
+use Rattle.syntax.specs.Byte.{isRaw}
+use Rattle.syntax.specs.Syntax.{isPiece, pieceBefore, pieceValue}
 use Rattle.lexer.proofs.PieceAt.{told-stands, told-none, piece-escape, piece-raw, raw-piece}
 use Rattle.lexer.proofs.pieces.piece.Statement.{statement}
 use Rattle.lexer.proofs.pieces.piece.Tie as tie

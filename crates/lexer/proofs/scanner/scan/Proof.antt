@@ -7,7 +7,7 @@ use native.Mathlib.Omega.{arith}
 use borrow.Author.Needs.{needs}
 use borrow.Author.Tests.{not-true, not-false}
 use lib.ListN.{length, length-set}
-use Rattle.lexer.specs.Scan.{scan}
+use Rattle.syntax.specs.Scan.{scan}
 use Rattle.lexer.specs.Token.{scanNumber, scanPlace}
 use Rattle.lexer.proofs.ScanWalk.{Answer, answer, answerAt, answerOf, stacked, passed-on, passed-fault, no-room, push, unopened, other-bracket, pop, none-open, left-open}
 use Rattle.lexer.proofs.scanner.scan.Statement.{statement}

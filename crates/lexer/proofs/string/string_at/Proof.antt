@@ -4,7 +4,7 @@ use Prim.Native.Nat.{_-_, _≤_}
 use native.Mathlib.Omega.{arith}
 use borrow.Author.Needs.{needs}
 use lib.ListN.{drop}
-use Rattle.lexer.specs.Scan.{quotedFrom}
+use Rattle.syntax.specs.Scan.{quotedFrom}
 use Rattle.lexer.specs.Token.{stringAt}
 use Rattle.lexer.proofs.StringWalk.{finish, Turned, walk, stop, at-end, at-start, past-end}
 use Rattle.lexer.proofs.PieceAt.{stays}

@@ -4,7 +4,7 @@ use Prim.Native.Nat.{_+_, _-_}
 use native.Mathlib.Omega.{arith}
 use borrow.Author.Needs.{needs}
 use lib.ListN.{length, drop, drop-of-length-le}
-use Rattle.lexer.specs.Scan.{ordinaryRun}
+use Rattle.syntax.specs.Scan.{ordinaryRun}
 use Rattle.lexer.proofs.Blanks.{run-turn, run-stop}
 use Rattle.lexer.proofs.Codes.{ordinary-yes, ordinary-no}
 use Rattle.lexer.proofs.token.symbol_end.Statement.{statement}

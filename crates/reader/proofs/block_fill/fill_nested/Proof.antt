@@ -2,7 +2,7 @@
 use mathlib.Core.Path.{refl}
 use native.Mathlib.Omega.{arith}
 use lib.ListN.{length}
-use Rattle.lexer.specs.Expression.{none}
+use Rattle.syntax.specs.Expression.{none}
 use Rattle.document.proofs.Blocks.{root-document}
 use Rattle.reader.specs.Filling.{Filling}
 use Rattle.reader.proofs.Wholes.{root-whole}

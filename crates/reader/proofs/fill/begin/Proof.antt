@@ -5,7 +5,7 @@ use Rattle.reader.proofs.Picked.{keys, types, sizes, picked, read-each}
 use Rattle.document.specs.Meaning.{treesOf}
 use Rattle.document.specs.Document.{keyIn, typeIn}
 use Rattle.lexer.specs.Token.{atomValue}
-use Rattle.kind.specs.Inside.{start}
+use Rattle.elements.specs.Inside.{start}
 use lib.ListN.{drop}
 use mathlib.Core.Path.{_≡_, sym, _∙_}
 use borrow.Author.Needs.{needs}

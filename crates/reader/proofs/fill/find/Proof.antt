@@ -8,7 +8,7 @@ use borrow.Author.Needs.{needs}
 use lib.ListN.{length}
 use Rattle.laws.proofs.Booleans.{not-true}
 use borrow.Author.Tests.{not-false}
-use Rattle.lexer.specs.Expression.{Exprs}
+use Rattle.syntax.specs.Expression.{Exprs}
 use Rattle.reader.specs.Filling.{Picks}
 use Rattle.reader.proofs.Passing.{Sees, looked, Passed, forward, never-stuck, find-none, find-here, find-last, find-again}
 use Rattle.reader.proofs.fill.find.Statement.{statement}

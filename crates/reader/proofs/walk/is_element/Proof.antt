@@ -1,6 +1,6 @@
 -- `is_element` meets its contract, by the tests on the way. Assumes nothing.
 use borrow.Author.Tests.{lt-leb, le-leb}
-use Rattle.kind.specs.Class.{isElement, isKind}
+use Rattle.elements.specs.Class.{isElement, isKind}
 use Rattle.reader.proofs.walk.is_element.Statement.{statement}
 use Rattle.reader.proofs.walk.is_element.Tie as tie
 

@@ -1,0 +1,53 @@
+-- How deep the brackets of the canonical spelling nest: as deep as the tree's, and no deeper than the expression that writes it. Assumes nothing.
+use Prim.Native.Nat.{ℕ, _≤_}
+use mathlib.Core.Path.{_≡_}
+use mathlib.Core.List.{List}
+use native.Mathlib.Omega.{arith}
+use lib.Dec.{T}
+use Rattle.syntax.specs.Expression.{Expr, Exprs, none, and, depth, depthAll}
+use Rattle.document.specs.Document.{Tree, text, value, size, element, Trees, empty, holds, keepsRules, Node, isNode, isDocument, says}
+use Rattle.document.specs.Spelling.{Spelling, Writes, writes-text, writes-value, writes-type, writes-size, writes-element, WritesAll, writes-none, writes-and, Spells}
+use Rattle.document.specs.Canonical.{layout, treeLevels, mostLevelsIn}
+use Rattle.document.proofs.LaidOut.{layout-alike, document-node}
+
+-- The layout nests as deep as the tree.
+pub layout-levels : (k : ℕ) (t : Tree) → T (keepsRules k t) → T (isNode t) → treeLevels (layout (says t)) ≡ treeLevels t
+layout-levels k t h i = layout-alike k t h i .same-levels
+
+pub document-levels : (t : Tree) → T (isDocument t) → treeLevels (layout (says t)) ≡ treeLevels t
+document-levels t h = let (kept, i) = document-node t h in layout-levels 0 t kept i
+
+-- What is asked of the trees inside a tree.
+abbrev Inside : Tree → Type 0
+Inside (text s) = Unit {0}
+Inside (value c s) = Unit {0}
+Inside (size w h) = Unit {0}
+Inside (element c ts) = (es : Exprs) → WritesAll ts es → mostLevelsIn ts ≤ depthAll es
+
+around : {t : Tree} {e : Expr} → Writes t e → Inside t → treeLevels t ≤ depth e
+unfolding treeLevels depth
+around (writes-text w) i = omega arith
+around (writes-value n w) i = omega arith
+around writes-type i = omega arith
+around (writes-size m n) i = omega arith
+around (writes-element {es} ws) i = omega (arith, i es ws)
+
+mutual
+  unfolding treeLevels depth
+
+  -- An expression nests at least as deep as the tree that it writes.
+  pub written-levels : (t : Tree) (e : Expr) → Writes t e → treeLevels t ≤ depth e
+  written-levels (text s) e w = around w tt
+  written-levels (value c s) e w = around w tt
+  written-levels (size v u) e w = around w tt
+  written-levels (element c ts) e w = around w (λ es ws. all-written-levels ts es ws)
+
+  all-written-levels : (ts : Trees) (es : Exprs) → WritesAll ts es → mostLevelsIn ts ≤ depthAll es
+  all-written-levels empty none writes-none = omega arith
+  all-written-levels (holds t ts) (and e es) (writes-and w ws) = omega (arith, written-levels t e w, all-written-levels ts es ws)
+
+-- The canonical spelling of a document that a text spells nests within 64 levels.
+pub spelled-levels : (s : Spelling) (d : Node) (bytes : List ℕ) → Spells s d bytes → treeLevels (layout d) ≤ 64
+spelled-levels s d bytes x =
+    let e : treeLevels (layout d) ≡ treeLevels (x .tree) = rw (x .said) at (document-levels (x .tree) (x .lawful)) in
+    omega (arith, written-levels (x .tree) (x .expression) (x .writes), x .nested-within)

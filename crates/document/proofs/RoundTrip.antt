@@ -1,0 +1,54 @@
+-- Demand 2 over the definitions: the canonical spelling of a document is a nested spelling of it, so reading it gives that document back, and the table of a document
+-- that was read is printed. Assumes nothing.
+use Prim.Native.Nat.{ℕ, _≤_}
+use mathlib.Core.Path.{_≡_, refl}
+use mathlib.Core.List.{List}
+use lib.Dec.{T, leb, leb→le}
+use borrow.Author.Tests.{le-leb}
+use lib.ListN.{length}
+use Rattle.laws.proofs.Booleans.{true-T}
+use Rattle.document.specs.Document.{Node, says, Document}
+use Rattle.document.specs.Spelling.{Spelling, nested, Spells}
+use Rattle.document.specs.Table.{count, pool, tableOf}
+use Rattle.document.specs.Canonical.{layout, treeLevels, canonical}
+use Rattle.document.specs.Printing.{IsDraft, IsTableOf}
+use Rattle.document.specs.Answer.{Memory}
+use Rattle.document.specs.Demand.{Fits, Readable}
+use Rattle.document.proofs.LaidOut.{laid-out}
+use Rattle.document.proofs.Levels.{spelled-levels}
+use Rattle.document.proofs.CanonicalSpells.{canonical-spells}
+
+-- The canonical spelling of a document that nests within the limit spells it, by the rules alone.
+pub canonical-spelling : (d : Node) → Document d → treeLevels (layout d) ≤ 64 → Spells nested d (canonical d)
+unfolding canonical
+canonical-spelling d doc levels =
+    let (lawful, said) = laid-out d doc in
+    rw said at (canonical-spells (layout d) lawful levels)
+
+-- What is printed of a table can be read back, where it is short enough and the room is enough.
+pub readable-back : (d : Node) (words bytes : List ℕ) (m : Memory) → IsTableOf d words bytes → length (canonical d) ≤ 65536 → Fits d m
+    → Readable nested (canonical d) m d
+readable-back d words bytes m x short fits =
+    record {
+      short = short;
+      spells = canonical-spelling d (x .draft .document) (leb→le _ _ (x .draft .nests-within));
+      well-formed = x .well-formed;
+      few-nodes = leb→le _ _ (x .draft .few-nodes);
+      fits = fits;
+    }
+
+-- The table of a document that a text spells is one that can be printed.
+pub printable : (s : Spelling) (text : List ℕ) (m : Memory) (d : Node) → Readable s text m d → length (pool d) ≤ 65536 → IsTableOf d (tableOf d) (pool d)
+printable s text m d r short =
+    let sp = r .spells in
+    record {
+      draft = record {
+        document = record { tree = sp .tree; lawful = sp .lawful; said = sp .said };
+        node-words = refl;
+        pool-bytes = refl;
+        few-nodes = true-T (le-leb (count d) 4096 (r .few-nodes));
+        nests-within = true-T (le-leb (treeLevels (layout d)) 64 (spelled-levels s d text sp));
+        short-pool = true-T (le-leb (length (pool d)) 65536 short);
+      };
+      well-formed = r .well-formed;
+    }

@@ -1,0 +1,40 @@
+-- Two texts that spell one document, in either spelling each, are read alike. Assumes nothing.
+use Prim.Native.Nat.{ℕ, _≤_}
+use mathlib.Core.Path.{_≡_, refl}
+use mathlib.Core.Bool.{Bool, true, false, cond}
+use mathlib.Core.List.{List}
+use lib.Dec.{ltb}
+use lib.ListN.{length}
+use Rattle.document.specs.Document.{Node}
+use Rattle.document.specs.Spelling.{Spelling, Spells}
+use Rattle.document.specs.Table.{count, pool}
+use Rattle.document.specs.WellFormed.{Check, sound, unsound, check}
+use Rattle.document.specs.Answer.{answerAt, Memory, Outcome, noRoom, filled, nodeRoom, checked, stored, outcome}
+use Rattle.document.specs.Demand.{Alike}
+use Rattle.document.proofs.Account.{spelled-stored}
+
+either : (b : Bool) {x y x′ y′ : Outcome} → Alike x x′ → Alike y y′ → Alike (cond b x y) (cond b x′ y′)
+either true f g = f
+either false f g = g
+
+alike : {o o′ : Outcome} → o .answer .number ≡ o′ .answer .number → o .answer .nodes ≡ o′ .answer .nodes → o .answer .pool ≡ o′ .answer .pool
+    → o .memory .nodes ≡ o′ .memory .nodes → o .memory .pool ≡ o′ .memory .pool → Alike o o′
+alike a b c d e = record { number = a; nodes = b; bytes = c; node-words = d; pool-bytes = e }
+
+checked-alike : (text text′ ps ps′ : List ℕ) (m : Memory) (d : Node) (c : Check) → Alike (checked text m ps d c) (checked text′ m ps′ d c)
+unfolding checked filled answerAt
+checked-alike text text′ ps ps′ m d sound = alike refl refl refl refl refl
+checked-alike text text′ ps ps′ m d (unsound n i) = alike refl refl refl refl refl
+
+-- What is stored of a document depends on the text in places alone.
+stored-alike : (text text′ ps ps′ : List ℕ) (m : Memory) (d : Node) → Alike (stored text m ps d) (stored text′ m ps′ d)
+unfolding stored noRoom answerAt
+stored-alike text text′ ps ps′ m d =
+    either (ltb (nodeRoom m) (count d)) (alike refl refl refl refl refl)
+    (either (ltb (length (m .pool)) (length (pool d))) (alike refl refl refl refl refl)
+    (checked-alike text text′ ps ps′ m d (check d)))
+
+pub same-document : (s s′ : Spelling) (d : Node) (text text′ : List ℕ) (m : Memory) → length text ≤ 65536 → length text′ ≤ 65536
+    → Spells s d text → Spells s′ d text′ → Alike (outcome s text m) (outcome s′ text′ m)
+same-document s s′ d text text′ m short short′ a b =
+    rw (spelled-stored s text m d short a, spelled-stored s′ text′ m d short′ b) (stored-alike text text′ _ _ m d)

@@ -1,0 +1,39 @@
+-- Demand 1 over the definitions: every text has one of the numbered answers, and 1 to 14 and 19 leave the lent memory as it was. Assumes nothing.
+use Prim.Native.Nat.{ℕ, _≤_}
+use mathlib.Core.Path.{_≡_, refl}
+use mathlib.Core.Bool.{Bool, false, _&&_, _||_}
+use mathlib.Core.List.{List}
+use native.Mathlib.Omega.{arith}
+use borrow.Author.Tests.{lt-leb, ne-eqb}
+use lib.Dec.{T, eqb, leb}
+use Rattle.laws.proofs.Booleans.{and-false, false-not-T}
+use Rattle.document.specs.Spelling.{Spelling}
+use Rattle.document.specs.Answer.{answerAt, Memory, Outcome, refusal, noRoom, filled, outcome}
+use Rattle.document.specs.Account as Account
+use Rattle.document.specs.Account.{keepsMemory, Answers, too-long, ill-formed, no-node-room, no-pool-room, has-fault, accepted}
+use Rattle.document.proofs.Account.{answers}
+use Rattle.document.proofs.Numbers.{refused-number, check-number}
+
+-- None of 15 to 18 is among the numbers that keep the memory.
+filled-number : (n : ℕ) → (15 ≤ n) × (n ≤ 18) → T (keepsMemory n) → ⊥
+unfolding keepsMemory
+filled-number n h t =
+    let high : leb n 14 ≡ false = lt-leb n 14 (omega (arith, h)) in
+    let other : eqb n 19 ≡ false = ne-eqb n 19 (λ e. omega (arith, h)) in
+    let none : keepsMemory n ≡ false = rw (high, other, and-false (leb 1 n)) in
+    false-not-T none t
+
+numbered : (s : Spelling) (text : List ℕ) (m : Memory) (o : Outcome) → Answers s text m o → (o .answer .number ≤ 19) × (T (keepsMemory (o .answer .number)) → o .memory ≡ m)
+unfolding refusal noRoom filled answerAt keepsMemory
+numbered s text m o (too-long long) = (omega arith, λ _. refl)
+numbered s text m o (ill-formed short f) = (omega arith, λ _. refl)
+numbered s text m o (Account.refused short utf8 f) = (refused-number f .1, λ _. refl)
+numbered s text m o (no-node-room short sp none) = (omega arith, λ _. refl)
+numbered s text m o (no-pool-room short sp nodes none) = (omega arith, λ _. refl)
+numbered s text m o (has-fault {d = d} {n = n} {i = i} short sp nodes bytes e) =
+    let h = check-number d n i e in (omega (arith, h), λ t. absurd (filled-number n h t))
+numbered s text m o (accepted short sp nodes bytes e) = (omega arith, λ t. absurd t)
+
+pub demand-1 : (s : Spelling) (text : List ℕ) (m : Memory)
+    → (outcome s text m .answer .number ≤ 19) × (T (keepsMemory (outcome s text m .answer .number)) → outcome s text m .memory ≡ m)
+demand-1 s text m = numbered s text m (outcome s text m) (answers s text m)

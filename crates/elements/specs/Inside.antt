@@ -1,0 +1,73 @@
+-- What may stand inside an element, read from left to right as the classes of the expressions there.
+-- Document 01, "Elements": "Parameters are taken in order: an expression is the next one if it is a list led by that name. What follows the last one taken is content."
+use Prim.Native.Nat.{ℕ}
+use mathlib.Core.Bool.{Bool, true, false, cond, _||_}
+use mathlib.Core.List.{List, [], _∷_}
+use lib.Dec.{eqb}
+use Rattle.elements.specs.Bytes.{among}
+use Rattle.elements.specs.Class as Class
+use Rattle.elements.specs.Rules.{Slot, must, may, id-type, Content, any-of, exactly-one, ruleOf}
+
+-- How far an element is read: these parameters may still come (with none left, the first child), or it holds children, the first of this sort.
+pub data State : Type 0 where
+  expecting : List Slot → State
+  holding : ℕ → State
+
+-- An expression is taken, or has the fault of that number: 8, 9, 11 or 12.
+pub data Step : Type 0 where
+  go : State → Step
+  bad : ℕ → Step
+
+-- The sort of a child: parts and sections in a document differ in it, and so do subsections and paragraphs in a section. Elsewhere all that may stand has one sort.
+unfoldable pub sort : ℕ → ℕ
+sort c = Class.significance c
+
+unfoldable pub isInclude : ℕ → Bool
+isInclude c = eqb c Class.include || eqb c Class.import
+
+unfoldable pub allows : Content → ℕ → Bool
+allows (any-of ks) c = among c ks
+allows (exactly-one k) c = eqb c k
+
+-- The first child: 12, then 8.
+unfoldable pub firstChild : Content → ℕ → Step
+firstChild t c = cond (isInclude c) (bad 12) (cond (allows t c) (go (holding (sort c))) (bad 8))
+
+-- A further child after a first one of sort s: 12, then 8, then 11.
+unfoldable pub nextChild : Content → ℕ → ℕ → Step
+nextChild (any-of ks) s c =
+    cond (isInclude c) (bad 12) (cond (among c ks) (cond (eqb (sort c) s) (go (holding s)) (bad 11)) (bad 8))
+nextChild (exactly-one k) s c = cond (isInclude c) (bad 12) (bad 8)
+
+-- With these parameters still to come: the expression is the next one, or an optional one is passed over, or a required one is absent, which is 9.
+unfoldable pub nextParameter : List Slot → Content → ℕ → Step
+nextParameter [] t c = firstChild t c
+nextParameter (must n ∷ ps) t c = cond (eqb c n) (go (expecting ps)) (bad 9)
+nextParameter (may n ∷ ps) t c = cond (eqb c n) (go (expecting ps)) (nextParameter ps t c)
+nextParameter (id-type ∷ ps) t c =
+    cond (eqb c Class.id) (go (expecting (may Class.type ∷ ps)))
+    (cond (eqb c Class.type) (go (expecting (may Class.id ∷ ps)))
+    (nextParameter ps t c))
+
+-- An expression of class c in an element of kind k.
+unfoldable pub step : ℕ → State → ℕ → Step
+step k (expecting ps) c = nextParameter ps (ruleOf k .content) c
+step k (holding s) c = nextChild (ruleOf k .content) s c
+
+unfoldable pub start : ℕ → State
+start k = expecting (ruleOf k .parameters)
+
+unfoldable pub noneRequired : List Slot → Bool
+noneRequired [] = true
+noneRequired (must n ∷ ps) = false
+noneRequired (may n ∷ ps) = noneRequired ps
+noneRequired (id-type ∷ ps) = noneRequired ps
+
+unfoldable pub mayBeEmpty : Content → Bool
+mayBeEmpty (any-of ks) = true
+mayBeEmpty (exactly-one k) = false
+
+-- The element may end here: else a required parameter is absent or a verbatim has no content, which is 9.
+unfoldable pub ended : ℕ → State → Bool
+ended k (expecting ps) = cond (noneRequired ps) (mayBeEmpty (ruleOf k .content)) false
+ended k (holding s) = true

@@ -1,0 +1,94 @@
+-- What the listing programs print. Document 01, "Judged examples": "Two programs, one a spelling, read standard input".
+use Prim.Native.Nat.{ℕ, zero, suc, _+_, _*_, _/_}
+use mathlib.Core.Path.{_≡_}
+use mathlib.Core.Bool.{cond}
+use mathlib.Core.List.{List, [], _∷_, _++_}
+use lib.Dec.{eqb, ltb}
+use lib.ListN.{length, getD, take}
+use Rattle.elements.specs.Bytes.{codes}
+use Rattle.document.specs.Document.{missing}
+use Rattle.document.specs.Table.{recordLength}
+use Rattle.document.specs.Canonical.{digit}
+use Rattle.document.specs.Spelling.{Spelling}
+use Rattle.document.specs.Answer.{Memory, Outcome, outcome, over}
+
+-- A number in decimal digits with no leading zero; the first argument bounds how often it is divided.
+unfoldable pub decimalWithin : ℕ → ℕ → List ℕ
+decimalWithin zero n = digit n ∷ []
+decimalWithin (suc k) n =
+    let longer = decimalWithin k (n / 10) ++ (digit n ∷ []) in
+    cond (ltb n 10) (digit n ∷ []) longer
+
+-- As many divisions as the number itself are enough.
+unfoldable pub decimal : ℕ → List ℕ
+decimal n = decimalWithin n n
+
+abbrev pub space : ℕ
+space = 0x20
+
+-- Every line ends with U+000A, the last too (docs/DECISIONS.md, B1).
+abbrev pub newline : ℕ
+newline = 0x0A
+
+-- "over 32,768 bytes prints `too long`"
+unfoldable pub tooLong : List ℕ
+tooLong = codes "too long" ++ (newline ∷ [])
+
+-- "a refusal prints one line as `refused 7 1:1` (number, line, column)"
+unfoldable pub refusedLine : ℕ → ℕ → ℕ → List ℕ
+refusedLine number line column =
+    codes "refused " ++ (decimal number ++ (space ∷ (decimal line ++ (0x3A ∷ (decimal column ++ (newline ∷ []))))))
+
+-- "a header", with both counts
+unfoldable pub headerLine : ℕ → ℕ → List ℕ
+headerLine nodes pool = codes "nodes " ++ (decimal nodes ++ (codes " pool " ++ (decimal pool ++ (newline ∷ []))))
+
+-- "`-` at the root", where the word is 4,294,967,295
+unfoldable pub parentWord : ℕ → List ℕ
+parentWord p = cond (eqb p missing) (codes "-") (decimal p)
+
+-- "one line a node: number, kind, parent (`-` at the root), end"
+unfoldable pub nodeLine : ℕ → ℕ → ℕ → ℕ → List ℕ
+nodeLine number kind parent end =
+    decimal number ++ (space ∷ (decimal kind ++ (space ∷ (parentWord parent ++ (space ∷ (decimal end ++ (newline ∷ [])))))))
+
+-- The line of node k, from its words in the table.
+unfoldable pub lineOfNode : List ℕ → ℕ → List ℕ
+lineOfNode table k =
+    nodeLine k (getD table (k * recordLength) 0) (getD table (k * recordLength + 1) 0) (getD table (k * recordLength + 2) 0)
+
+-- The lines of the first n nodes.
+unfoldable pub nodeLines : List ℕ → ℕ → List ℕ
+nodeLines table zero = []
+nodeLines table (suc n) = nodeLines table n ++ lineOfNode table n
+
+-- "else a header and one line a node"
+unfoldable pub documentLines : List ℕ → ℕ → ℕ → List ℕ
+documentLines table nodes pool = headerLine nodes pool ++ nodeLines table nodes
+
+-- As much of the lines as an output holds.
+unfoldable pub within : List ℕ → List ℕ → List ℕ
+within out lines = take (length out) lines
+
+-- The listing of the document that a read left in memory.
+unfoldable pub listingOf : Outcome → List ℕ
+listingOf o = documentLines (o .memory .nodes) (o .answer .nodes) (o .answer .pool)
+
+-- After a read: "a refusal prints one line ..; else" what the program prints of a document.
+unfoldable pub afterRead : (Outcome → List ℕ) → Outcome → List ℕ
+afterRead document o =
+    cond (eqb (o .answer .number) 0) (document o)
+    (refusedLine (o .answer .number) (o .answer .line) (o .answer .column))
+
+-- All that a program prints on a text, with this memory lent, if it prints this of a document.
+unfoldable pub answered : (Outcome → List ℕ) → Spelling → List ℕ → Memory → List ℕ
+answered document s text m = cond (ltb 32768 (length text)) tooLong (afterRead document (outcome s text m))
+
+-- All that a listing program prints.
+abbrev pub printed : Spelling → List ℕ → Memory → List ℕ
+printed = answered listingOf
+
+-- The lines stand whole at the output's start, and the rest of it is as it was.
+pub record Lists (lines start : List ℕ) (r : ℕ) (out : List ℕ) : Type 0 where
+  pub size : r ≡ length lines
+  pub bytes : out ≡ over lines start

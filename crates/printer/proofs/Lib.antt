@@ -1,0 +1,10 @@
+pub mod Adding
+pub mod Concat
+pub mod Elements
+pub mod Names
+pub mod Pieces
+pub mod Short
+pub mod Siblings
+pub mod Standing
+pub mod Written
+pub mod Answers

@@ -1,0 +1,122 @@
+-- Laws of the nodes that stand in a table, as the spelling takes them: their words and strings, and which of their children come first. Assumes nothing.
+use Prim.Native.Nat.{ℕ, suc, _+_, _<_, _≤_}
+use mathlib.Core.Path.{_≡_, refl, _∙_}
+use mathlib.Core.Bool.{Bool, true, false, _&&_, _||_}
+use mathlib.Core.List.{List, [], _∷_}
+use native.Mathlib.Nat.{add-zero}
+use native.Mathlib.Omega.{arith}
+use lib.Dec.{eqb, leb, lit<}
+use lib.ListN.{length}
+use borrow.Author.Tests.{leb-true, leb-false, ne-eqb, lt-leb, le-leb}
+use Rattle.laws.proofs.Booleans.{bool-case}
+use Rattle.laws.proofs.Tables.{each-below, alike, alike-eq}
+use Rattle.elements.specs.Rules.{rules, ruleIn, ruleOf}
+use Rattle.kind.proofs.Table.{no-row}
+use Rattle.document.specs.Document.{Node, node, Nodes, childless, child}
+use Rattle.document.specs.Table.{count, countAll, offset}
+use Rattle.document.specs.Printing.{part}
+use Rattle.document.specs.Canonical.{nodeFirst}
+use Rattle.document.proofs.Determined.{count-positive}
+use Rattle.table.specs.Stored.{wordAt, Stored, StoredAll}
+use Rattle.table.proofs.Stored.{recorded-word}
+use Rattle.table.specs.Stored.{stringAt}
+use Rattle.printer.specs.Inside.{firstOf}
+
+-- The kinds whose first parameter is a node.
+abbrev titled : ℕ → Bool
+titled k = leb 1 k && leb k 4 || (eqb k 6 || eqb k 19)
+
+abbrev titled-alike : ℕ → Bool
+titled-alike k = alike (nodeFirst (ruleOf k .parameters)) (titled k)
+
+pub titled-is : (k : ℕ) → nodeFirst (ruleOf k .parameters) ≡ titled k
+unfolding rules ruleIn ruleOf nodeFirst
+titled-is k = bool-case (leb 26 k) past (λ e. alike-eq _ _ (each-below titled-alike 26 k (leb-false 26 k e) tt))
+  where
+    past : leb 26 k ≡ true → nodeFirst (ruleOf k .parameters) ≡ titled k
+    past e =
+        let high : 26 ≤ k = leb-true 26 k e in
+        let one : 1 ≤ k = omega arith in
+        let four : 4 < k = omega arith in
+        rw (no-row k high, le-leb 1 k one, lt-leb k 4 four, ne-eqb k 6 (λ v. omega arith), ne-eqb k 19 (λ v. omega arith))
+
+-- A string stands where its offset and length words say.
+part-offset : (bytes s : List ℕ) (p : ℕ) → part bytes p (length s) ≡ s → part bytes (offset p s) (length s) ≡ s
+unfolding part offset
+part-offset bytes [] p e = refl
+part-offset bytes (b ∷ s) p e = e
+
+-- The words and strings of a node that stands in the table.
+pub record Holds (words bytes : List ℕ) (i k : ℕ) (key type text : List ℕ) (w h : ℕ) (ns : Nodes) : Type 0 where
+  pub kind : wordAt words i 0 ≡ k
+  pub end : wordAt words i 2 ≡ i + suc (countAll ns)
+  pub key-string : stringAt words bytes i 3 ≡ key
+  pub type-string : stringAt words bytes i 5 ≡ type
+  pub text-string : stringAt words bytes i 7 ≡ text
+  pub width : wordAt words i 9 ≡ w
+  pub height : wordAt words i 10 ≡ h
+
+pub holds-all : (words bytes : List ℕ) (i parent p k : ℕ) (key type text : List ℕ) (w h : ℕ) (ns : Nodes)
+    → Stored words bytes i parent p (node k key type text w h ns) → Holds words bytes i k key type text w h ns
+unfolding Stored stringAt
+holds-all words bytes i parent p k key type text w h ns (e, s1, s2, s3, a) = record {
+  kind = recorded-word words _ i 0 e (lit< tt);
+  end = recorded-word words _ i 2 e (lit< tt);
+  key-string = rw (recorded-word words _ i 3 e (lit< tt), recorded-word words _ i 4 e (lit< tt)) (part-offset bytes key p s1);
+  type-string = rw (recorded-word words _ i 5 e (lit< tt), recorded-word words _ i 6 e (lit< tt)) (part-offset bytes type _ s2);
+  text-string = rw (recorded-word words _ i 7 e (lit< tt), recorded-word words _ i 8 e (lit< tt)) (part-offset bytes text _ s3);
+  width = recorded-word words _ i 9 e (lit< tt);
+  height = recorded-word words _ i 10 e (lit< tt);
+}
+
+pub end-word : (n : Node) (words bytes : List ℕ) (i parent p : ℕ) → Stored words bytes i parent p n → wordAt words i 2 ≡ i + count n
+unfolding count
+end-word (node k key type text w h ns) words bytes i parent p s = holds-all words bytes i parent p k key type text w h ns s .end
+
+-- Nodes that count none are none.
+pub no-nodes : (ns : Nodes) → countAll ns ≡ 0 → ns ≡ childless
+unfolding countAll
+no-nodes childless e = refl
+no-nodes (child n ns) e = absurd (omega (arith, count-positive n))
+
+pub first-of-none : (b : Bool) (ns : Nodes) → countAll ns ≡ 0 → countAll (firstOf b ns) ≡ 0
+unfolding countAll firstOf
+first-of-none false ns e = refl
+first-of-none true childless e = refl
+first-of-none true (child n ns) e = absurd (omega (arith, count-positive n))
+
+-- Where nodes stand, the first one's end word says where it ends.
+pub first-stands : (words bytes : List ℕ) (ns : Nodes) (i parent p : ℕ) → StoredAll words bytes i parent p ns → 0 < countAll ns
+    → (wordAt words i 2 ≡ i + countAll (firstOf true ns)) × (0 < countAll (firstOf true ns)) × (countAll (firstOf true ns) ≤ countAll ns)
+unfolding countAll firstOf Stored
+first-stands words bytes childless i parent p s h = absurd (omega arith)
+first-stands words bytes (child n ns) i parent p (s, t) h =
+    let one : countAll (child n childless) ≡ count n = add-zero (count n) in
+    let e = end-word n words bytes i parent p s in
+    (omega arith, omega (arith, count-positive n), omega arith)
+
+-- Where the children end that are spelled before the values of node i, by each way in which the code finds it.
+module _ (words : List ℕ) (i end : ℕ) where
+  abbrev pub FirstEnd : ℕ → Type 0
+  FirstEnd r = (bytes : List ℕ) (ns : Nodes) (parent p : ℕ) → StoredAll words bytes (i + 1) parent p ns → end ≡ i + 1 + countAll ns
+      → r ≡ i + 1 + countAll (firstOf (nodeFirst (ruleOf (wordAt words i 0) .parameters)) ns)
+
+  pub first-childless : end ≤ i + 1 → FirstEnd (i + 1)
+  first-childless h bytes ns parent p s e =
+      let none : countAll ns ≡ 0 = omega arith in
+      rw (first-of-none (nodeFirst (ruleOf (wordAt words i 0) .parameters)) ns none) (omega arith)
+
+  pub first-untitled : (k : ℕ) (t : Bool) → k ≡ wordAt words i 0 → t ≡ nodeFirst (ruleOf k .parameters) → t ≡ false → FirstEnd (i + 1)
+  unfolding firstOf countAll
+  first-untitled k t w f e bytes ns parent p s g = rw (← w, ← f, e) (omega arith)
+
+  pub first-titled : (k : ℕ) (t : Bool) (r : ℕ) → k ≡ wordAt words i 0 → t ≡ nodeFirst (ruleOf k .parameters) → t ≡ true → r ≡ wordAt words (i + 1) 2
+      → i + 1 < end → FirstEnd r
+  first-titled k t r w f e v h bytes ns parent p s g =
+      rw (← w, ← f, e) (v ∙ first-stands words bytes ns (i + 1) parent p s (omega arith) .0)
+
+  -- The end word of a child that stands there lies behind it and within the element.
+  pub first-ends : (r : ℕ) → r ≡ wordAt words (i + 1) 2 → i + 1 < end → (i + 1 < r → r ≤ end → ⊥) → FirstEnd (i + 1)
+  first-ends r v h never bytes ns parent p s g =
+      let st = first-stands words bytes ns (i + 1) parent p s (omega arith) in
+      absurd (never (omega (arith, st .0, st .1)) (omega (arith, st .0, st .2)))

@@ -1,0 +1,72 @@
+-- `put::put_digits` meets its contract. Assumes nothing.
+use native.Mathlib.Omega.{arith}
+use Rattle.printer.proofs.Adding.{adds-as}
+use Rattle.printer.proofs.Pieces.{leading-most, last-digits}
+use borrow.Author.Needs.{needs}
+use Rattle.printer.proofs.put.put_digits.Statement.{statement}
+use Rattle.printer.proofs.put.put_digits.Tie as tie
+
+digit-requires : tie.Need-digit-requires
+digit-requires c κs = search needs
+
+digit-requires-2 : tie.Need-digit-requires-2
+digit-requires-2 c κs = search needs
+
+digit-requires-3 : tie.Need-digit-requires-3
+digit-requires-3 c κs = search needs
+
+digit-requires-4 : tie.Need-digit-requires-4
+digit-requires-4 c κs = search needs
+
+digit-requires-5 : tie.Need-digit-requires-5
+digit-requires-5 c κs = search needs
+
+leading-requires : tie.Need-leading-requires
+leading-requires c κs = search needs
+
+sub-put-bytes : tie.Need-sub-put-bytes
+sub-put-bytes c =
+    let args = c .before .before .before .before .before .before .before .before .args in
+    omega (arith, leading-most (args .n), c .before .leading .ensures)
+
+part-put-bytes-start : tie.Need-part-put-bytes-start
+part-put-bytes-start c =
+    let args = c .before .before .before .before .before .before .before .before .before .args in
+    omega (arith, leading-most (args .n), c .before .before .leading .ensures)
+
+part-put-bytes-end : tie.Need-part-put-bytes-end
+part-put-bytes-end c = search needs
+
+put-bytes-requires : tie.Need-put-bytes-requires
+put-bytes-requires c κs = search needs
+
+same-length : tie.Need-same-length
+same-length c = search needs
+
+returns : tie.Need-returns
+returns c =
+    let args = c .before .before .before .before .before .before .before .before .before .before .before .before .before .args in
+    let digit = c .before .before .before .before .before .before .before .before .before .before .before .digit in
+    let digit2 = c .before .before .before .before .before .before .before .before .before .before .digit2 in
+    let digit3 = c .before .before .before .before .before .before .before .before .before .digit3 in
+    let digit4 = c .before .before .before .before .before .before .before .before .digit4 in
+    let digit5 = c .before .before .before .before .before .before .before .digit5 in
+    let leading = c .before .before .before .before .before .before .leading in
+    adds-as (last-digits (args .n) (leading .result) (digit .result) (digit2 .result) (digit3 .result) (digit4 .result) (digit5 .result) (leading .ensures) (digit .ensures) (digit2 .ensures) (digit3 .ensures) (digit4 .ensures) (digit5 .ensures)) (c .before .before .put-bytes .ensures)
+
+pub put-digits-spec : {M : Type 1} → statement M
+put-digits-spec =
+    tie.close
+    (tie.spec
+    digit-requires
+    digit-requires-2
+    digit-requires-3
+    digit-requires-4
+    digit-requires-5
+    leading-requires
+    sub-put-bytes
+    part-put-bytes-start
+    part-put-bytes-end
+    put-bytes-requires
+    same-length
+    returns)

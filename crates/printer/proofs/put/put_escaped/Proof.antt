@@ -1,0 +1,65 @@
+-- `put::put_escaped` meets its contract. The loop's invariant: the first i bytes are written. Assumes nothing.
+use borrow.Author.Needs.{needs}
+use Prim.Native.Nat.{_-_, _≤_}
+use mathlib.Core.Path.{_≡_, refl, _∙_}
+use mathlib.Core.List.{[]}
+use lib.ListN.{length, take}
+use Rattle.document.specs.Canonical.{bytesBefore}
+use Rattle.printer.specs.Adds.{Adds}
+use Rattle.printer.proofs.Adding.{adds-as, adds-none, adds-join}
+use Rattle.printer.proofs.Pieces.{bytes-more, bytes-all}
+use Rattle.printer.proofs.put.put_escaped.Statement.{statement}
+use Rattle.printer.proofs.put.put_escaped.Tie as tie
+
+abbrev Inv-loop : tie.InvT-loop
+Inv-loop out₀ at bytes k₀ i₀ out k i = (i ≤ length bytes) × (length out ≡ length out₀) × Adds (bytesBefore (take i bytes) []) at out₀ k out
+
+abbrev μ-loop : tie.MeasureT-loop
+μ-loop out₀ at bytes k₀ i₀ out k i = length bytes - i
+
+loop-holds : tie.Need-loop-holds Inv-loop μ-loop
+unfolding bytesBefore
+loop-holds c = (search needs, refl, adds-none (c .before .before .args .at) (c .before .before .args .out .now))
+
+shared-slice-read-put-byte : tie.Need-shared-slice-read-put-byte Inv-loop μ-loop
+shared-slice-read-put-byte c = search needs
+
+put-byte-requires : tie.Need-put-byte-requires Inv-loop μ-loop
+put-byte-requires c κs = search needs
+
+add-i : tie.Need-add-i Inv-loop μ-loop
+add-i c = search needs
+
+loop-less : tie.Need-loop-less Inv-loop μ-loop
+loop-less c = search needs
+
+loop-again : tie.Need-loop-again Inv-loop μ-loop
+loop-again c =
+    let args = c .before .before .before .before .before .before .before .before .before .args in
+    let loop = c .before .before .before .before .before .before .loop in
+    let loop-test = c .before .before .before .before .before .loop-test in
+    let put-byte = c .before .before .put-byte in
+    (search needs, put-byte .kept .0 ∙ loop .inv .1, adds-as (bytes-more (args .bytes .now) (loop .i) (loop-test .taken)) (adds-join (loop .inv .2) (put-byte .ensures)))
+
+same-length : tie.Need-same-length Inv-loop μ-loop
+same-length c = search needs
+
+returns : tie.Need-returns Inv-loop μ-loop
+returns c =
+    let loop = c .before .loop in
+    adds-as (bytes-all (c .before .before .before .before .args .bytes .now) (loop .i) (c .loop-test .left)) (loop .inv .2)
+
+pub put-escaped-spec : {M : Type 1} → statement M
+put-escaped-spec =
+    tie.close
+    (tie.spec
+    Inv-loop
+    μ-loop
+    loop-holds
+    shared-slice-read-put-byte
+    put-byte-requires
+    add-i
+    loop-less
+    loop-again
+    same-length
+    returns)

@@ -1,0 +1,57 @@
+-- `put::put_size` meets its contract. Assumes nothing.
+use Rattle.printer.proofs.Adding.{adds-as, adds-none, adds-join}
+use Rattle.printer.proofs.Pieces.{size-none, size-parts}
+use borrow.Author.Needs.{needs}
+use Rattle.printer.proofs.put.put_size.Statement.{statement}
+use Rattle.printer.proofs.put.put_size.Tie as tie
+
+returns : tie.Need-returns
+returns c =
+    let args = c .before .before .args in
+    adds-as (size-none (args .width) (args .height) (c .if1 .taken)) (adds-none (args .at) (args .out .now))
+
+slice-aggregate-put-bytes : tie.Need-slice-aggregate-put-bytes
+slice-aggregate-put-bytes c = search needs
+
+put-bytes-requires : tie.Need-put-bytes-requires
+put-bytes-requires c κs = search needs
+
+put-digits-requires : tie.Need-put-digits-requires
+put-digits-requires c κs = search needs
+
+put-requires : tie.Need-put-requires
+put-requires c κs = search needs
+
+put-digits-requires-2 : tie.Need-put-digits-requires-2
+put-digits-requires-2 c κs = search needs
+
+put-requires-2 : tie.Need-put-requires-2
+put-requires-2 c κs = search needs
+
+same-length : tie.Need-same-length
+same-length c = search needs
+
+returns-2 : tie.Need-returns-2
+returns-2 c =
+    let args = c .before .before .before .before .before .before .before .before .before .before .before .before .before .before .before .before .before .before .before .before .before .before .before .args in
+    let if1 = c .before .before .before .before .before .before .before .before .before .before .before .before .before .before .before .before .before .before .before .before .before .if1 in
+    let put-bytes = c .before .before .before .before .before .before .before .before .before .before .before .before .before .before .before .before .before .before .put-bytes in
+    let put-digits = c .before .before .before .before .before .before .before .before .before .before .before .before .before .before .put-digits in
+    let put = c .before .before .before .before .before .before .before .before .before .before .put in
+    let put-digits2 = c .before .before .before .before .before .before .put-digits2 in
+    adds-as (size-parts (args .width) (args .height) (if1 .left))
+    (adds-join (put-bytes .ensures) (adds-join (put-digits .ensures) (adds-join (put .ensures .1) (adds-join (put-digits2 .ensures) (c .before .before .put2 .ensures .1)))))
+
+pub put-size-spec : {M : Type 1} → statement M
+put-size-spec =
+    tie.close
+    (tie.spec
+    returns
+    slice-aggregate-put-bytes
+    put-bytes-requires
+    put-digits-requires
+    put-requires
+    put-digits-requires-2
+    put-requires-2
+    same-length
+    returns-2)

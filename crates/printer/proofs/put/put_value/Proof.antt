@@ -1,0 +1,57 @@
+-- `put::put_value` meets its contract. Assumes nothing.
+use Rattle.printer.proofs.Adding.{adds-as, adds-none, adds-join}
+use Rattle.printer.proofs.Pieces.{value-none, value-parts}
+use borrow.Author.Needs.{needs}
+use Rattle.printer.proofs.put.put_value.Statement.{statement}
+use Rattle.printer.proofs.put.put_value.Tie as tie
+
+returns : tie.Need-returns
+returns c =
+    let args = c .before .before .before .args in
+    adds-as (value-none (args .class) (args .bytes .now) (c .if1 .taken)) (adds-none (args .at) (args .out .now))
+
+slice-aggregate-put-bytes : tie.Need-slice-aggregate-put-bytes
+slice-aggregate-put-bytes c = search needs
+
+put-bytes-requires : tie.Need-put-bytes-requires
+put-bytes-requires c κs = search needs
+
+put-name-requires : tie.Need-put-name-requires
+put-name-requires c κs = search needs
+
+put-requires : tie.Need-put-requires
+put-requires c κs = search needs
+
+put-string-requires : tie.Need-put-string-requires
+put-string-requires c κs = search needs
+
+put-requires-2 : tie.Need-put-requires-2
+put-requires-2 c κs = search needs
+
+same-length : tie.Need-same-length
+same-length c = search needs
+
+returns-2 : tie.Need-returns-2
+returns-2 c =
+    let args = c .before .before .before .before .before .before .before .before .before .before .before .before .before .before .before .before .before .before .before .before .before .before .before .before .args in
+    let if1 = c .before .before .before .before .before .before .before .before .before .before .before .before .before .before .before .before .before .before .before .before .before .if1 in
+    let put-bytes = c .before .before .before .before .before .before .before .before .before .before .before .before .before .before .before .before .before .before .put-bytes in
+    let put-name = c .before .before .before .before .before .before .before .before .before .before .before .before .before .before .put-name in
+    let put = c .before .before .before .before .before .before .before .before .before .before .put in
+    let put-string = c .before .before .before .before .before .before .put-string in
+    adds-as (value-parts (args .class) (args .bytes .now) (if1 .left))
+    (adds-join (put-bytes .ensures) (adds-join (put-name .ensures) (adds-join (put .ensures .1) (adds-join (put-string .ensures) (c .before .before .put2 .ensures .1)))))
+
+pub put-value-spec : {M : Type 1} → statement M
+put-value-spec =
+    tie.close
+    (tie.spec
+    returns
+    slice-aggregate-put-bytes
+    put-bytes-requires
+    put-name-requires
+    put-requires
+    put-string-requires
+    put-requires-2
+    same-length
+    returns-2)

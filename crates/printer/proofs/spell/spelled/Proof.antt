@@ -1,0 +1,24 @@
+-- `spell::spelled` meets its contract. Assumes nothing.
+use mathlib.Core.Path.{_∙_}
+use Rattle.printer.proofs.Standing.{end-word}
+use borrow.Author.Needs.{needs}
+use Rattle.printer.proofs.spell.spelled.Statement.{statement}
+use Rattle.printer.proofs.spell.spelled.Tie as tie
+
+word-requires : tie.Need-word-requires
+word-requires c κs = search needs
+
+spell-requires : tie.Need-spell-requires
+spell-requires c κs = search needs
+
+same-length : tie.Need-same-length
+same-length c = search needs
+
+returns : tie.Need-returns
+returns c =
+    let args = c .before .before .before .before .before .before .before .before .args in
+    let spell = c .before .before .spell in
+    (spell .ensures .0, λ d parent p s. spell .ensures .1 d parent p s (c .before .before .before .before .word .ensures ∙ end-word d (args .nodes .now) (args .pool .now) 0 parent p s))
+
+pub spelled-spec : {M : Type 1} → statement M
+spelled-spec = tie.close (tie.spec word-requires spell-requires same-length returns)

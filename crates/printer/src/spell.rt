@@ -1,0 +1,165 @@
+// The spelling of a table's nodes: "Subtrees are spelled in order, each element written into what is left of the output."
+// On any words the functions are safe and end; what they write is said where a document's nodes stand in the table.
+// Each writes as much as there is room for and answers how much it would need, so that an empty output measures.
+use super::put::plus;
+use super::put::put;
+use super::put::put_name;
+use super::put::put_quoted;
+use super::put::put_size;
+use super::put::put_value;
+use kind::Keyword;
+use kind::Kind;
+use table::END;
+use table::HEIGHT;
+use table::KEY;
+use table::KIND;
+use table::TEXT;
+use table::TYPE;
+use table::WIDTH;
+use table::string;
+use table::word;
+ghost use mathlib.Core.Path.{_≡_};
+ghost use mathlib.Core.List.{List};
+ghost use Prim.Native.Nat.{ℕ, _+_, _≤_, _<_, min};
+ghost use lib.ListN.{length};
+ghost use lib.Seq.{sets};
+ghost use Rattle.elements.specs.Rules.{ruleOf};
+ghost use Rattle.document.specs.Document.{Node, Nodes};
+ghost use Rattle.document.specs.Table.{count, countAll};
+ghost use Rattle.document.specs.Canonical.{keyClass, nodeFirst, canonical};
+ghost use Rattle.table.specs.Stored.{wordAt, Stored, StoredAll};
+ghost use Rattle.printer.specs.Adds.{Adds};
+ghost use Rattle.table.specs.Stored.{stringAt};
+ghost use Rattle.printer.specs.Inside.{insideAll, valuesInside, firstOf};
+
+// A block has an id, any other element a target.
+fn key_class(kind: usize) -> usize
+    ensures { λ r. ⌜ r ≡ keyClass kind ⌝ }
+{
+    if kind == 0 {
+        return Keyword::TARGET.number as usize;
+    }
+    if kind <= Kind::FOOTNOTE.number as usize {
+        return Keyword::ID.number as usize;
+    }
+    Keyword::TARGET.number as usize
+}
+
+// Whether an element's first parameter is a title or a summary, which is a node.
+fn is_titled(kind: usize) -> bool
+    ensures { λ r. ⌜ r ≡ nodeFirst (ruleOf kind .parameters) ⌝ }
+{
+    if kind == 0 {
+        return false;
+    }
+    if kind <= Kind::SUBSECTION.number as usize {
+        return true;
+    }
+    if kind == Kind::FORMAL_ITEM.number as usize {
+        return true;
+    }
+    kind == Kind::TABLE.number as usize
+}
+
+// The values of node `i`.
+fn values(nodes: &[u32], pool: &[u8], i: usize, out: &mut [u8], at: usize) -> usize
+    ensures { λ r. ⌜ Adds (valuesInside (wordAt (now (nodes .entry)) i 0) (stringAt (now (nodes .entry)) (now (pool .entry)) i 3)
+        (stringAt (now (nodes .entry)) (now (pool .entry)) i 5) (wordAt (now (nodes .entry)) i 9) (wordAt (now (nodes .entry)) i 10))
+        at (now (out .entry)) r (now (out .exit)) ⌝ }
+{
+    let class = key_class(word(nodes, i, KIND));
+    let k = put_value(out, at, class, string(nodes, i, KEY, pool));
+    let k = put_size(out, k, word(nodes, i, WIDTH), word(nodes, i, HEIGHT));
+    put_value(
+        out,
+        k,
+        Keyword::TYPE.number as usize,
+        string(nodes, i, TYPE, pool),
+    )
+}
+
+// Where the children of node `i` that are spelled before its values end: after its title or summary, where it has one.
+fn first_end(nodes: &[u32], i: usize, end: usize) -> usize
+    requires { ⌜ i < end ⌝ }
+    ensures { λ r. ⌜ (i < r) × (r ≤ end)
+        × ((bytes : List ℕ) (ns : Nodes) (parent p : ℕ) → StoredAll (now (nodes .entry)) bytes (i + 1) parent p ns → end ≡ i + 1 + countAll ns
+        → r ≡ i + 1 + countAll (firstOf (nodeFirst (ruleOf (wordAt (now (nodes .entry)) i 0) .parameters)) ns)) ⌝ }
+{
+    let from = i + 1;
+    if end <= from {
+        return from;
+    }
+    if !is_titled(word(nodes, i, KIND)) {
+        return from;
+    }
+    let first = word(nodes, from, END);
+    if first <= from {
+        return from;
+    }
+    if end < first {
+        return from;
+    }
+    first
+}
+
+fn lesser(a: usize, b: usize) -> usize
+    ensures { λ r. ⌜ r ≡ min a b ⌝ }
+{
+    if a < b {
+        return a;
+    }
+    b
+}
+
+// The nodes with numbers from `from` to before `end` that stand side by side, a space before each.
+fn children(nodes: &[u32], pool: &[u8], from: usize, end: usize, out: &mut [u8], at: usize) -> usize
+    ensures { λ r. ⌜ ((ns : Nodes) (parent p : ℕ) → StoredAll (now (nodes .entry)) (now (pool .entry)) from parent p ns → end ≡ from + countAll ns
+        → Adds (insideAll ns) at (now (out .entry)) r (now (out .exit))) ⌝ }
+{
+    let mut i = from;
+    let mut k = at;
+    while i < end {
+        let next = word(nodes, i, END);
+        if next <= i {
+            return k;
+        }
+        if end < next {
+            return k;
+        }
+        k = put(out, k, b' ');
+        let start = lesser(k, out.len());
+        let size = spell(nodes, pool, i, next, &mut out[start..]);
+        k = plus(k, size);
+        i = next;
+    }
+    k
+}
+
+// Node `i`, whose descendants have the numbers up to `end`.
+fn spell(nodes: &[u32], pool: &[u8], i: usize, end: usize, out: &mut [u8]) -> usize
+    ensures { λ r. ⌜ (r ≤ 4294967295) × ((d : Node) (parent p : ℕ) → Stored (now (nodes .entry)) (now (pool .entry)) i parent p d → end ≡ i + count d
+        → length (canonical d) ≤ 4294967295 → (r ≡ length (canonical d)) × (now (out .exit) ≡ sets (now (out .entry)) 0 (canonical d))) ⌝ }
+{
+    if end <= i {
+        return 0;
+    }
+    let kind = word(nodes, i, KIND);
+    if kind == Kind::TEXT.number as usize {
+        return put_quoted(out, 0, string(nodes, i, TEXT, pool));
+    }
+    let first = first_end(nodes, i, end);
+    let k = put(out, 0, b'[');
+    let k = put_name(out, k, kind);
+    let k = children(nodes, pool, i + 1, first, out, k);
+    let k = values(nodes, pool, i, out, k);
+    let k = children(nodes, pool, first, end, out, k);
+    put(out, k, b']')
+}
+
+// The document whose table this is: "Printing returns number and length".
+pub fn spelled(nodes: &[u32], pool: &[u8], out: &mut [u8]) -> usize
+    ensures { λ r. ⌜ (r ≤ 4294967295) × ((d : Node) (parent p : ℕ) → Stored (now (nodes .entry)) (now (pool .entry)) 0 parent p d
+        → length (canonical d) ≤ 4294967295 → (r ≡ length (canonical d)) × (now (out .exit) ≡ sets (now (out .entry)) 0 (canonical d))) ⌝ }
+{
+    spell(nodes, pool, 0, word(nodes, 0, END), out)
+}

@@ -1,0 +1,33 @@
+-- Demand 2 of calls: what printing wrote, and what reading it back left. No definition of reading or printing is in it.
+use Prim.Native.Nat.{ℕ, _*_, _≤_}
+use mathlib.Core.Path.{_≡_}
+use mathlib.Core.List.{List}
+use lib.ListN.{length, take}
+use Rattle.document.specs.Document.{Node}
+use Rattle.document.specs.Table.{recordLength}
+use Rattle.document.specs.Spelling.{nested, Spells}
+use Rattle.document.specs.Canonical.{canonical}
+use Rattle.document.specs.Printing.{IsTableOf}
+use Rattle.document.specs.Answer.{Memory, over}
+use Rattle.printer.specs.declared.Printed.{Printed}
+use Rattle.reader.specs.declared.Answer.{Answer}
+
+-- The n records and m bytes at the front of what is lent are the table of the document d.
+pub record Holds (words : List ℕ) (n : ℕ) (bytes : List ℕ) (m : ℕ) (d : Node) : Type 0 where
+  pub words-within : recordLength * n ≤ length words
+  pub bytes-within : m ≤ length bytes
+  pub table : IsTableOf d (take (recordLength * n) words) (take m bytes)
+
+-- A call of print wrote the canonical spelling of d to the front of the output, and that is a nested spelling of d.
+pub record Wrote (d : Node) (out : List ℕ) (p : Printed) (exit : List ℕ) : Type 0 where
+  pub length-is : p .length ≡ length (canonical d)
+  pub written : exit ≡ over (canonical d) out
+  pub spells : Spells nested d (canonical d)
+
+-- A call of read that was lent `lent` answered 0 with the counts n and m, and left these words and bytes at the front of it.
+pub record ReadBack (words : List ℕ) (n : ℕ) (bytes : List ℕ) (m : ℕ) (lent : Memory) (r : Answer) (left : Memory) : Type 0 where
+  pub accepted : r .number ≡ 0
+  pub nodes : r .nodes ≡ n
+  pub bytes-read : r .pool ≡ m
+  pub node-words : left .nodes ≡ over (take (recordLength * n) words) (lent .nodes)
+  pub pool-bytes : left .pool ≡ over (take m bytes) (lent .pool)

@@ -1,0 +1,14 @@
+pub mod Classes
+pub mod Strings
+pub mod Items
+pub mod Runs
+pub mod Levels
+pub mod Accepted
+pub mod Located
+pub mod Prefixes
+pub mod Refused
+pub mod Texts
+pub mod Decided
+pub mod Ascii
+pub mod Atoms
+pub mod Escapes

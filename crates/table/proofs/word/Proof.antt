@@ -1,0 +1,57 @@
+-- `table::word` meets its contract. Assumes nothing.
+use mathlib.Core.Path.{refl, sym}
+use native.Mathlib.Omega.{arith}
+use borrow.Author.Needs.{needs}
+use Prim.Native.Nat.{_+_, _*_, _≤_}
+use lib.ListN.{length, List·getD-eq-default}
+use Rattle.table.specs.Stored.{wordAt}
+use Rattle.table.proofs.word.Statement.{statement}
+use Rattle.table.proofs.word.Tie as tie
+
+returns : tie.Need-returns
+unfolding wordAt
+returns c =
+    let h : length (c .before .args .nodes .now) ≤ 11 * c .before .args .i + c .before .args .j = omega arith in
+    sym (List·getD-eq-default (c .before .args .nodes .now) 0 h)
+
+mul-at : tie.Need-mul-at
+mul-at c = search needs
+
+sub-if2 : tie.Need-sub-if2
+sub-if2 c = search needs
+
+returns-2 : tie.Need-returns-2
+unfolding wordAt
+returns-2 c =
+    let h : length (c .before .before .args .nodes .now) ≤ 11 * c .before .before .args .i + c .before .before .args .j = omega arith in
+    sym (List·getD-eq-default (c .before .before .args .nodes .now) 0 h)
+
+add-result : tie.Need-add-result
+add-result c = search needs
+
+mul-result : tie.Need-mul-result
+mul-result c = search needs
+
+shared-slice-read-result : tie.Need-shared-slice-read-result
+shared-slice-read-result c = search needs
+
+cast-result : tie.Need-cast-result
+cast-result c = omega (arith, c .shared-slice-known .given (11 * c .before .before .before .args .i + c .before .before .before .args .j))
+
+returns-3 : tie.Need-returns-3
+unfolding wordAt
+returns-3 c = refl
+
+pub word-spec : {M : Type 1} → statement M
+word-spec =
+    tie.close
+    (tie.spec
+    returns
+    mul-at
+    sub-if2
+    returns-2
+    add-result
+    mul-result
+    shared-slice-read-result
+    cast-result
+    returns-3)

@@ -1,0 +1,39 @@
+-- Answers that tell whether something holds. Assumes nothing.
+use Prim.Native.Nat.{ℕ}
+use mathlib.Core.Path.{_≡_, refl, sym, _∙_}
+use mathlib.Core.Bool.{Bool, true, false, true≢false}
+use Rattle.validate.specs.Walking.{Decided, Decides}
+
+pub decided : {P : Type 0} (b : Bool) → (b ≡ true → P) → (b ≡ false → P → ⊥) → Decided P b
+decided true f g = record { sound = f; complete = λ p. refl }
+decided false f g = record { sound = f; complete = λ p. absurd (g refl p) }
+
+-- What does not hold is denied.
+pub denied : {P : Type 0} → (P → ⊥) → Decided P false
+denied f = record { sound = λ e. absurd (true≢false (sym e)); complete = λ p. absurd (f p) }
+
+-- What is denied does not hold.
+pub not-held : {P : Type 0} {b : Bool} → Decided P b → b ≡ false → P → ⊥
+not-held d e p = true≢false (sym (d .complete p) ∙ e)
+
+-- What holds of no numbers is refused.
+pub refused : {P : ℕ → ℕ → Type 0} {b : Bool} {n m : ℕ} → b ≡ false → ((e q : ℕ) → P e q → ⊥) → Decides P b n m
+refused f h = record { sound = λ e. absurd (true≢false (sym e ∙ f)); complete = λ e q p. absurd (h e q p) }
+
+-- Two statements hold of the same numbers.
+pub record Same (P Q : ℕ → ℕ → Type 0) : Type 0 where
+  pub to : (e q : ℕ) → P e q → Q e q
+  pub from : (e q : ℕ) → Q e q → P e q
+
+pub itself : {P : ℕ → ℕ → Type 0} → Same P P
+itself = record { to = λ e q p. p; from = λ e q p. p }
+
+pub through : {P Q R : ℕ → ℕ → Type 0} → Same P Q → Same Q R → Same P R
+through s t = record { to = λ e q p. t .to e q (s .to e q p); from = λ e q r. s .from e q (t .from e q r) }
+
+pub decides-same : {P Q : ℕ → ℕ → Type 0} {b : Bool} {n m : ℕ} → Same P Q → Decides P b n m → Decides Q b n m
+decides-same {n} {m} s d = record { sound = λ e. s .to n m (d .sound e); complete = λ e q h. d .complete e q (s .from e q h) }
+
+-- What holds of no numbers does not hold in other words.
+pub none-same : {P Q : ℕ → ℕ → Type 0} → Same P Q → ((e q : ℕ) → P e q → ⊥) → (e q : ℕ) → Q e q → ⊥
+none-same s h e q p = h e q (s .from e q p)

@@ -1,0 +1,16 @@
+pub mod Ids
+pub mod Children
+pub mod Rows
+pub mod Tables
+pub mod Answers
+pub mod Decisions
+pub mod Recordings
+pub mod Spoken
+pub mod Nodes
+pub mod Walks
+pub mod Drafts
+pub mod Every
+pub mod ValueSteps
+pub mod RecordTests
+pub mod Leading
+pub mod Refusals

@@ -1,0 +1,216 @@
+-- When the node of a record is lawful: a text, and an element. Assumes nothing.
+use Prim.Native.Nat.{ℕ, _+_, _-_, _≤_, max}
+use mathlib.Core.Path.{_≡_, refl, sym, ap, _∙_}
+use mathlib.Core.Bool.{Bool, not, cond, _&&_}
+use mathlib.Core.List.{List, []}
+use native.Mathlib.Omega.{arith}
+use lib.Dec.{T, eqb, leb, leb→le}
+use lib.ListN.{length}
+use borrow.Author.Tests.{eq-eqb, ne-eqb, le-leb, eqb-true}
+use Rattle.laws.proofs.Booleans.{cond-case, both, both-true}
+use Rattle.elements.specs.Class as Class
+use Rattle.elements.specs.Rules.{ruleOf}
+use Rattle.elements.specs.Inside.{start}
+use Rattle.document.specs.Document.{text, element, Trees, keepsRules, keepRules}
+use Rattle.document.specs.Document.{node, Nodes, childless, missing, says, sayAll}
+use Rattle.document.specs.Table.{count, pool}
+use Rattle.document.specs.Printing.{part}
+use Rattle.document.specs.Canonical.{nodeFirst, placeValues, layout, layoutAll, treeLevels, mostLevelsIn}
+use Rattle.table.specs.Stored.{wordAt, StoredAll}
+use Rattle.table.specs.Stored.{stringAt}
+use Rattle.validate.specs.Walking.{Decided, Decides, stringsEnd, RecordAt, TextAt, ElementAt, valueLevels, valuesOf, Lawful, NodeAt, ChildrenAt}
+use Rattle.validate.proofs.Decisions.{Same}
+use Rattle.validate.proofs.Recordings.{nodeOf, named, stored-node, node-stored, node-pool}
+use Rattle.validate.proofs.Spoken.{levelsOf, inside-say}
+
+-- A string of no bytes is missing.
+no-string : (words bytes : List ℕ) (i j : ℕ) → wordAt words i (j + 1) ≡ 0 → stringAt words bytes i j ≡ []
+unfolding stringAt part
+no-string words bytes i j e = rw e
+
+-- The kinds of elements.
+pub element-range : (k : ℕ) → T (Class.isElement k) → (1 ≤ k) × (k ≤ 25)
+unfolding Class.isElement Class.isKind
+element-range k t =
+    let (low, high) = both (leb 1 k) (leb k 25) (both (leb 1 k && leb k 25) (not (eqb k Class.text)) t .0) in
+    (leb→le 1 k low, leb→le k 25 high)
+
+range-element : (k : ℕ) → (k ≡ Class.text → ⊥) → 1 ≤ k → k ≤ 25 → T (Class.isElement k)
+unfolding Class.isElement Class.isKind
+range-element k n low high = rw (le-leb 1 k low, le-leb k 25 high, ne-eqb k Class.text n) tt
+
+module _ (words bytes : List ℕ) (i parent p : ℕ) (r : RecordAt words (length bytes) i parent p) where
+  within : p ≤ length bytes
+  within = omega (arith, r .key-at .within)
+
+  key-size : length (stringAt words bytes i 3) ≡ wordAt words i 4
+  key-size = named words bytes i 3 p (r .key-at) .size
+
+  type-size : length (stringAt words bytes i 5) ≡ wordAt words i 6
+  type-size = named words bytes i 5 (p + wordAt words i 4) (r .type-at) .size
+
+  text-size : length (stringAt words bytes i 7) ≡ wordAt words i 8
+  text-size = named words bytes i 7 (p + wordAt words i 4 + wordAt words i 6) (r .text-at) .size
+
+  -- ---- a text
+
+  layout-text : (ns : Nodes) → wordAt words i 0 ≡ Class.text → layout (nodeOf words bytes i ns) ≡ text (stringAt words bytes i 7)
+  unfolding layout nodeOf
+  layout-text ns e = rw (eq-eqb (wordAt words i 0) Class.text e)
+
+  text-lawful : (left : ℕ) → wordAt words i 0 ≡ Class.text → TextAt words bytes i → Lawful left (nodeOf words bytes i childless)
+  unfolding keepsRules says treeLevels nodeOf
+  text-lawful left e t =
+      let l = layout-text childless e in
+      record {
+        keeps = rw l (t .valid);
+        said = rw l (cc (e, no-string words bytes i 3 (t .no-key), no-string words bytes i 5 (t .no-type), t .no-width, t .no-height));
+        levels = rw l (omega arith);
+      }
+
+  lawful-text : {left : ℕ} (ns : Nodes) → wordAt words i 0 ≡ Class.text → wordAt words i 2 ≡ i + count (nodeOf words bytes i ns)
+      → Lawful left (nodeOf words bytes i ns) → TextAt words bytes i × (ns ≡ childless)
+  unfolding keepsRules says nodeOf count
+  lawful-text ns e f a =
+      let l = layout-text ns e in
+      let said = rw l at (a .said) in
+      let none : ns ≡ childless = cc said in
+      let k : stringAt words bytes i 3 ≡ [] = cc said in
+      let t : stringAt words bytes i 5 ≡ [] = cc said in (
+        record {
+          end = rw none at f;
+          no-key = sym key-size ∙ ap length k;
+          no-type = sym type-size ∙ ap length t;
+          no-width = cc said;
+          no-height = cc said;
+          valid = rw l at (a .keeps);
+        },
+        none,
+      )
+
+  pub text-decides : {left : ℕ} {b : Bool} → wordAt words i 0 ≡ Class.text → Decided (TextAt words bytes i) b
+      → Decides (NodeAt words bytes i parent p left) b (i + 1) (stringsEnd words i p)
+  unfolding count StoredAll nodeOf pool
+  text-decides {left} e d =
+      record {
+        sound = λ b.
+            let t = d .sound b in
+            record {
+              made = nodeOf words bytes i childless;
+              stored = node-stored childless words bytes i parent p r (t .end) tt;
+              lawful = text-lawful left e t;
+              next = refl;
+              after = omega (arith, node-pool childless words bytes i parent p r);
+            };
+        complete = λ m q a.
+            let n = stored-node (a .made) words bytes i parent p (a .stored) within in
+            let (t, none) = lawful-text (n .below) e (n .end) (rw (n .made) at (a .lawful)) in
+            let whole : a .made ≡ nodeOf words bytes i childless = n .made ∙ rw none in
+            (d .complete t, sym (rw whole at (a .next)), omega (arith, rw whole at (a .after), node-pool childless words bytes i parent p r));
+      }
+
+  -- ---- an element
+
+  -- The trees inside the element of the record, with these children.
+  abbrev inner : ℕ → Nodes → Trees
+  inner k ns = placeValues (nodeFirst (ruleOf k .parameters)) (valuesOf words bytes k i) (layoutAll ns)
+
+  module _ (k : ℕ) (of-kind : wordAt words i 0 ≡ k) (no-text : k ≡ Class.text → ⊥) where
+    layout-element : (ns : Nodes) → layout (nodeOf words bytes i ns) ≡ element k (inner k ns)
+    unfolding layout nodeOf valuesOf
+    layout-element ns = rw (of-kind, ne-eqb k Class.text no-text)
+
+    levels-words : valueLevels words i ≡ levelsOf k (stringAt words bytes i 3) (stringAt words bytes i 5) (wordAt words i 9) (wordAt words i 10)
+    unfolding valueLevels
+    levels-words = rw (key-size, type-size)
+
+    inner-says : (ns : Nodes)
+        → says (element k (inner k ns))
+        ≡ node k (stringAt words bytes i 3) (stringAt words bytes i 5) [] (wordAt words i 9) (cond (eqb (wordAt words i 9) missing) missing (wordAt words i 10)) (sayAll (layoutAll ns))
+    unfolding says valuesOf
+    inner-says ns =
+        let s = inside-say k (stringAt words bytes i 3) (stringAt words bytes i 5) (wordAt words i 9) (wordAt words i 10) (nodeFirst (ruleOf k .parameters)) ns in
+        cc (s .key-is, s .type-is, s .width-is, s .height-is, s .said)
+
+    inner-levels : (ns : Nodes) → mostLevelsIn (inner k ns) ≡ max (valueLevels words i) (mostLevelsIn (layoutAll ns))
+    unfolding valuesOf
+    inner-levels ns =
+        inside-say k (stringAt words bytes i 3) (stringAt words bytes i 5) (wordAt words i 9) (wordAt words i 10) (nodeFirst (ruleOf k .parameters)) ns .levels-are
+        ∙ rw levels-words
+
+    -- Lawful as an element.
+    record LawfulInside (left : ℕ) (ns : Nodes) : Type 0 where
+      record-fits : ElementAt words i left
+      keep : T (keepRules k (start k) (inner k ns))
+      said : sayAll (layoutAll ns) ≡ ns
+      levels : mostLevelsIn (layoutAll ns) ≤ left - 1
+
+    to-inside : (left : ℕ) (ns : Nodes) → Lawful left (nodeOf words bytes i ns) → LawfulInside left ns
+    unfolding keepsRules treeLevels nodeOf
+    to-inside left ns a =
+        let l = layout-element ns in
+        let (e, keep) = both (Class.isElement k) (keepRules k (start k) (inner k ns)) (rw l at (a .keeps)) in
+        let (low, high) = element-range k e in
+        let said = sym (inner-says ns) ∙ rw l at (a .said) in
+        let levels = rw l at (a .levels) in
+        let none : stringAt words bytes i 7 ≡ [] = cc said in
+        let height : cond (eqb (wordAt words i 9) missing) missing (wordAt words i 10) ≡ wordAt words i 10 = cc said in
+        record {
+          record-fits = record {
+            kind-low = rw of-kind low;
+            kind-high = rw of-kind high;
+            no-text = sym text-size ∙ ap length none;
+            sized = λ w. sym (rw (eq-eqb (wordAt words i 9) missing w) at height);
+            levels = omega (arith, inner-levels ns);
+          };
+          keep = keep;
+          said = cc said;
+          levels = omega (arith, inner-levels ns);
+        }
+
+    from-inside : (left : ℕ) (ns : Nodes) → LawfulInside left ns → Lawful left (nodeOf words bytes i ns)
+    unfolding keepsRules treeLevels nodeOf
+    from-inside left ns a =
+        let l = layout-element ns in
+        let height : cond (eqb (wordAt words i 9) missing) missing (wordAt words i 10) ≡ wordAt words i 10
+        = cond-case (λ (n : ℕ). n ≡ wordAt words i 10) (eqb (wordAt words i 9) missing) (λ e. sym (a .record-fits .sized (eqb-true _ _ e))) (λ e. refl) in
+        record {
+          keeps = rw l (both-true (Class.isElement k) (keepRules k (start k) (inner k ns)) (range-element k no-text (rw of-kind at (a .record-fits .kind-low)) (rw of-kind at (a .record-fits .kind-high))) (a .keep));
+          said = rw l (inner-says ns ∙ cc (of-kind, no-string words bytes i 7 (a .record-fits .no-text), height, a .said));
+          levels = rw l (omega (arith, inner-levels ns, a .record-fits .levels, a .levels));
+        }
+
+    -- The element stands in the table where its children and values do.
+    pub element-same : {left : ℕ} → ElementAt words i left
+        → Same (ChildrenAt words bytes (placeValues (nodeFirst (ruleOf k .parameters)) (valuesOf words bytes k i)) k i (start k) (i + 1) (stringsEnd words i p) (wordAt words i 2) (left - 1))
+        (NodeAt words bytes i parent p left)
+    unfolding count nodeOf pool
+    element-same {left} f =
+        record {
+          to = λ e q c. record {
+            made = nodeOf words bytes i (c .made);
+            stored = node-stored (c .made) words bytes i parent p r (omega (arith, c .counted)) (c .stored);
+            lawful = from-inside left (c .made) (record { record-fits = f; keep = c .keep; said = c .said; levels = c .levels });
+            next = omega (arith, c .next, c .counted);
+            after = c .after ∙ sym (node-pool (c .made) words bytes i parent p r);
+          };
+          from = λ e q a.
+              let n = stored-node (a .made) words bytes i parent p (a .stored) within in
+              let h = to-inside left (n .below) (rw (n .made) at (a .lawful)) in
+              record {
+                made = n .below;
+                stored = n .stored;
+                keep = h .keep;
+                said = h .said;
+                levels = h .levels;
+                counted = omega (arith, n .end);
+                next = rw (n .made) at (a .next) ∙ sym (n .end);
+                after = rw (n .made) at (a .after) ∙ node-pool (n .below) words bytes i parent p r;
+              };
+        }
+
+    -- Where it stands, its record is an element's.
+    pub element-record : {left e q : ℕ} → NodeAt words bytes i parent p left e q → ElementAt words i left
+    element-record {left} a =
+        let n = stored-node (a .made) words bytes i parent p (a .stored) within in
+        to-inside left (n .below) (rw (n .made) at (a .lawful)) .record-fits

@@ -1,0 +1,44 @@
+-- The tests of one record. Assumes nothing.
+use Prim.Native.Nat.{ℕ, _+_, _-_, _≤_, _<_}
+use mathlib.Core.Path.{_≡_, refl, sym, _∙_}
+use mathlib.Core.Bool.{true, false}
+use mathlib.Core.List.{List, [], _∷_}
+use native.Mathlib.Omega.{arith}
+use lib.Dec.{T, eqb}
+use lib.ListN.{length}
+use borrow.Author.Tests.{eq-eqb, ne-eqb, eqb-true, eqb-false}
+use Rattle.laws.proofs.Booleans.{true-T, T-true}
+use Rattle.utf8.specs.Sequence.{validUpTo}
+use Rattle.document.specs.Value.{nonEmpty, isText}
+use Rattle.table.specs.Stored.{wordAt}
+use Rattle.validate.specs.Walking.{Decided, offsetOf, StringAt}
+use Rattle.validate.proofs.Decisions.{decided, denied}
+
+module _ (words : List ℕ) (i j p size : ℕ) {o n : ℕ} (a : o ≡ wordAt words i j) (b : n ≡ wordAt words i (j + 1)) where
+  pub string-none : p ≤ size → n ≡ 0 → Decided (StringAt words i j p size) (eqb o 0)
+  unfolding offsetOf
+  string-none h z =
+      let none = eq-eqb (wordAt words i (j + 1)) 0 (sym b ∙ z) in
+      decided (eqb o 0) (λ e. record { offset = rw none (sym a ∙ eqb-true o 0 e); within = omega arith })
+      (λ e s. eqb-false o 0 e (a ∙ rw none at (s .offset)))
+
+  pub string-long : p ≤ size → size - p < n → Decided (StringAt words i j p size) false
+  string-long h l = denied (λ s. omega (arith, s .within))
+
+  pub string-there : (n ≡ 0 → ⊥) → p ≤ size → n ≤ size - p → Decided (StringAt words i j p size) (eqb o p)
+  unfolding offsetOf
+  string-there z h l =
+      let some = ne-eqb (wordAt words i (j + 1)) 0 (λ e. z (b ∙ e)) in
+      decided (eqb o p) (λ e. record { offset = rw some (sym a ∙ eqb-true o p e); within = omega arith })
+      (λ e s. eqb-false o p e (a ∙ rw some at (s .offset)))
+
+-- A text is valid where it has bytes and all are valid.
+pub text-bytes : (s : List ℕ) → T (isText s) → (length s ≡ 0 → ⊥) × (eqb (validUpTo s) (length s) ≡ true)
+unfolding isText nonEmpty
+text-bytes [] t = absurd t
+text-bytes (b ∷ bs) t = (λ e. omega arith, T-true _ t)
+
+pub bytes-text : (s : List ℕ) → (length s ≡ 0 → ⊥) → eqb (validUpTo s) (length s) ≡ true → T (isText s)
+unfolding isText nonEmpty
+bytes-text [] h e = absurd (h refl)
+bytes-text (b ∷ bs) h e = true-T e

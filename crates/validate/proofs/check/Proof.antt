@@ -1,0 +1,58 @@
+-- `validate::check` meets its contract. Assumes nothing.
+use native.Mathlib.Omega.{arith}
+use mathlib.Core.Path.{sym}
+use lib.Seq.{length-take-le}
+use borrow.Author.Tests.{not-false}
+use borrow.Author.Needs.{needs}
+use Rattle.validate.proofs.Refusals.{no-both, refused, node-fits, answered}
+use Rattle.validate.proofs.check.Statement.{statement}
+use Rattle.validate.proofs.check.Tie as tie
+
+mul-words : tie.Need-mul-words
+mul-words c = search needs
+
+returns : tie.Need-returns
+returns c = refused _ _ _ _ (λ hn hm d x. omega (arith, hn, c .if1 .taken))
+
+returns-2 : tie.Need-returns-2
+returns-2 c = refused _ _ _ _ (λ hn hm d x. omega (arith, hm, c .if2 .taken))
+
+slice-aggregate-table : tie.Need-slice-aggregate-table
+slice-aggregate-table c = sym (length-take-le _ _ (c .before .before .if1 .left))
+
+slice-aggregate-strings : tie.Need-slice-aggregate-strings
+slice-aggregate-strings c = sym (length-take-le _ _ (c .before .before .if2 .left))
+
+is-draft-requires : tie.Need-is-draft-requires
+is-draft-requires c κs = search needs
+
+returns-3 : tie.Need-returns-3
+returns-3 c = refused _ _ _ _ (λ hn hm d x. no-both _ (c .if3 .taken) (c .before .is-draft .ensures .1 d x))
+
+check-table-requires : tie.Need-check-table-requires
+check-table-requires c κs = search needs
+
+cast-t15 : tie.Need-cast-t15
+cast-t15 c =
+    let (d, x) = c .before .before .before .is-draft .ensures .0 (not-false _ (c .before .before .if3 .left)) in
+    omega (arith, node-fits _ _ _ _ (c .before .before .before .before .before .before .before .if1 .left) (c .before .before .before .before .before .before .if2 .left) d x _ _ (c .before .check-table .ensures) (omega arith))
+
+returns-4 : tie.Need-returns-4
+returns-4 c =
+    let (d, x) = c .before .before .before .is-draft .ensures .0 (not-false _ (c .before .before .if3 .left)) in
+    answered _ _ _ _ (c .before .before .before .before .before .before .before .if1 .left) (c .before .before .before .before .before .before .if2 .left) d x _ _ (c .before .check-table .ensures)
+
+pub check-spec : {M : Type 1} → statement M
+check-spec =
+    tie.close
+    (tie.spec
+    mul-words
+    returns
+    returns-2
+    slice-aggregate-table
+    slice-aggregate-strings
+    is-draft-requires
+    returns-3
+    check-table-requires
+    cast-t15
+    returns-4)

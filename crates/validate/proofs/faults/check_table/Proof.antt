@@ -1,0 +1,124 @@
+-- `validate::check_table` meets its contract. Assumes nothing.
+use borrow.Author.Needs.{needs}
+use Rattle.validate.proofs.Answers.{answer-15, answer-16, answer-17, answer-18, answer-sound}
+use Rattle.validate.proofs.faults.check_table.Statement.{statement}
+use Rattle.validate.proofs.faults.check_table.Tie as tie
+
+first-bad-row-requires : tie.Need-first-bad-row-requires
+first-bad-row-requires c κs = search needs
+
+enum-known-row : tie.Need-enum-known-row
+enum-known-row c = search needs
+
+returns : tie.Need-returns
+returns c =
+    let first-bad-row = c .before .before .before .first-bad-row in
+    let row = c .before .row in
+    λ d h.
+    answer-15 _ _ _ d h _ (first-bad-row .ensures) (row .given .0 .0) (row .given .1)
+
+enum-told : tie.Need-enum-told
+enum-told c = search needs
+
+first-repeated-requires : tie.Need-first-repeated-requires
+first-repeated-requires c κs = search needs
+
+enum-known-id : tie.Need-enum-known-id
+enum-known-id c = search needs
+
+returns-2 : tie.Need-returns-2
+returns-2 c =
+    let first-bad-row = c .before .before .before .before .before .before .first-bad-row in
+    let enum-told = c .before .before .before .before .enum-told in
+    let first-repeated = c .before .before .before .first-repeated in
+    let id = c .before .id in
+    λ d h.
+    answer-16 _ _ _ d h _ (first-bad-row .ensures) (enum-told .given .1) _
+    (first-repeated .ensures) (id .given .0 .0) (id .given .1)
+
+enum-told-2 : tie.Need-enum-told-2
+enum-told-2 c = search needs
+
+first-unknown-requires : tie.Need-first-unknown-requires
+first-unknown-requires c κs = search needs
+
+enum-known-link : tie.Need-enum-known-link
+enum-known-link c = search needs
+
+returns-3 : tie.Need-returns-3
+returns-3 c =
+    let first-bad-row = c .before .before .before .before .before .before .before .before .before .first-bad-row in
+    let enum-told = c .before .before .before .before .before .before .before .enum-told in
+    let first-repeated = c .before .before .before .before .before .before .first-repeated in
+    let enum-told2 = c .before .before .before .before .enum-told2 in
+    let first-unknown = c .before .before .before .first-unknown in
+    let link = c .before .link in
+    λ d h.
+    answer-17 _ _ _ d h _ (first-bad-row .ensures) (enum-told .given .1) _
+    (first-repeated .ensures) (enum-told2 .given .1) _
+    (first-unknown .ensures) (link .given .0 .0) (link .given .1)
+
+enum-told-3 : tie.Need-enum-told-3
+enum-told-3 c = search needs
+
+first-unknown-requires-2 : tie.Need-first-unknown-requires-2
+first-unknown-requires-2 c κs = search needs
+
+enum-known-note : tie.Need-enum-known-note
+enum-known-note c = search needs
+
+returns-4 : tie.Need-returns-4
+returns-4 c =
+    let first-bad-row = c .before .before .before .before .before .before .before .before .before .before .before .before .first-bad-row in
+    let enum-told = c .before .before .before .before .before .before .before .before .before .before .enum-told in
+    let first-repeated = c .before .before .before .before .before .before .before .before .before .first-repeated in
+    let enum-told2 = c .before .before .before .before .before .before .before .enum-told2 in
+    let first-unknown = c .before .before .before .before .before .before .first-unknown in
+    let enum-told3 = c .before .before .before .before .enum-told3 in
+    let first-unknown2 = c .before .before .before .first-unknown2 in
+    let note = c .before .note in
+    λ d h.
+    answer-18 _ _ _ d h _ (first-bad-row .ensures) (enum-told .given .1) _
+    (first-repeated .ensures) (enum-told2 .given .1) _
+    (first-unknown .ensures) (enum-told3 .given .1) _
+    (first-unknown2 .ensures) (note .given .0 .0) (note .given .1)
+
+enum-told-4 : tie.Need-enum-told-4
+enum-told-4 c = search needs
+
+returns-5 : tie.Need-returns-5
+returns-5 c =
+    let first-bad-row = c .before .before .before .before .before .before .before .before .before .before .before .first-bad-row in
+    let enum-told = c .before .before .before .before .before .before .before .before .before .enum-told in
+    let first-repeated = c .before .before .before .before .before .before .before .before .first-repeated in
+    let enum-told2 = c .before .before .before .before .before .before .enum-told2 in
+    let first-unknown = c .before .before .before .before .before .first-unknown in
+    let enum-told3 = c .before .before .before .enum-told3 in
+    let first-unknown2 = c .before .before .first-unknown2 in
+    λ d h.
+    answer-sound _ _ _ d h _ (first-bad-row .ensures) (enum-told .given .1) _
+    (first-repeated .ensures) (enum-told2 .given .1) _
+    (first-unknown .ensures) (enum-told3 .given .1) _
+    (first-unknown2 .ensures) (c .enum-told4 .given .1)
+
+pub check-table-spec : {M : Type 1} → statement M
+check-table-spec =
+    tie.close
+    (tie.spec
+    first-bad-row-requires
+    enum-known-row
+    returns
+    enum-told
+    first-repeated-requires
+    enum-known-id
+    returns-2
+    enum-told-2
+    first-unknown-requires
+    enum-known-link
+    returns-3
+    enum-told-3
+    first-unknown-requires-2
+    enum-known-note
+    returns-4
+    enum-told-4
+    returns-5)

@@ -1,0 +1,29 @@
+-- `validate::dangles` meets its contract. Assumes nothing.
+use mathlib.Core.Path.{_∙_, sym, ap}
+use mathlib.Core.Bool.{not}
+use borrow.Author.Needs.{needs}
+use borrow.Author.Tests.{eq-eqb, ne-eqb}
+use Rattle.validate.proofs.faults.dangles.Statement.{statement}
+use Rattle.validate.proofs.faults.dangles.Tie as tie
+
+word-requires : tie.Need-word-requires
+word-requires c κs = search needs
+
+returns : tie.Need-returns
+returns c = rw (ne-eqb _ _ (λ e. c .if1 .taken (c .before .word .ensures ∙ e)))
+
+string-requires : tie.Need-string-requires
+string-requires c κs = search needs
+
+known-requires : tie.Need-known-requires
+known-requires c κs = search needs
+
+returns-2 : tie.Need-returns-2
+returns-2 c =
+    let word = c .before .before .before .word in
+    let if1 = c .before .before .if1 in
+    let key = c .before .string in
+    rw (eq-eqb _ _ (sym (word .ensures) ∙ if1 .left), ← key .ensures) (ap not (c .known .ensures))
+
+pub dangles-spec : {M : Type 1} → statement M
+dangles-spec = tie.close (tie.spec word-requires returns string-requires known-requires returns-2)

@@ -1,0 +1,67 @@
+-- `validate::first_unknown` meets its contract. The loop's invariant: the first unknown target from node `i` on is the first of all. Assumes nothing.
+use Prim.Native.Nat.{_-_}
+use mathlib.Core.Path.{_≡_, _∙_, sym, ap}
+use native.Mathlib.Omega.{arith}
+use borrow.Author.Needs.{needs}
+use Rattle.document.specs.WellFormed.{unknownTarget}
+use Rattle.validate.specs.Words.{entriesFrom, idsBefore, found}
+use Rattle.validate.proofs.Ids.{rest, unknown-here, unknown-on, unknown-end}
+use Rattle.validate.proofs.faults.first_unknown.Statement.{statement}
+use Rattle.validate.proofs.faults.first_unknown.Tie as tie
+
+abbrev Inv-loop : tie.InvT-loop
+Inv-loop nodes count pool kind only i₀ i =
+    unknownTarget kind (idsBefore nodes pool only count) (rest nodes pool count i)
+    ≡ unknownTarget kind (idsBefore nodes pool only count) (entriesFrom nodes pool count 0)
+
+abbrev μ-loop : tie.MeasureT-loop
+μ-loop nodes count pool kind only i₀ i = count - i
+
+loop-holds : tie.Need-loop-holds Inv-loop μ-loop
+loop-holds c =
+    let e : c .before .before .args .count - 0 ≡ c .before .before .args .count = omega arith in
+    rw e
+
+dangles-requires : tie.Need-dangles-requires Inv-loop μ-loop
+dangles-requires c κs = search needs
+
+returns : tie.Need-returns Inv-loop μ-loop
+unfolding found
+returns c =
+    let loop = c .before .before .before .loop in
+    let loop-test = c .before .before .loop-test in
+    let dangles = c .before .dangles in
+    ap found (sym (unknown-here _ _ _ _ _ _ (loop-test .taken) (sym (dangles .ensures) ∙ c .if1 .taken)) ∙ loop .inv)
+
+add-i : tie.Need-add-i Inv-loop μ-loop
+add-i c = search needs
+
+loop-less : tie.Need-loop-less Inv-loop μ-loop
+loop-less c = search needs
+
+loop-again : tie.Need-loop-again Inv-loop μ-loop
+loop-again c =
+    let loop = c .before .before .before .loop in
+    let loop-test = c .before .before .loop-test in
+    let dangles = c .before .dangles in
+    unknown-on _ _ _ _ _ _ (loop-test .taken) (sym (dangles .ensures) ∙ c .if1 .left) ∙ loop .inv
+
+returns-2 : tie.Need-returns-2 Inv-loop μ-loop
+unfolding found
+returns-2 c =
+    let loop = c .before .loop in
+    ap found (sym (unknown-end _ _ _ _ _ _ (c .loop-test .left)) ∙ loop .inv)
+
+pub first-unknown-spec : {M : Type 1} → statement M
+first-unknown-spec =
+    tie.close
+    (tie.spec
+    Inv-loop
+    μ-loop
+    loop-holds
+    dangles-requires
+    returns
+    add-i
+    loop-less
+    loop-again
+    returns-2)

@@ -1,0 +1,56 @@
+-- `values::fits` meets its contract. The loop's invariant: the bytes from `i` on pass where all do. Assumes nothing.
+use Prim.Native.Nat.{_-_}
+use mathlib.Core.Path.{_≡_, refl, sym, _∙_}
+use borrow.Author.Needs.{needs}
+use borrow.Author.Tests.{not-true, not-false}
+use lib.ListN.{length, drop}
+use Rattle.elements.specs.Characters.{characterOf}
+use Rattle.document.specs.Value.{every}
+use Rattle.validate.proofs.Every.{every-on, every-not, every-end}
+use Rattle.validate.proofs.values.fits.Statement.{statement}
+use Rattle.validate.proofs.values.fits.Tie as tie
+
+abbrev Inv-loop : tie.InvT-loop
+Inv-loop bytes sort i₀ i = every (characterOf sort) (drop i bytes) ≡ every (characterOf sort) bytes
+
+abbrev μ-loop : tie.MeasureT-loop
+μ-loop bytes sort i₀ i = length bytes - i
+
+loop-holds : tie.Need-loop-holds Inv-loop μ-loop
+loop-holds c = refl
+
+shared-slice-read-character : tie.Need-shared-slice-read-character Inv-loop μ-loop
+shared-slice-read-character c = search needs
+
+character-requires : tie.Need-character-requires Inv-loop μ-loop
+character-requires c κs = search needs
+
+returns : tie.Need-returns Inv-loop μ-loop
+returns c = sym (every-not (characterOf (c .before .before .before .before .before .before .args .sort)) (c .before .before .before .before .before .before .args .bytes .now) (c .before .before .before .before .loop .i) (c .before .before .before .loop-test .taken) (c .before .character .ensures) (not-true _ (c .if1 .taken))) ∙ c .before .before .before .before .loop .inv
+
+add-i : tie.Need-add-i Inv-loop μ-loop
+add-i c = search needs
+
+loop-less : tie.Need-loop-less Inv-loop μ-loop
+loop-less c = search needs
+
+loop-again : tie.Need-loop-again Inv-loop μ-loop
+loop-again c = sym (every-on (characterOf (c .before .before .before .before .before .before .args .sort)) (c .before .before .before .before .before .before .args .bytes .now) (c .before .before .before .before .loop .i) (c .before .before .before .loop-test .taken) (c .before .character .ensures) (not-false _ (c .if1 .left))) ∙ c .before .before .before .before .loop .inv
+
+returns-2 : tie.Need-returns-2 Inv-loop μ-loop
+returns-2 c = sym (every-end (characterOf (c .before .before .before .args .sort)) (c .before .before .before .args .bytes .now) (c .before .loop .i) (c .loop-test .left)) ∙ c .before .loop .inv
+
+pub fits-spec : {M : Type 1} → statement M
+fits-spec =
+    tie.close
+    (tie.spec
+    Inv-loop
+    μ-loop
+    loop-holds
+    shared-slice-read-character
+    character-requires
+    returns
+    add-i
+    loop-less
+    loop-again
+    returns-2)

@@ -1,0 +1,4 @@
+pub mod Walking
+pub mod Words
+pub mod Checked
+pub mod Checks

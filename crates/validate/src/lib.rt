@@ -1,0 +1,50 @@
+// Is it the table of a document within the limits (20), and has that document a fault 15 to 18?
+mod draft; // draft.rt: whether words and pool are the table of a document
+mod faults; // faults.rt: 15 to 18
+mod record; // record.rt: whether one record is that of a node
+mod values; // values.rt: the values of an element
+
+use draft::is_draft;
+use faults::check_table;
+ghost use mathlib.Core.Path.{_≡_};
+ghost use Rattle.document.specs.Printing.{checking};
+ghost use Rattle.validate.specs.Checks.{Checks};
+
+// 20, or a fault 15 to 18 with the number of the first node that has it, or 0 at node 0.
+pub struct Checked {
+    pub number: u32,
+    pub node: u32,
+}
+
+// The check of a table of so many nodes and pool bytes. It looks at nothing past the counts.
+pub fn check(nodes: &[u32], node_count: u32, pool: &[u8], pool_count: u32) -> Checked
+    ensures { λ r. ⌜ Checks (checking (now (nodes .entry)) «node_count» (now (pool .entry)) «pool_count») r ⌝ }
+{
+    let bytes = pool_count as usize;
+    let words = 11 * (node_count as usize);
+    if nodes.len() < words {
+        return Checked {
+            number: 20,
+            node: 0,
+        };
+    }
+    if pool.len() < bytes {
+        return Checked {
+            number: 20,
+            node: 0,
+        };
+    }
+    let table = &nodes[..words];
+    let strings = &pool[..bytes];
+    if !is_draft(table, strings) {
+        return Checked {
+            number: 20,
+            node: 0,
+        };
+    }
+    let fault = check_table(table, node_count as usize, strings);
+    Checked {
+        number: fault.number,
+        node: fault.node as u32,
+    }
+}

@@ -1,0 +1,136 @@
+// The values of an element: id or target, size, type (document 01, "Elements").
+use kind::Keyword;
+use kind::Kind;
+use kind::character;
+use kind::step;
+use table::HEIGHT;
+use table::KEY;
+use table::MISSING;
+use table::TYPE;
+use table::WIDTH;
+use table::string;
+use table::word;
+ghost use mathlib.Core.Path.{_≡_};
+ghost use mathlib.Core.Bool.{_&&_};
+ghost use mathlib.Core.List.{List};
+ghost use Prim.Native.Nat.{ℕ, _≤_};
+ghost use Rattle.elements.specs.Characters.{characterOf};
+ghost use Rattle.document.specs.Value.{isValue, nonEmpty, every};
+ghost use Rattle.document.specs.Canonical.{keyClass, valueBefore, sizeBefore};
+ghost use Rattle.validate.specs.Walking.{Takes, valuesOf};
+
+// Whether what stands before the rest is taken, and the state after it.
+pub struct Taken {
+    pub ok: bool,
+    pub state: u8,
+}
+
+// Whether all bytes are characters of that sort: 0 of a type, 1 of an id, any other of a URI.
+fn fits(bytes: &[u8], sort: u8) -> bool
+    ensures { λ r. ⌜ r ≡ every (characterOf sort) (now (bytes .entry)) ⌝ }
+{
+    let mut i = 0;
+    while i < bytes.len() {
+        if !character(sort, bytes[i]) {
+            return false;
+        }
+        i += 1;
+    }
+    true
+}
+
+// The sort of the characters of a value of a class in an element of a kind.
+fn sort(kind: u8, class: u8) -> u8
+    requires { ⌜ (26 ≤ class) × (class ≤ 28) ⌝ }
+    ensures { λ r. ⌜ ((s : List ℕ) → isValue kind class s ≡ nonEmpty s && every (characterOf r) s) ⌝ }
+{
+    if class == Keyword::TYPE.number {
+        return 0;
+    }
+    if class == Keyword::ID.number {
+        return 1;
+    }
+    if kind == Kind::LINK.number {
+        return 1;
+    }
+    if kind == Kind::FOOTNOTE_REF.number {
+        return 1;
+    }
+    2
+}
+
+// A value, where it is there.
+fn take_value(kind: u8, state: u8, class: u8, bytes: &[u8]) -> Taken
+    requires { ⌜ (26 ≤ class) × (class ≤ 28) ⌝ }
+    ensures { λ r. ⌜ Takes kind (valueBefore class (now (bytes .entry))) state (r .ok) (r .state) ⌝ }
+{
+    if bytes.len() == 0 {
+        return Taken { ok: true, state };
+    }
+    let taken = step(kind, state, class);
+    if taken.fault != 0 {
+        return Taken { ok: false, state };
+    }
+    Taken {
+        ok: fits(bytes, sort(kind, class)),
+        state: taken.state,
+    }
+}
+
+// A size, where it is there: "at most 65,535 each".
+fn take_size(kind: u8, state: u8, width: usize, height: usize) -> Taken
+    ensures { λ r. ⌜ Takes kind (sizeBefore width height) state (r .ok) (r .state) ⌝ }
+{
+    if width == MISSING {
+        return Taken { ok: true, state };
+    }
+    if 65535 < width {
+        return Taken { ok: false, state };
+    }
+    if 65535 < height {
+        return Taken { ok: false, state };
+    }
+    let taken = step(kind, state, Keyword::SIZE.number);
+    Taken {
+        ok: taken.fault == 0,
+        state: taken.state,
+    }
+}
+
+// A block has an id, any other element a target.
+fn key_class(kind: u8) -> u8
+    ensures { λ r. ⌜ r ≡ keyClass kind ⌝ }
+{
+    if kind < Kind::DOCUMENT.number {
+        return Keyword::TARGET.number;
+    }
+    if Kind::FOOTNOTE.number < kind {
+        return Keyword::TARGET.number;
+    }
+    Keyword::ID.number
+}
+
+// The values of node `i` of a kind, "id before type".
+pub fn values(nodes: &[u32], pool: &[u8], i: usize, kind: u8, state: u8) -> Taken
+    ensures { λ r. ⌜ Takes kind (valuesOf (now (nodes .entry)) (now (pool .entry)) kind i) state (r .ok) (r .state) ⌝ }
+{
+    let key = take_value(kind, state, key_class(kind), string(nodes, i, KEY, pool));
+    if !key.ok {
+        return Taken { ok: false, state };
+    }
+    let size = take_size(
+        kind,
+        key.state,
+        word(nodes, i, WIDTH),
+        word(nodes, i, HEIGHT),
+    );
+    if !size.ok {
+        return Taken { ok: false, state };
+    }
+    take_value(
+        kind,
+        size.state,
+        Keyword::TYPE.number,
+        string(nodes, i, TYPE, pool),
+    )
+}
