@@ -46,7 +46,6 @@ fn wanted(want: &[u8], k: usize) -> usize {
 }
 
 fn read_nested(text: &[u8], nodes: &mut [u32], places: &mut [u32], pool: &mut [u8]) -> [u32; 6] {
-    let _q0: u8 = 0;
     let a = reader::read_nested(text, nodes, places, pool);
     [a.number, a.place, a.line, a.column, a.nodes, a.pool]
 }
@@ -70,7 +69,6 @@ fn lend_pool(
     places: &mut [u32],
     memory: &mut [u8],
 ) -> [u32; 6] {
-    let _q0: u8 = 0;
     let room = wanted(want, 8);
     if memory.len() < BEFORE {
         return NONE;
@@ -95,7 +93,6 @@ fn lend_places(
     memory: &mut [u32],
     bytes: &mut [u8],
 ) -> [u32; 6] {
-    let _q0: u8 = 0;
     let room = wanted(want, 7);
     if memory.len() < BEFORE {
         return NONE;
@@ -122,7 +119,6 @@ fn lend(
     offsets: &mut [u32],
     bytes: &mut [u8],
 ) -> [u32; 6] {
-    let _q0: u8 = 0;
     let room = wanted(want, 6);
     if memory.len() < BEFORE {
         return NONE;
@@ -157,7 +153,6 @@ pub fn small(
     places: &[u8],
     pool: &[u8],
 ) -> Tally {
-    let _q0: u8 = 0;
     let mut words = [WORD; 256];
     let mut offsets = [PLACE; 48];
     let mut bytes = [BYTE; 96];
@@ -183,7 +178,6 @@ pub fn large(
     places: &[u32],
     pool: &[u8],
 ) -> Tally {
-    let _q0: u8 = 0;
     let mut words = [WORD; 45200];
     let mut offsets = [PLACE; 4200];
     let mut bytes = [BYTE; 4200];
