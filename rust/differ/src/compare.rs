@@ -1,0 +1,146 @@
+//! One call, made and held against the rules.
+
+use crate::call::Call;
+
+/// What the rules return for a call, and in what making it differed from them.
+pub struct Compared {
+    pub number: u32,
+    pub difference: Option<String>,
+}
+
+/// Makes the call that a seed stands for.
+pub fn compare<C: Call>(seed: u64) -> Compared {
+    hold(&C::new(seed), C::by_archive)
+}
+
+/// Holds whatever answers a call against the rules: the value returned, and every buffer with its guards.
+fn hold<C: Call>(call: &C, answers: impl FnOnce(&mut C) -> u32) -> Compared {
+    let (mut wanted, mut left) = (call.clone(), call.clone());
+    let (number, returned) = (wanted.by_rules(), answers(&mut left));
+    let unlike = wanted.unlike(&left);
+    let same = returned == number && unlike.is_empty();
+    let difference = || {
+        let (words, input) = (wanted.answer(), call.input());
+        format!("{returned} {:?}, wanted {number} {words:?}, unlike {unlike:?}; {input}", left.answer())
+    };
+    Compared { number, difference: (!same).then(difference) }
+}
+
+#[cfg(test)]
+mod tests {
+    use super::hold;
+    use crate::call::Call;
+    use crate::lent::{Lent, Mark};
+    use crate::print::Print;
+    use crate::read::Read;
+    use std::ops::BitXorAssign;
+
+    const CALLS: u64 = 300;
+
+    /// In how many calls that are answered by the rules something is changed afterwards. It is noticed in each of
+    /// these, and in no other.
+    fn noticed<C: Call>(change: impl Fn(&mut C, &mut u32) -> bool) -> u64 {
+        let one = |seed| {
+            let mut changed = false;
+            let compared = hold(&C::new(seed), |call: &mut C| {
+                let mut returned = call.by_rules();
+                changed = change(call, &mut returned);
+                returned
+            });
+            assert_eq!(compared.difference.is_some(), changed, "seed {seed}");
+            u64::from(changed)
+        };
+        (0..CALLS).map(one).sum()
+    }
+
+    /// Changes an element, if it is there.
+    fn flip<T: BitXorAssign + From<u8>>(element: Option<&mut T>) -> bool {
+        element.map(|element| *element ^= T::from(1)).is_some()
+    }
+
+    /// Changes the last guard before a slice, and the first one behind it.
+    fn before<T: Mark + BitXorAssign + From<u8>>(lent: &mut Lent<T>) -> bool {
+        let guards = (lent.whole().len() - lent.length()) / 2;
+        flip(lent.whole().get_mut(guards - 1))
+    }
+
+    fn behind<T: Mark + BitXorAssign + From<u8>>(lent: &mut Lent<T>) -> bool {
+        let guards = (lent.whole().len() - lent.length()) / 2;
+        let end = guards + lent.length();
+        flip(lent.whole().get_mut(end))
+    }
+
+    #[test]
+    fn the_rules_do_not_differ_from_themselves() {
+        assert_eq!(noticed::<Read>(|_, _| false), 0);
+        assert_eq!(noticed::<Print>(|_, _| false), 0);
+    }
+
+    #[test]
+    fn returned_values() {
+        assert_eq!(noticed::<Read>(|_, returned| flip(Some(returned))), CALLS);
+        assert_eq!(noticed::<Print>(|_, returned| flip(Some(returned))), CALLS);
+    }
+
+    #[test]
+    fn guards_of_reads() {
+        let touches: [fn(&mut Read) -> bool; 10] = [
+            |call| before(&mut call.text),
+            |call| behind(&mut call.text),
+            |call| before(&mut call.nodes),
+            |call| behind(&mut call.nodes),
+            |call| before(&mut call.places),
+            |call| behind(&mut call.places),
+            |call| before(&mut call.pool),
+            |call| behind(&mut call.pool),
+            |call| before(&mut call.answer),
+            |call| behind(&mut call.answer),
+        ];
+        for touch in touches {
+            assert_eq!(noticed::<Read>(|call, _| touch(call)), CALLS);
+        }
+    }
+
+    #[test]
+    fn guards_of_prints() {
+        let touches: [fn(&mut Print) -> bool; 8] = [
+            |call| before(&mut call.nodes),
+            |call| behind(&mut call.nodes),
+            |call| before(&mut call.pool),
+            |call| behind(&mut call.pool),
+            |call| before(&mut call.out),
+            |call| behind(&mut call.out),
+            |call| before(&mut call.answer),
+            |call| behind(&mut call.answer),
+        ];
+        for touch in touches {
+            assert_eq!(noticed::<Print>(|call, _| touch(call)), CALLS);
+        }
+    }
+
+    #[test]
+    fn what_is_lent_for_reading() {
+        assert!(noticed::<Read>(|call, _| flip(call.text.slice_mut().last_mut())) > CALLS / 2);
+        assert!(noticed::<Print>(|call, _| flip(call.nodes.slice_mut().last_mut())) > CALLS / 2);
+        assert!(noticed::<Print>(|call, _| flip(call.pool.slice_mut().last_mut())) > CALLS / 2);
+    }
+
+    #[test]
+    fn what_is_lent_for_writing() {
+        assert!(noticed::<Read>(|call, _| flip(call.nodes.slice_mut().last_mut())) > CALLS / 2);
+        assert!(noticed::<Read>(|call, _| flip(call.places.slice_mut().last_mut())) > CALLS / 2);
+        assert!(noticed::<Read>(|call, _| flip(call.pool.slice_mut().last_mut())) > CALLS / 2);
+        assert!(noticed::<Print>(|call, _| flip(call.out.slice_mut().last_mut())) > CALLS / 2);
+    }
+
+    /// Also those behind the words of the answer.
+    #[test]
+    fn words_lent_for_the_answer() {
+        for index in 0..6 + 3 {
+            assert!(noticed::<Read>(|call, _| flip(call.answer.slice_mut().get_mut(index))) > CALLS / 4);
+        }
+        for index in 0..2 + 3 {
+            assert!(noticed::<Print>(|call, _| flip(call.answer.slice_mut().get_mut(index))) > CALLS / 4);
+        }
+    }
+}

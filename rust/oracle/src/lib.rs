@@ -1,0 +1,30 @@
+//! The rules of document 01 written a second time, independently of the verified code, for differential tests.
+//!
+//! [`read()`] takes a text into a flat node table, [`print()`] spells such a table canonically, and [`random`] makes
+//! cases for both. Reading allocates nothing: a first walk judges and counts, a second one fills the lent memory.
+
+mod bytes;
+mod faults;
+mod find;
+mod head;
+mod ids;
+mod imperative;
+mod kind;
+mod lead;
+mod number;
+mod place;
+mod print;
+pub mod random;
+mod read;
+mod scan;
+mod sink;
+mod spelling;
+mod table;
+mod value;
+mod verify;
+mod walk;
+
+pub use kind::Kind;
+pub use print::{print, Printed};
+pub use read::{read, Answer};
+pub use table::{MAX_NODES, MAX_POOL, MAX_TEXT, NONE, WORDS};

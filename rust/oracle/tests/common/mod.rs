@@ -1,0 +1,79 @@
+//! What several tests use.
+#![allow(dead_code)]
+
+use oracle::{print, read, Answer, WORDS};
+
+/// An answer with the used part of the lent memory.
+#[derive(Debug, PartialEq, Eq)]
+pub struct Read {
+    pub answer: Answer,
+    pub nodes: Vec<u32>,
+    pub places: Vec<u32>,
+    pub pool: Vec<u8>,
+}
+
+/// Reads with room for every document there is.
+pub fn read_amply(text: &[u8], imperative: bool) -> Read {
+    let (mut nodes, mut places, mut pool) = (vec![0; 4_096 * WORDS], vec![0; 4_096], vec![0; 65_536]);
+    let answer = read(text, imperative, &mut nodes, &mut places, &mut pool);
+    let filled = matches!(answer.number, 0 | 15..=18);
+    let (count, length) = if filled { (answer.nodes as usize, answer.pool as usize) } else { (0, 0) };
+    nodes.truncate(count * WORDS);
+    places.truncate(count);
+    pool.truncate(length);
+    Read { answer, nodes, places, pool }
+}
+
+pub fn nested(text: impl AsRef<[u8]>) -> Answer {
+    read_amply(text.as_ref(), false).answer
+}
+
+pub fn imperative(text: impl AsRef<[u8]>) -> Answer {
+    read_amply(text.as_ref(), true).answer
+}
+
+/// Number and place.
+pub fn at(answer: Answer) -> (u32, u32) {
+    (answer.number, answer.place)
+}
+
+/// Nested text of a document with one section of one paragraph that holds the content, and where that starts.
+pub fn in_paragraph(content: &str) -> (String, u32) {
+    let before = "[document [title A] [section [title B] [paragraph ";
+    (format!("{before}{content}]]]"), before.len() as u32)
+}
+
+/// Number of the content in a paragraph, and its place from the start of the content.
+pub fn paragraph(content: &str) -> (u32, u32) {
+    let (text, start) = in_paragraph(content);
+    let answer = nested(&text);
+    (answer.number, answer.place.wrapping_sub(start))
+}
+
+/// The canonical spelling of a read table.
+pub fn printed(read: &Read) -> Vec<u8> {
+    let mut out = vec![0; 1 << 20];
+    let (nodes, pool) = (read.answer.nodes, read.answer.pool);
+    let answer = print(&read.nodes, nodes, &read.pool, pool, &mut out);
+    assert_eq!(answer.number, 0);
+    out.truncate(answer.length as usize);
+    out
+}
+
+/// What the listing programs print (1,024 nodes, a pool of 32,768 bytes).
+pub fn listing(text: &[u8], imperative: bool) -> String {
+    if text.len() > 32_768 {
+        return "too long\n".into();
+    }
+    let (mut nodes, mut places, mut pool) = (vec![0; 1_024 * WORDS], vec![0; 1_024], vec![0; 32_768]);
+    let answer = read(text, imperative, &mut nodes, &mut places, &mut pool);
+    if answer.number != 0 {
+        return format!("refused {} {}:{}\n", answer.number, answer.line, answer.column);
+    }
+    let mut lines = format!("nodes {} pool {}\n", answer.nodes, answer.pool);
+    for (node, record) in nodes.chunks(WORDS).take(answer.nodes as usize).enumerate() {
+        let parent = if node == 0 { "-".into() } else { record[1].to_string() };
+        lines += &format!("{node} {} {parent} {}\n", record[0], record[2]);
+    }
+    lines
+}

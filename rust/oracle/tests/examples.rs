@@ -1,0 +1,39 @@
+//! The examples folder of the project.
+
+mod common;
+
+use std::path::{Path, PathBuf};
+
+use common::{printed, read_amply};
+
+fn folder() -> PathBuf {
+    Path::new(env!("CARGO_MANIFEST_DIR")).join("../../examples")
+}
+
+fn text(name: &str) -> Vec<u8> {
+    std::fs::read(folder().join(name)).unwrap_or_else(|error| panic!("{name}: {error}"))
+}
+
+#[test]
+fn duplicate_id_is_refused_at_line_7() {
+    let answer = read_amply(&text("duplicate-id.sd"), false).answer;
+    assert_eq!((answer.number, answer.line, answer.column), (16, 7, 3));
+}
+
+#[test]
+fn pairs_have_equal_tables() {
+    let mut pairs = 0;
+    for entry in std::fs::read_dir(folder()).unwrap() {
+        let name = entry.unwrap().file_name().into_string().unwrap();
+        let Some(stem) = name.strip_suffix(".sdi") else { continue };
+        let nested = read_amply(&text(&format!("{stem}.sd")), false);
+        let run = read_amply(&text(&name), true);
+        assert_eq!((nested.answer.number, run.answer.number), (0, 0), "{stem}");
+        assert_eq!(nested.nodes, run.nodes, "{stem}");
+        assert_eq!(nested.pool, run.pool, "{stem}");
+        let again = read_amply(&printed(&nested), false);
+        assert_eq!((again.nodes, again.pool), (nested.nodes, nested.pool), "{stem}");
+        pairs += 1;
+    }
+    assert!(pairs >= 4);
+}

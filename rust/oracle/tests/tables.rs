@@ -1,0 +1,113 @@
+//! Printing against another way to the same answer: a table is that of a well-formed document within the limits just
+//! if the text spelled from it, by the plainest printer there is, reads back as the very same words and bytes.
+
+mod common;
+
+use common::read_amply;
+use oracle::random::{Element, PrintCase};
+use oracle::{Kind, NONE, WORDS};
+
+fn cases() -> u64 {
+    std::env::var("ORACLE_CASES").ok().and_then(|count| count.parse().ok()).unwrap_or(4_000)
+}
+
+/// The tree that kinds, ends and strings speak of, if they speak of one.
+fn rebuild(nodes: &[u32], pool: &[u8], node: usize) -> Option<Element> {
+    let record = &nodes[node * WORDS..][..WORDS];
+    let string = |at: usize| {
+        let bytes = match record[at + 1] as usize {
+            0 => &[],
+            length => pool.get(record[at] as usize..)?.get(..length)?,
+        };
+        String::from_utf8(bytes.to_vec()).ok()
+    };
+    let mut element = Element::new(Kind::from_number(record[0])?);
+    (element.name, element.class, element.text) = (string(3)?, string(5)?, string(7)?);
+    if (record[9], record[10]) != (NONE, NONE) {
+        element.size = Some((record[9].try_into().ok()?, record[10].try_into().ok()?));
+    }
+    let (mut child, end) = (node + 1, record[2] as usize);
+    while child < end {
+        let next = *nodes.get(child * WORDS + 2)? as usize;
+        if next <= child || next > end {
+            return None;
+        }
+        element.children.push(rebuild(nodes, pool, child)?);
+        child = next;
+    }
+    Some(element)
+}
+
+fn quoted(value: &str) -> String {
+    let character = |character: char| match character {
+        '"' => "\\\"".into(),
+        '\n' => "\\n".into(),
+        '\r' => "\\r".into(),
+        '\t' => "\\t".into(),
+        '\\' | '\0'..='\u{1f}' | '\u{7f}' => format!("\\u{:04x}", character as u32),
+        _ => character.to_string(),
+    };
+    format!("\"{}\"", value.chars().map(character).collect::<String>())
+}
+
+fn spelled(element: &Element) -> String {
+    if element.kind == Kind::Text {
+        return quoted(&element.text);
+    }
+    let mut pieces = vec![element.kind.name().to_string()];
+    let mut children: Vec<String> = element.children.iter().map(spelled).collect();
+    let titled = matches!(element.kind.number(), 1 | 2 | 3 | 4 | 6 | 19);
+    if titled && !children.is_empty() {
+        pieces.push(children.remove(0));
+    }
+    match element.kind.number() {
+        _ if element.name.is_empty() => {}
+        1..=7 => pieces.push(format!("[id {}]", element.name)),
+        _ => pieces.push(format!("[target {}]", quoted(&element.name))),
+    }
+    if let Some((width, height)) = element.size {
+        pieces.push(format!("[size {width} {height}]"));
+    }
+    if !element.class.is_empty() {
+        pieces.push(format!("[type {}]", element.class));
+    }
+    pieces.extend(children);
+    format!("[{}]", pieces.join(" "))
+}
+
+/// The canonical spelling, if the case has a table to print and its text is not too long to be read.
+fn plain_print(case: &PrintCase) -> Option<String> {
+    let nodes = case.nodes.get(..(case.node_count as usize).checked_mul(WORDS)?)?;
+    let pool = case.pool.get(..case.pool_count as usize)?;
+    if nodes.is_empty() {
+        return None;
+    }
+    let text = spelled(&rebuild(nodes, pool, 0)?);
+    let read = read_amply(text.as_bytes(), false);
+    (read.answer.number == 0 && read.nodes == nodes && read.pool == pool).then_some(text)
+}
+
+#[test]
+fn the_printer_answers_as_the_plain_way_does() {
+    let (mut fine, mut refused) = (0, 0);
+    for seed in 0..cases() {
+        let mut case = PrintCase::new(seed);
+        case.out = 1 << 20;
+        let outcome = case.run();
+        let out = &outcome.out[..outcome.printed.length as usize];
+        if out.len() > 65_536 {
+            continue;
+        }
+        match plain_print(&case) {
+            Some(text) => {
+                assert_eq!((outcome.printed.number, out), (0, text.as_bytes()), "seed {seed}");
+                fine += 1;
+            }
+            None => {
+                assert_eq!((outcome.printed.number, out), (20, &[][..]), "seed {seed}");
+                refused += 1;
+            }
+        }
+    }
+    assert!(fine * 5 > cases() && refused * 5 > cases(), "{fine} printed, {refused} refused");
+}

@@ -1,0 +1,167 @@
+//! The three functions of libstructural.a, as `include/structural.h` declares them. All `unsafe` is here.
+//!
+//! What they ask of a caller, Rust's slices give: a pointer that is aligned and not null, as many elements
+//! as the length says, and no overlap between one that is written and any other.
+
+use crate::Spelling;
+
+/// Words of an answer to reading: number, place, line, column, node count, pool count.
+pub const READ_WORDS: usize = 6;
+
+/// Words of an answer to printing: number, length.
+pub const PRINT_WORDS: usize = 2;
+
+type Read = unsafe extern "C" fn(
+    text: *const u8,
+    text_length: usize,
+    nodes: *mut u32,
+    nodes_length: usize,
+    places: *mut u32,
+    places_length: usize,
+    pool: *mut u8,
+    pool_length: usize,
+    answer: *mut u32,
+    answer_length: usize,
+) -> u32;
+
+extern "C" {
+    fn structural_read_nested(
+        text: *const u8,
+        text_length: usize,
+        nodes: *mut u32,
+        nodes_length: usize,
+        places: *mut u32,
+        places_length: usize,
+        pool: *mut u8,
+        pool_length: usize,
+        answer: *mut u32,
+        answer_length: usize,
+    ) -> u32;
+
+    fn structural_read_imperative(
+        text: *const u8,
+        text_length: usize,
+        nodes: *mut u32,
+        nodes_length: usize,
+        places: *mut u32,
+        places_length: usize,
+        pool: *mut u8,
+        pool_length: usize,
+        answer: *mut u32,
+        answer_length: usize,
+    ) -> u32;
+
+    fn structural_print(
+        nodes: *const u32,
+        nodes_length: usize,
+        node_count: u32,
+        pool: *const u8,
+        pool_length: usize,
+        pool_count: u32,
+        out: *mut u8,
+        out_length: usize,
+        answer: *mut u32,
+        answer_length: usize,
+    ) -> u32;
+}
+
+fn reader(spelling: Spelling) -> Read {
+    match spelling {
+        Spelling::Nested => structural_read_nested,
+        Spelling::Imperative => structural_read_imperative,
+    }
+}
+
+/// Reads into what is lent; returns the number, and the answer's words in `answer`.
+pub fn read(
+    spelling: Spelling,
+    text: &[u8],
+    nodes: &mut [u32],
+    places: &mut [u32],
+    pool: &mut [u8],
+    answer: &mut [u32],
+) -> u32 {
+    // SAFETY: each pointer and length are those of a slice, and the borrows keep the slices apart.
+    unsafe {
+        reader(spelling)(
+            text.as_ptr(),
+            text.len(),
+            nodes.as_mut_ptr(),
+            nodes.len(),
+            places.as_mut_ptr(),
+            places.len(),
+            pool.as_mut_ptr(),
+            pool.len(),
+            answer.as_mut_ptr(),
+            answer.len(),
+        )
+    }
+}
+
+/// Prints into what is lent; returns the number, and the answer's words in `answer`.
+pub fn print(nodes: &[u32], node_count: u32, pool: &[u8], pool_count: u32, out: &mut [u8], answer: &mut [u32]) -> u32 {
+    // SAFETY: each pointer and length are those of a slice, and the borrows keep the slices apart.
+    unsafe {
+        structural_print(
+            nodes.as_ptr(),
+            nodes.len(),
+            node_count,
+            pool.as_ptr(),
+            pool.len(),
+            pool_count,
+            out.as_mut_ptr(),
+            out.len(),
+            answer.as_mut_ptr(),
+            answer.len(),
+        )
+    }
+}
+
+#[cfg(test)]
+mod tests {
+    use super::*;
+    use crate::number;
+
+    const MARK: u32 = 0xA5A5_A5A5;
+    const TEXT: &[u8] = b"[document [title A]]";
+
+    #[test]
+    fn answer_too_short_touches_nothing() {
+        for spelling in [Spelling::Nested, Spelling::Imperative] {
+            for length in 0..READ_WORDS {
+                let (mut nodes, mut places, mut pool) = ([MARK; 33], [MARK; 3], [0xA5; 1]);
+                let mut answer = vec![MARK; length];
+                let returned = read(spelling, TEXT, &mut nodes, &mut places, &mut pool, &mut answer);
+                assert_eq!(returned, number::NO_ANSWER);
+                assert!(nodes == [MARK; 33] && places == [MARK; 3] && pool == [0xA5; 1]);
+                assert_eq!(answer, vec![MARK; length]);
+            }
+        }
+    }
+
+    #[test]
+    fn print_answer_too_short_touches_nothing() {
+        for length in 0..PRINT_WORDS {
+            let mut out = [0xA5; 64];
+            let mut answer = vec![MARK; length];
+            let returned = print(&[], 0, &[], 0, &mut out, &mut answer);
+            assert_eq!(returned, number::NO_ANSWER);
+            assert!(out == [0xA5; 64] && answer == vec![MARK; length]);
+        }
+    }
+
+    #[test]
+    fn longer_answers_keep_their_later_words() {
+        let (mut nodes, mut places, mut pool) = ([MARK; 33], [MARK; 3], [0xA5; 1]);
+        let mut answer = [MARK; 9];
+        let returned = read(Spelling::Nested, TEXT, &mut nodes, &mut places, &mut pool, &mut answer);
+        assert_eq!(returned, number::OK);
+        assert_eq!(answer, [0, 0, 1, 1, 3, 1, MARK, MARK, MARK]);
+
+        let mut out = [0xA5; 22];
+        let mut answer = [MARK; 4];
+        assert_eq!(print(&nodes, 3, &pool, 1, &mut out, &mut answer), number::OK);
+        assert_eq!(answer, [0, 22, MARK, MARK]);
+        assert_eq!(&out, b"[document [title \"A\"]]");
+    }
+}
