@@ -1,4 +1,4 @@
-pub mod ByLength
-pub mod Tried
+pub mod Arms
+pub mod Chosen
 pub mod Table
 pub mod Steps

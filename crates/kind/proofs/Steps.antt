@@ -13,7 +13,7 @@ use borrow.Author.Tests.{lt-ltb, le-ltb, eq-eqb, ne-eqb, eqb-true, eqb-false}
 use Rattle.elements.specs.Class as Class
 use Rattle.elements.specs.Rules.{Slot, must, may, id-type, Content, any-of, exactly-one, ruleOf}
 use Rattle.elements.specs.Inside.{expecting, holding, go, bad, sort, isInclude, allows, firstChild, nextChild, nextParameter, start, noneRequired, mayBeEmpty, ended}
-use Rattle.kind.specs.Machine.{stateOf}
+use Rattle.kind.specs.Machine.{stateOf, stepOf}
 use Rattle.kind.specs.Table.{led}
 use Rattle.kind.proofs.Table.{past-four}
 
@@ -35,14 +35,15 @@ pub child-state : (k n : ℕ) → 7 ≤ n → stateOf k n ≡ holding (n - 7)
 unfolding stateOf
 child-state k n h = rw (le-ltb n 5 (omega arith), ne-eqb n 5 (λ e. omega arith), ne-eqb n 6 (λ e. omega arith))
 
-module _ (t : Content) (c : ℕ) where
-  pub first-include : isInclude c ≡ true → bad 12 ≡ firstChild t c
-  unfolding firstChild
-  first-include i = rw i
+refused : (k : ℕ) (i : Bool) → stepOf k (cond i 12 8) 0 ≡ cond i (bad 12) (bad 8)
+unfolding stepOf
+refused k true = refl
+refused k false = refl
 
-  pub first-refused : isInclude c ≡ false → allows t c ≡ false → bad 8 ≡ firstChild t c
+module _ (t : Content) (c : ℕ) where
+  pub first-refused : (k : ℕ) {f : ℕ} → f ≡ cond (isInclude c) 12 8 → allows t c ≡ false → stepOf k f 0 ≡ firstChild t c
   unfolding firstChild
-  first-refused i a = rw (i, a)
+  first-refused k e a = rw (e, a) (refused k (isInclude c))
 
   pub first-taken : (k : ℕ) {s : ℕ} → isInclude c ≡ false → allows t c ≡ true → s ≡ Class.significance c → go (stateOf k (7 + s)) ≡ firstChild t c
   unfolding firstChild sort
@@ -50,20 +51,15 @@ module _ (t : Content) (c : ℕ) where
       let off : 7 + s - 7 ≡ s = omega arith in
       rw (i, a, child-state k (7 + s) (omega arith), off, e)
 
-pub next-include : (t : Content) (s c : ℕ) → isInclude c ≡ true → bad 12 ≡ nextChild t s c
-unfolding nextChild
-next-include (any-of ks) s c i = rw i
-next-include (exactly-one n) s c i = rw i
-
 pub next-of-one : (t : Content) (s c : ℕ) → isInclude c ≡ false → mayBeEmpty t ≡ false → bad 8 ≡ nextChild t s c
 unfolding nextChild mayBeEmpty
 next-of-one (any-of ks) s c i e = absurd (true≢false e)
 next-of-one (exactly-one n) s c i e = rw i
 
-pub next-refused : (t : Content) (s c : ℕ) → isInclude c ≡ false → allows t c ≡ false → bad 8 ≡ nextChild t s c
+pub next-refused : (k : ℕ) (t : Content) (s c : ℕ) {f : ℕ} → f ≡ cond (isInclude c) 12 8 → allows t c ≡ false → stepOf k f 0 ≡ nextChild t s c
 unfolding nextChild allows
-next-refused (any-of ks) s c i a = rw (i, a)
-next-refused (exactly-one n) s c i a = rw i
+next-refused k (any-of ks) s c e a = rw (e, a) (refused k (isInclude c))
+next-refused k (exactly-one n) s c e a = rw e (refused k (isInclude c))
 
 next-taken : (t : Content) (s c : ℕ) → isInclude c ≡ false → mayBeEmpty t ≡ true → allows t c ≡ true
     → cond (eqb (Class.significance c) s) (go (holding s)) (bad 11) ≡ nextChild t s c

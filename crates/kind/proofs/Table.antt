@@ -1,12 +1,12 @@
--- The code's tables against the rules, by tests that antt computes: each entry, and of `rules` itself what the code leaves out of the tables.
+-- The code's rows against the rules, by tests that antt computes: each row, and of `rules` itself what the code leaves out.
 -- Assumes nothing.
-use Prim.Native.Nat.{ℕ, zero, suc, _+_, _-_, _/_, _%_, _^_, _<_, _≤_}
-use mathlib.Core.Path.{_≡_, _∙_, refl, ap}
-use mathlib.Core.Bool.{Bool, true, false, not, cond, _&&_}
+use Prim.Native.Nat.{ℕ, zero, suc, _+_, _-_, _*_, _/_, _%_, _^_, _<_, _≤_}
+use mathlib.Core.Path.{_≡_, _∙_, refl, sym, ap}
+use mathlib.Core.Bool.{Bool, true, false, not, _&&_, true≢false}
 use mathlib.Core.List.{List, [], _∷_}
 use native.Mathlib.Omega.{arith}
 use lib.Dec.{T, eqb, leb, ltb, eqb→eq, leb→le, ltb→lt}
-use lib.ListN.{length, getD, drop, drop-of-length-le}
+use lib.ListN.{length, drop, drop-of-length-le}
 use lib.Seq.{drop-drop}
 use borrow.Author.Tests.{ne-eqb, leb-true, leb-false, lt-ltb, le-ltb}
 use Rattle.laws.proofs.Booleans.{cond-case, both, not-T-false}
@@ -14,9 +14,10 @@ use Rattle.laws.proofs.Tables.{every, below, each-below, alike, alike-eq}
 use Rattle.elements.specs.Bytes.{among}
 use Rattle.elements.specs.Class as Class
 use Rattle.elements.specs.Rules.{Slot, must, may, id-type, Content, any-of, exactly-one, Rule, rules, ruleIn, ruleOf}
-use Rattle.elements.specs.Inside.{allows, mayBeEmpty}
-use Rattle.kind.specs.Table.{led}
+use Rattle.elements.specs.Inside.{allows, isInclude, mayBeEmpty}
+use Rattle.kind.specs.Table.{led, packed, code, bits}
 use Rattle.elements.proofs.Same.{each-among}
+use Rattle.kind.proofs.Arms.{Missed}
 
 -- The row of a kind that has none.
 abbrev empty : ℕ → Rule
@@ -97,6 +98,21 @@ pub past-classes : (k c : ℕ) → 32 ≤ c → allows (ruleOf k .content) c ≡
 unfolding rules
 past-classes k c h = not-allowed c h (ruleOf k .content) (each-kind content-below tt k tt)
 
+-- Include and import may stand nowhere.
+abbrev takes-none : Rule → Bool
+takes-none r = not (allows (r .content) Class.include) && not (allows (r .content) Class.import)
+
+refuted : (b : Bool) → T (not b) → b ≡ true → ⊥
+refuted true t e = t
+refuted false t e = true≢false (sym e)
+
+pub no-include : (k c : ℕ) → allows (ruleOf k .content) c ≡ true → isInclude c ≡ false
+unfolding rules allows among isInclude
+no-include k c a =
+    let t = ruleOf k .content in
+    let (include, import) = both (not (allows t Class.include)) (not (allows t Class.import)) (each-kind takes-none tt k tt) in
+    rw (ne-eqb c Class.include (λ e. refuted _ include (rw e at a)), ne-eqb c Class.import (λ e. refuted _ import (rw e at a)))
+
 -- A number stands for the first of these parameters.
 stands : ℕ → List Slot → Bool
 stands x [] = eqb x 0
@@ -122,58 +138,48 @@ led-stands x (may n ∷ ps) t =
 led-stands x (id-type ∷ []) t = rw (eqb→eq x 255 t)
 led-stands x (id-type ∷ (p ∷ ps)) t = absurd t
 
+-- The bytes of a row's number stand for its parameters.
+abbrev slot-stands : Rule → ℕ → Bool
+slot-stands r i = stands (packed (r .parameters) / 2 ^ (8 * i) % 256) (drop i (r .parameters))
+
+abbrev row-stands : Rule → Bool
+row-stands r = below (slot-stands r) 4
+
+pub slot-at : (k i : ℕ) → i < 4
+    → drop i (ruleOf k .parameters) ≡ led (packed (ruleOf k .parameters) / 2 ^ (8 * i) % 256) (drop (i + 1) (ruleOf k .parameters))
+unfolding packed code stands rules
+slot-at k i h =
+    led-stands _ _ (each-below (slot-stands (ruleOf k)) 4 i h (each-kind row-stands tt k tt))
+    ∙ ap (led (packed (ruleOf k .parameters) / 2 ^ (8 * i) % 256)) (drop-drop 1 i (ruleOf k .parameters))
+
+-- The bits of a row's number are the classes that may stand in it.
+abbrev class-alike : Rule → ℕ → Bool
+class-alike r c = alike (eqb (bits (r .content) 32 / 2 ^ c % 2) 1) (allows (r .content) c)
+
+abbrev content-alike : Rule → Bool
+content-alike r = below (class-alike r) 32
+
+pub content-at : (k c : ℕ) → c < 32 → eqb (bits (ruleOf k .content) 32 / 2 ^ c % 2) 1 ≡ allows (ruleOf k .content) c
+unfolding bits allows among rules
+content-at k c h = alike-eq _ _ (each-below (class-alike (ruleOf k)) 32 c h (each-kind content-alike tt k tt))
+
 -- A row for each of n kinds from k on.
 unfoldable pub rows : {A : Type 0} → (ℕ → A) → ℕ → ℕ → List A
 rows f zero k = []
 rows f (suc n) k = f k ∷ rows f n (suc k)
 
-unfoldable pub code : Slot → ℕ
-code (must n) = n
-code (may n) = 64 + n
-code id-type = 255
+-- A number that is no row's kind has no row.
+abbrev kinds : List Rule → List ℕ
+kinds [] = []
+kinds (r ∷ rs) = r .kind ∷ kinds rs
 
-unfoldable pub padded : ℕ → List Slot → List ℕ
-padded zero ps = []
-padded (suc n) [] = 0 ∷ padded n []
-padded (suc n) (p ∷ ps) = code p ∷ padded n ps
+missed : (k : ℕ) (N : Type 0) (rs : List Rule) → Missed k N (kinds rs) → N × (ruleIn rs k ≡ empty k)
+unfolding ruleIn
+missed k N [] n = (n, refl)
+missed k N (r ∷ rs) m =
+    let ((n, other), e) = missed k (N × (k ≡ r .kind → ⊥)) rs m in
+    (n, rw (ne-eqb k (r .kind) other) e)
 
--- The table of parameters, as the rules give it: antt computes the code's own.
-unfoldable pub parameters : List (List ℕ)
-parameters = rows (λ k. padded 4 (ruleOf k .parameters)) 26 0
-
-abbrev slot-stands : ℕ → ℕ → Bool
-slot-stands k i = stands (getD (getD parameters k []) i 0) (drop i (ruleOf k .parameters))
-
-abbrev row-stands : ℕ → Bool
-row-stands k = below (slot-stands k) 4
-
-parameters-stand : T (below row-stands 26)
-unfolding parameters rows padded code stands rules ruleIn ruleOf
-parameters-stand = tt
-
-pub slot-at : (k i : ℕ) → k < 26 → i < 4 → drop i (ruleOf k .parameters) ≡ led (getD (getD parameters k []) i 0) (drop (i + 1) (ruleOf k .parameters))
-slot-at k i hk hi =
-    led-stands _ _ (each-below (slot-stands k) 4 i hi (each-below row-stands 26 k hk parameters-stand))
-    ∙ ap (led (getD (getD parameters k []) i 0)) (drop-drop 1 i (ruleOf k .parameters))
-
--- The bits of the classes below n that may stand in a kind.
-unfoldable pub bits : ℕ → ℕ → ℕ
-bits k zero = 0
-bits k (suc n) = cond (allows (ruleOf k .content) n) (2 ^ n) 0 + bits k n
-
--- The table of contents, as the rules give it.
-unfoldable pub contents : List ℕ
-contents = rows (λ k. bits k 32) 26 0
-
-abbrev class-alike : ℕ → ℕ → Bool
-class-alike k c = alike (eqb (getD contents k 0 / 2 ^ c % 2) 1) (allows (ruleOf k .content) c)
-
-abbrev content-alike : ℕ → Bool
-content-alike k = below (class-alike k) 32
-
-contents-alike : T (below content-alike 26)
-unfolding contents rows bits allows among rules ruleIn ruleOf
-contents-alike = tt
-
-pub content-at : (k c : ℕ) → k < 26 → c < 32 → eqb (getD contents k 0 / 2 ^ c % 2) 1 ≡ allows (ruleOf k .content) c
-content-at k c hk hc = alike-eq _ _ (each-below (class-alike k) 32 c hc (each-below content-alike 26 k hk contents-alike))
+pub no-rule : (k : ℕ) → Missed k (Unit {0}) (kinds rules) → ruleOf k ≡ empty k
+unfolding ruleOf
+no-rule k m = missed k (Unit {0}) rules m .1

@@ -1,3 +1,2 @@
-pub mod ByLength
 pub mod Machine
 pub mod Table

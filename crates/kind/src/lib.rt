@@ -1,5 +1,7 @@
 // The names of the language and their numbers (document 01, "Elements").
 mod machine; // machine.rt: what may stand inside an element
+mod number; // number.rt: the numbers of the kinds, for patterns
+mod rows; // rows.rt: the table of elements
 mod values; // values.rt: the characters of values
 mod words; // words.rt: the comparisons with the names
 
@@ -133,18 +135,19 @@ impl Keyword {
 pub fn class_of(name: &[u8]) -> u8
     ensures { λ r. ⌜ r ≡ classOf (now (name .entry)) ⌝ }
 {
-    let n = name.len();
-    if n <= 3 {
-        return words::up_to_3(name);
+    match name.len() {
+        2 => words::if_is(name, b"id", Keyword::ID.number),
+        3 => words::if_is(name, b"row", Kind::ROW.number),
+        4 => words::of_4(name),
+        5 => words::of_5(name),
+        6 => words::of_6(name),
+        7 => words::of_7(name),
+        8 => words::of_8(name),
+        9 => words::if_is(name, b"paragraph", Kind::PARAGRAPH.number),
+        10 => words::if_is(name, b"subsection", Kind::SUBSECTION.number),
+        11 => words::if_is(name, b"formal-item", Kind::FORMAL_ITEM.number),
+        12 => words::of_12(name),
+        14 => words::if_is(name, b"list-unordered", Kind::LIST_UNORDERED.number),
+        _ => 0,
     }
-    if n == 4 {
-        return words::of_4(name);
-    }
-    if n <= 6 {
-        return words::of_5_or_6(name);
-    }
-    if n <= 8 {
-        return words::of_7_or_8(name);
-    }
-    words::from_9(name)
 }

@@ -3,7 +3,11 @@
 // the type or the id may; from 7 on it holds children, the first of the sort that is added to 7.
 use super::Keyword;
 use super::Kind;
-ghost use Prim.Native.Nat.{_+_, _-_, _≤_};
+use super::rows::ID_TYPE;
+use super::rows::MAY;
+use super::rows::allowed;
+use super::rows::slot;
+ghost use Prim.Native.Nat.{_-_, _≤_};
 ghost use mathlib.Core.Path.{_≡_};
 ghost use mathlib.Core.Bool.{cond};
 ghost use mathlib.Core.List.{[], _∷_};
@@ -11,9 +15,8 @@ ghost use lib.Dec.{eqb};
 ghost use lib.ListN.{drop};
 ghost use Rattle.elements.specs.Class as Class;
 ghost use Rattle.elements.specs.Rules.{may, ruleOf};
-ghost use Rattle.elements.specs.Inside.{allows, ended, firstChild, isInclude, nextChild, nextParameter, noneRequired, step as stepped};
+ghost use Rattle.elements.specs.Inside.{ended, firstChild, isInclude, nextChild, nextParameter, noneRequired, step as stepped};
 ghost use Rattle.kind.specs.Machine.{stateOf, stepOf};
-ghost use Rattle.kind.specs.Table.{led};
 
 // A step in numbers: fault 0 and the next state, or the number of the fault.
 pub struct Stepped {
@@ -21,129 +24,9 @@ pub struct Stepped {
     pub state: u8,
 }
 
-const TITLE: u8 = Kind::TITLE.number;
-
 const ID: u8 = Keyword::ID.number;
 
 const TYPE: u8 = Keyword::TYPE.number;
-
-const TARGET: u8 = Keyword::TARGET.number;
-
-// A required parameter is its class, and an optional one this and its class.
-const MAY: u8 = 64;
-
-// `id?/type?`, "either order"
-const ID_TYPE: u8 = 255;
-
-// The parameters of each kind, in order; 0 stands after the last.
-const PARAMETERS: [[u8; 4]; 26] = [
-    [0, 0, 0, 0], // no kind
-    [TITLE, ID_TYPE, 0, 0], // document
-    [TITLE, ID_TYPE, 0, 0], // part
-    [TITLE, ID_TYPE, 0, 0], // section
-    [TITLE, ID_TYPE, 0, 0], // subsection
-    [ID_TYPE, 0, 0, 0], // paragraph
-    [TITLE, ID_TYPE, 0, 0], // formal-item
-    [ID, MAY + TYPE, 0, 0], // footnote
-    [0, 0, 0, 0], // title
-    [0, 0, 0, 0], // text
-    [MAY + TYPE, 0, 0, 0], // term
-    [TARGET, MAY + Keyword::SIZE.number, MAY + TYPE, 0], // image
-    [MAY + TYPE, 0, 0, 0], // verbatim
-    [TARGET, 0, 0, 0], // link
-    [TARGET, 0, 0, 0], // link-ext
-    [TARGET, 0, 0, 0], // footnote-ref
-    [0, 0, 0, 0], // list-ordered
-    [0, 0, 0, 0], // list-unordered
-    [0, 0, 0, 0], // item
-    [
-        Kind::SUMMARY.number,
-        MAY + TYPE,
-        MAY + Kind::HEAD.number,
-        Kind::BODY.number,
-    ], // table
-    [0, 0, 0, 0], // summary
-    [0, 0, 0, 0], // head
-    [0, 0, 0, 0], // name
-    [0, 0, 0, 0], // body
-    [0, 0, 0, 0], // row
-    [0, 0, 0, 0], // cell
-];
-
-// Sets of classes: the bit of a class's number.
-const TEXT: u32 = 1 << Kind::TEXT.number;
-
-const IMAGE: u32 = 1 << Kind::IMAGE.number;
-
-const ITEM: u32 = 1 << Kind::ITEM.number;
-
-const SECTION: u32 = 1 << Kind::SECTION.number;
-
-const PARAGRAPHS: u32 = 1 << Kind::PARAGRAPH.number
-    | 1 << Kind::FORMAL_ITEM.number
-    | 1 << Kind::FOOTNOTE.number;
-
-// "Inline is text and kinds 10 to 17 and 19."
-const INLINE_BUT_TABLE: u32 = TEXT | (1 << 18) - (1 << 10);
-
-const INLINE: u32 = INLINE_BUT_TABLE | 1 << Kind::TABLE.number;
-
-// What may stand in each kind after the parameters.
-const CONTENT: [u32; 26] = [
-    0, // no kind
-    1 << Kind::PART.number | SECTION, // document
-    SECTION, // part
-    1 << Kind::SUBSECTION.number | PARAGRAPHS, // section
-    PARAGRAPHS, // subsection
-    INLINE, // paragraph
-    INLINE, // formal-item
-    INLINE, // footnote
-    TEXT, // title
-    0, // text
-    TEXT, // term
-    TEXT, // image
-    TEXT, // verbatim
-    TEXT | IMAGE, // link
-    TEXT | IMAGE, // link-ext
-    0, // footnote-ref
-    ITEM, // list-ordered
-    ITEM, // list-unordered
-    INLINE, // item
-    0, // table
-    TEXT, // summary
-    1 << Kind::NAME.number, // head
-    TEXT, // name
-    1 << Kind::ROW.number, // body
-    1 << Kind::CELL.number, // row
-    INLINE_BUT_TABLE, // cell
-];
-
-// The parameter at a place of a kind's row.
-fn slot(kind: u8, place: u8) -> u8
-    ensures { λ r. ⌜ drop place (ruleOf kind .parameters) ≡ led r (drop (place + 1) (ruleOf kind .parameters)) ⌝ }
-{
-    if 26 <= kind {
-        return 0;
-    }
-    if 4 <= place {
-        return 0;
-    }
-    let row = PARAMETERS[kind as usize];
-    row[place as usize]
-}
-
-// Whether a child of a class may stand in a kind.
-fn allowed(kind: u8, class: u8) -> bool
-    ensures { λ r. ⌜ r ≡ allows (ruleOf kind .content) class ⌝ }
-{
-    if 26 <= kind {
-        return false;
-    }
-    if 32 <= class {
-        return false;
-    }
-    (CONTENT[kind as usize] >> class) % 2 == 1
-}
 
 fn is_include(class: u8) -> bool
     ensures { λ r. ⌜ r ≡ isInclude class ⌝ }
@@ -154,17 +37,24 @@ fn is_include(class: u8) -> bool
     class == Keyword::IMPORT.number
 }
 
+// The fault of a class that may not stand in a kind: include and import may stand in none.
+fn refused(class: u8) -> u8
+    ensures { λ r. ⌜ r ≡ cond (isInclude class) 12 8 ⌝ }
+{
+    if is_include(class) {
+        return 12;
+    }
+    8
+}
+
 fn first_child(kind: u8, class: u8) -> Stepped
     ensures { λ r. ⌜ stepOf kind (r .fault) (r .state) ≡ firstChild (ruleOf kind .content) class ⌝ }
 {
-    if is_include(class) {
+    if !allowed(kind, class) {
         return Stepped {
-            fault: 12,
+            fault: refused(class),
             state: 0,
         };
-    }
-    if !allowed(kind, class) {
-        return Stepped { fault: 8, state: 0 };
     }
     let child = Kind { number: class };
     Stepped {
@@ -178,16 +68,13 @@ fn next_child(kind: u8, state: u8, class: u8) -> Stepped
     requires { ⌜ 7 ≤ state ⌝ }
     ensures { λ r. ⌜ stepOf kind (r .fault) (r .state) ≡ nextChild (ruleOf kind .content) (state - 7) class ⌝ }
 {
-    if is_include(class) {
+    if !allowed(kind, class) {
         return Stepped {
-            fault: 12,
+            fault: refused(class),
             state: 0,
         };
     }
     if kind == Kind::VERBATIM.number {
-        return Stepped { fault: 8, state: 0 };
-    }
-    if !allowed(kind, class) {
         return Stepped { fault: 8, state: 0 };
     }
     let child = Kind { number: class };

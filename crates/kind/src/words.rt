@@ -1,13 +1,11 @@
-// A name is looked for among the names of about its length.
+// A name's length and one or two of its bytes leave one word that it can be, and it is compared with that.
 use super::Keyword;
 use super::Kind;
 ghost use mathlib.Core.Path.{_≡_};
-ghost use mathlib.Core.Bool.{_&&_, cond};
-ghost use lib.Dec.{eqb, leb};
-ghost use lib.ListN.{drop};
+ghost use mathlib.Core.Bool.{cond};
+ghost use lib.ListN.{length};
 ghost use Rattle.elements.specs.Bytes.{same};
-ghost use Rattle.elements.specs.Class.{classIn};
-ghost use Rattle.kind.specs.ByLength.{namesOf};
+ghost use Rattle.elements.specs.Class.{classOf};
 
 fn is(name: &[u8], word: &[u8]) -> bool
     ensures { λ r. ⌜ r ≡ same (now (name .entry)) (now (word .entry)) ⌝ }
@@ -25,80 +23,93 @@ fn is(name: &[u8], word: &[u8]) -> bool
     true
 }
 
-// The class where the name is the word, else what the words tried before gave.
-// A call for each word is one fact for each in the proof of a function that tries several; branches would repeat those before them.
-// The words are tried in the reverse of the specification's order.
-fn or_if(before: u8, name: &[u8], word: &[u8], class: u8) -> u8
-    ensures { λ r. ⌜ r ≡ cond (same (now (name .entry)) (now (word .entry))) class before ⌝ }
+// The class where the name is the word, else 0.
+pub fn if_is(name: &[u8], word: &[u8], class: u8) -> u8
+    ensures { λ r. ⌜ r ≡ cond (same (now (name .entry)) (now (word .entry))) class 0 ⌝ }
 {
     if is(name, word) {
         return class;
     }
-    before
-}
-
-pub fn up_to_3(name: &[u8]) -> u8
-    ensures { λ r. ⌜ r ≡ classIn (namesOf (λ n. leb n 3)) (now (name .entry)) ⌝ }
-{
-    let class = 0;
-    let class = or_if(class, name, b"id", Keyword::ID.number);
-    or_if(class, name, b"row", Kind::ROW.number)
+    0
 }
 
 pub fn of_4(name: &[u8]) -> u8
-    ensures { λ r. ⌜ r ≡ classIn (namesOf (eqb 4)) (now (name .entry)) ⌝ }
+    requires { ⌜ length (now name) ≡ 4 ⌝ }
+    ensures { λ r. ⌜ r ≡ classOf (now (name .entry)) ⌝ }
 {
-    let class = of_4_last(name);
-    let class = or_if(class, name, b"head", Kind::HEAD.number);
-    let class = or_if(class, name, b"item", Kind::ITEM.number);
-    let class = or_if(class, name, b"link", Kind::LINK.number);
-    let class = or_if(class, name, b"term", Kind::TERM.number);
-    or_if(class, name, b"part", Kind::PART.number)
+    match name[0] {
+        b'p' => if_is(name, b"part", Kind::PART.number),
+        b't' => match name[1] {
+            b'e' => if_is(name, b"term", Kind::TERM.number),
+            b'y' => if_is(name, b"type", Keyword::TYPE.number),
+            _ => 0,
+        },
+        b'l' => if_is(name, b"link", Kind::LINK.number),
+        b'i' => if_is(name, b"item", Kind::ITEM.number),
+        b'h' => if_is(name, b"head", Kind::HEAD.number),
+        b'n' => if_is(name, b"name", Kind::NAME.number),
+        b'b' => if_is(name, b"body", Kind::BODY.number),
+        b'c' => if_is(name, b"cell", Kind::CELL.number),
+        b's' => if_is(name, b"size", Keyword::SIZE.number),
+        _ => 0,
+    }
 }
 
-fn of_4_last(name: &[u8]) -> u8
-    ensures { λ r. ⌜ r ≡ classIn (drop 5 (namesOf (eqb 4))) (now (name .entry)) ⌝ }
+pub fn of_5(name: &[u8]) -> u8
+    requires { ⌜ length (now name) ≡ 5 ⌝ }
+    ensures { λ r. ⌜ r ≡ classOf (now (name .entry)) ⌝ }
 {
-    let class = 0;
-    let class = or_if(class, name, b"size", Keyword::SIZE.number);
-    let class = or_if(class, name, b"type", Keyword::TYPE.number);
-    let class = or_if(class, name, b"cell", Kind::CELL.number);
-    let class = or_if(class, name, b"body", Kind::BODY.number);
-    or_if(class, name, b"name", Kind::NAME.number)
+    match name[1] {
+        b'i' => if_is(name, b"title", Kind::TITLE.number),
+        b'm' => if_is(name, b"image", Kind::IMAGE.number),
+        b'a' => if_is(name, b"table", Kind::TABLE.number),
+        _ => 0,
+    }
 }
 
-pub fn of_5_or_6(name: &[u8]) -> u8
-    ensures { λ r. ⌜ r ≡ classIn (namesOf (λ n. leb 5 n && leb n 6)) (now (name .entry)) ⌝ }
+pub fn of_6(name: &[u8]) -> u8
+    requires { ⌜ length (now name) ≡ 6 ⌝ }
+    ensures { λ r. ⌜ r ≡ classOf (now (name .entry)) ⌝ }
 {
-    let class = 0;
-    let class = or_if(class, name, b"import", Keyword::IMPORT.number);
-    let class = or_if(class, name, b"target", Keyword::TARGET.number);
-    let class = or_if(class, name, b"table", Kind::TABLE.number);
-    let class = or_if(class, name, b"image", Kind::IMAGE.number);
-    or_if(class, name, b"title", Kind::TITLE.number)
+    match name[0] {
+        b't' => if_is(name, b"target", Keyword::TARGET.number),
+        b'i' => if_is(name, b"import", Keyword::IMPORT.number),
+        _ => 0,
+    }
 }
 
-pub fn of_7_or_8(name: &[u8]) -> u8
-    ensures { λ r. ⌜ r ≡ classIn (namesOf (λ n. leb 7 n && leb n 8)) (now (name .entry)) ⌝ }
+pub fn of_7(name: &[u8]) -> u8
+    requires { ⌜ length (now name) ≡ 7 ⌝ }
+    ensures { λ r. ⌜ r ≡ classOf (now (name .entry)) ⌝ }
 {
-    let class = 0;
-    let class = or_if(class, name, b"include", Keyword::INCLUDE.number);
-    let class = or_if(class, name, b"summary", Kind::SUMMARY.number);
-    let class = or_if(class, name, b"link-ext", Kind::LINK_EXT.number);
-    let class = or_if(class, name, b"verbatim", Kind::VERBATIM.number);
-    let class = or_if(class, name, b"footnote", Kind::FOOTNOTE.number);
-    let class = or_if(class, name, b"section", Kind::SECTION.number);
-    or_if(class, name, b"document", Kind::DOCUMENT.number)
+    match name[1] {
+        b'e' => if_is(name, b"section", Kind::SECTION.number),
+        b'u' => if_is(name, b"summary", Kind::SUMMARY.number),
+        b'n' => if_is(name, b"include", Keyword::INCLUDE.number),
+        _ => 0,
+    }
 }
 
-pub fn from_9(name: &[u8]) -> u8
-    ensures { λ r. ⌜ r ≡ classIn (namesOf (leb 9)) (now (name .entry)) ⌝ }
+pub fn of_8(name: &[u8]) -> u8
+    requires { ⌜ length (now name) ≡ 8 ⌝ }
+    ensures { λ r. ⌜ r ≡ classOf (now (name .entry)) ⌝ }
 {
-    let class = 0;
-    let class = or_if(class, name, b"list-unordered", Kind::LIST_UNORDERED.number);
-    let class = or_if(class, name, b"list-ordered", Kind::LIST_ORDERED.number);
-    let class = or_if(class, name, b"footnote-ref", Kind::FOOTNOTE_REF.number);
-    let class = or_if(class, name, b"formal-item", Kind::FORMAL_ITEM.number);
-    let class = or_if(class, name, b"paragraph", Kind::PARAGRAPH.number);
-    or_if(class, name, b"subsection", Kind::SUBSECTION.number)
+    match name[0] {
+        b'd' => if_is(name, b"document", Kind::DOCUMENT.number),
+        b'f' => if_is(name, b"footnote", Kind::FOOTNOTE.number),
+        b'v' => if_is(name, b"verbatim", Kind::VERBATIM.number),
+        b'l' => if_is(name, b"link-ext", Kind::LINK_EXT.number),
+        _ => 0,
+    }
+}
+
+pub fn of_12(name: &[u8]) -> u8
+    requires { ⌜ length (now name) ≡ 12 ⌝ }
+    ensures { λ r. ⌜ r ≡ classOf (now (name .entry)) ⌝ }
+{
+    match name[0] {
+        b'f' => if_is(name, b"footnote-ref", Kind::FOOTNOTE_REF.number),
+        b'l' => if_is(name, b"list-ordered", Kind::LIST_ORDERED.number),
+        _ => 0,
+    }
 }

@@ -5,10 +5,10 @@ use mathlib.Core.List.{List, [], _∷_}
 use Prim.Native.Nat.{ℕ, suc, _+_, _≤_, _<_}
 use native.Mathlib.Omega.{arith}
 use native.Mathlib.Numerals.{add-one}
-use lib.Dec.{eqb, ltb}
-use borrow.Author.Tests.{lt-ltb, eq-eqb, ne-eqb}
+use lib.Dec.{eqb}
+use borrow.Author.Tests.{eq-eqb, ne-eqb}
 use lib.ListN.{length, take, drop, getD, length-drop, drop-of-length-le}
-use lib.Seq.{drop-cons, drop-drop, getD-drop}
+use lib.Seq.{drop-cons, getD-drop}
 use Rattle.laws.proofs.Booleans.{bool-case}
 use Rattle.syntax.specs.Byte.{byteClass, isBlank, isOrdinary}
 use Rattle.syntax.specs.Scan.{ordinaryRun}
@@ -17,51 +17,38 @@ use Rattle.lexer.proofs.Codes.{blank-code}
 
 -- ---- white space
 
--- Whether the first byte is white space, by what the definition tests.
-pub blank-test : (b : ℕ) (s : List ℕ) → ltb 0 (blanks (b ∷ s)) ≡ (isBlank b || (eqb b 0x0D && eqb (getD s 0 0) 0x0A))
+pub blanks-end : (text : List ℕ) (i : ℕ) → length text ≤ i → blanks (drop i text) ≡ 0
 unfolding blanks
-blank-test b s = go (isBlank b || (eqb b 0x0D && eqb (getD s 0 0) 0x0A))
-  where
-    go : (t : Bool) → ltb 0 (cond t (suc (blanks s)) 0) ≡ t
-    go true = lt-ltb 0 (suc (blanks s)) (omega arith)
-    go false = refl
+blanks-end text i h = rw (drop-of-length-le text h)
 
--- What stands at a place of a text is white space by the class of its byte, or as a carriage return with a line feed after it.
-pub blank-at-end : (text : List ℕ) (i : ℕ) → length text ≤ i → ltb 0 (blanks (drop i text)) ≡ false
-unfolding blanks
-blank-at-end text i h = rw (drop-of-length-le text h)
-
+-- What stands at a place is white space by the class of its byte, or as a carriage return with a line feed after it.
 module _ (text : List ℕ) (i class : ℕ) (h : i < length text) (e : class ≡ codeOf (byteClass (getD text i 0))) where
-  blank-here : ltb 0 (blanks (drop i text)) ≡ (eqb class 0 || (eqb (getD text i 0) 0x0D && eqb (getD text (i + 1) 0) 0x0A))
-  blank-here =
-      let next : getD (drop (suc i) text) 0 0 ≡ getD text (i + 1) 0 = getD-drop (suc i) text 0 0 ∙ ap (λ (n : ℕ). getD text n 0) (omega arith) in
-      rw (drop-cons text i 0 h, e, ← next, ← blank-code (getD text i 0)) (blank-test (getD text i 0) (drop (suc i) text))
+  blanks-here : blanks (drop i text) ≡ cond (eqb class 0 || (eqb (getD text i 0) 0x0D && eqb (getD text (i + 1) 0) 0x0A)) (suc (blanks (drop (i + 1) text))) 0
+  unfolding blanks
+  blanks-here =
+      let next : getD (drop (suc i) text) 0 0 ≡ getD text (suc i) 0 = getD-drop (suc i) text 0 0 ∙ ap (λ (n : ℕ). getD text n 0) (omega arith) in
+      rw (drop-cons text i 0 h, next, e, ← blank-code (getD text i 0), add-one i)
 
-  pub blank-yes : class ≡ 0 → ltb 0 (blanks (drop i text)) ≡ true
-  blank-yes f = blank-here ∙ rw (eq-eqb class 0 f)
+  -- A turn of the loop passes one byte of white space, or none is left.
+  pub blank-on : class ≡ 0 → i + 1 + blanks (drop (i + 1) text) ≡ i + blanks (drop i text)
+  blank-on f =
+      let one : blanks (drop i text) ≡ suc (blanks (drop (i + 1) text)) = blanks-here ∙ rw (eq-eqb class 0 f) in
+      omega arith
 
-  pub blank-no : (class ≡ 0 → ⊥) → (getD text i 0 ≡ 0x0D → ⊥) → ltb 0 (blanks (drop i text)) ≡ false
-  blank-no f g = blank-here ∙ rw (ne-eqb class 0 f, ne-eqb (getD text i 0) 0x0D g)
+  pub blank-stop : (class ≡ 0 → ⊥) → (getD text i 0 ≡ 0x0D → ⊥) → blanks (drop i text) ≡ 0
+  blank-stop f g = blanks-here ∙ rw (ne-eqb class 0 f, ne-eqb (getD text i 0) 0x0D g)
 
-  pub blank-return : (b : ℕ) → (class ≡ 0 → ⊥) → getD text i 0 ≡ 0x0D → b ≡ getD text (i + 1) 0 → ltb 0 (blanks (drop i text)) ≡ eqb b 0x0A
-  blank-return b f g n = blank-here ∙ rw (ne-eqb class 0 f, eq-eqb (getD text i 0) 0x0D g, n)
+  module _ (next : ℕ) (f : class ≡ 0 → ⊥) (g : getD text i 0 ≡ 0x0D) (n : next ≡ getD text (i + 1) 0) where
+    return-here : blanks (drop i text) ≡ cond (eqb next 0x0A) (suc (blanks (drop (i + 1) text))) 0
+    return-here = blanks-here ∙ rw (ne-eqb class 0 f, eq-eqb (getD text i 0) 0x0D g, n)
 
-blank-more : (s : List ℕ) → ltb 0 (blanks s) ≡ true → (0 < length s) × (blanks s ≡ suc (blanks (drop 1 s)))
-unfolding blanks
-blank-more [] e = let z : _≡_ {A = ℕ} 0 1 = cc in absurd (omega arith)
-blank-more (b ∷ s) e = (omega arith, go (isBlank b || (eqb b 0x0D && eqb (getD s 0 0) 0x0A)) e)
-  where
-    go : (t : Bool) → ltb 0 (cond t (suc (blanks s)) 0) ≡ true → cond t (suc (blanks s)) 0 ≡ suc (blanks s)
-    go true e = refl
-    go false e = cc
+    pub return-on : next ≡ 0x0A → i + 1 + blanks (drop (i + 1) text) ≡ i + blanks (drop i text)
+    return-on l =
+        let one : blanks (drop i text) ≡ suc (blanks (drop (i + 1) text)) = return-here ∙ rw (eq-eqb next 0x0A l) in
+        omega arith
 
--- A turn of the loop passes one byte of white space.
-pub blank-turn : (text : List ℕ) (i : ℕ) → ltb 0 (blanks (drop i text)) ≡ true
-    → (i < length text) × (i + 1 + blanks (drop (i + 1) text) ≡ i + blanks (drop i text))
-blank-turn text i e =
-    let (h, f) = blank-more (drop i text) e in
-    let g : drop 1 (drop i text) ≡ drop (i + 1) text = drop-drop 1 i text in
-    (omega (arith, length-drop i text), omega (arith, rw g at f))
+    pub return-stop : (next ≡ 0x0A → ⊥) → blanks (drop i text) ≡ 0
+    return-stop l = return-here ∙ rw (ne-eqb next 0x0A l)
 
 pub blanks-fit : (s : List ℕ) → blanks s ≤ length s
 unfolding blanks

@@ -1,22 +1,22 @@
 -- Whether what a symbol or string stands for are characters of a sort. Assumes nothing.
 use mathlib.Core.Path.{_≡_, refl, sym, ap, _∙_}
-use mathlib.Core.Bool.{Bool, true, false, _&&_}
+use mathlib.Core.Bool.{Bool, true, false, not, _&&_}
 use mathlib.Core.List.{List, [], _∷_, _++_}
 use Prim.Native.Nat.{ℕ, _+_, _/_, _≤_, _<_}
 use native.Mathlib.Omega.{arith}
 use lib.Dec.{eqb, leb}
-use lib.ListN.{length, drop, getD}
-use borrow.Author.Tests.{le-leb, lt-leb, ne-eqb}
-use Rattle.laws.proofs.Booleans.{cond-case, and-true, and-false, or-none}
+use lib.ListN.{length, drop, getD, drop-of-length-le}
+use borrow.Author.Tests.{eqb-true, eqb-false}
+use Rattle.laws.proofs.Booleans.{bool-case, cond-case, and-true}
 use Rattle.utf8.specs.Scalar.{encode}
-use Rattle.elements.specs.Characters.{isLetter, isDigit, typeCharacter, idCharacter, uriCharacter, characterOf}
-use Rattle.syntax.specs.Syntax.{Piece, raw, letter, number, hexValue, pieceValue}
-use Rattle.syntax.specs.Scan.{ordinaryRun, quotedFrom}
+use Rattle.elements.specs.Characters.{characterOf}
+use Rattle.syntax.specs.Syntax.{Piece, raw, letter, number, hexValue, isPiece, pieceValue, piecesValue}
+use Rattle.syntax.specs.Scan.{Quoted, closed, unclosed, bad-escape, piece, ordinaryRun, quotedFrom}
 use Rattle.lexer.specs.Token.{stringAt, contentOf, pieceAt, fits}
 use Rattle.elements.proofs.Characters.{none-high}
 use Rattle.lexer.proofs.Blanks.{run-some}
-use Rattle.lexer.proofs.PieceAt.{Told}
-use Rattle.lexer.proofs.Contents.{isClosed, Turned, closed-string, content-inner, quoted-turn, quoted-done}
+use Rattle.lexer.proofs.PieceAt.{piece-few, Told, Stands, stands-told, stays, moves, read-on}
+use Rattle.lexer.proofs.Contents.{isClosed, piece-closed, no-piece, closed-string, content-inner, fault-nothing}
 
 -- Bytes one after another fit where both do.
 pub fits-append : (n : ℕ) (v w : List ℕ) → fits n (v ++ w) ≡ fits n v && fits n w
@@ -82,34 +82,81 @@ module _ (text : List ℕ) (place sort end i : ℕ) (c : SymbolLeft text place s
 abbrev pub whole : List ℕ → ℕ → List ℕ
 whole text place = contentOf (quotedFrom 0 1 (drop 1 (drop place text)))
 
--- From place i on the same is left to be found of a string as at first.
-pub record StringLeft (text : List ℕ) (place sort i : ℕ) : Type 0 where
-  pub ends : isClosed (quotedFrom 0 i (drop i text)) ≡ true
-  pub same : fits sort (contentOf (quotedFrom 0 i (drop i text))) ≡ fits sort (whole text place)
+-- What is left of a string of a text.
+abbrev left : List ℕ → ℕ → Quoted
+left text i = quotedFrom 0 i (drop i text)
 
-pub string-start : (text : List ℕ) (place sort found : ℕ) → found ≡ stringAt place (drop place text) .number → found ≡ 0
-    → StringLeft text place sort (place + 1)
-string-start text place sort found e z =
-    record { ends = closed-string text place found e z; same = ap (fits sort) (content-inner text place) }
+-- A piece that fits is passed over; one that does not refuses what a closing quote ends.
+piece-passed : (n : ℕ) (p : Piece) (q : Quoted) → fits n (pieceValue p) ≡ true → fits n (contentOf (piece p q)) ≡ fits n (contentOf q)
+unfolding fits contentOf piece piecesValue
+piece-passed n p (closed ps) e = fits-append n (pieceValue p) (piecesValue ps) ∙ rw e
+piece-passed n p unclosed e = refl
+piece-passed n p (bad-escape m) e = refl
+
+piece-refused : (n : ℕ) (p : Piece) (q : Quoted) → fits n (pieceValue p) ≡ false → isClosed q ≡ true → fits n (contentOf (piece p q)) ≡ false
+unfolding fits contentOf piece piecesValue isClosed
+piece-refused n p (closed ps) e c = fits-append n (pieceValue p) (piecesValue ps) ∙ rw e
+piece-refused n p unclosed e c = cc
+piece-refused n p (bad-escape m) e c = cc
+
+-- From place i on the same is left to be found of a string as at first, and a closing quote where there was one.
+pub record StringLeft (text : List ℕ) (place sort i : ℕ) : Type 0 where
+  pub ends : isClosed (left text i) ≡ isClosed (left text (place + 1))
+  pub same : fits sort (contentOf (left text i)) ≡ fits sort (whole text place)
+
+pub string-start : (text : List ℕ) (place sort : ℕ) → StringLeft text place sort (place + 1)
+string-start text place sort = record { ends = refl; same = ap (fits sort) (content-inner text place) }
+
+-- Past the end of the text there is no string.
+pub string-none : (text : List ℕ) (place sort : ℕ) → length text ≤ place → true ≡ fits sort (whole text place)
+unfolding fits contentOf quotedFrom
+string-none text place sort h = rw (drop-of-length-le text h)
 
 module _ (text : List ℕ) (place sort i : ℕ) (c : StringLeft text place sort i) where
-  module _ (h : getD text i 0 ≡ 0x22 → ⊥) (next size first second third : ℕ)
-      (g : i < length text → Told (pieceAt (drop i text)) i next size first second third) (t : Bool) (e : t ≡ characterOf sort first) where
-    abbrev turned : Turned text i next size first second third
-    turned = quoted-turn text i (c .ends) h next size first second third g
+  pub string-past : length text ≤ i → true ≡ fits sort (whole text place)
+  unfolding fits contentOf quotedFrom
+  string-past h = rw (drop-of-length-le text h) at (c .same)
 
-    string-first : t && fits sort (contentOf (quotedFrom 0 next (drop next text))) ≡ fits sort (whole text place)
-    string-first =
-        let one : t ≡ fits sort (pieceValue (pieceAt (drop i text))) = e ∙ ap (characterOf sort) (turned .stands .2) ∙ sym (piece-fits sort (pieceAt (drop i text))) in
-        rw one (sym (fits-append sort (pieceValue (pieceAt (drop i text))) (contentOf (quotedFrom 0 next (drop next text))))
-        ∙ ap (fits sort) (sym (turned .more)) ∙ c .same)
+  module _ (inside : i < length text) (next size first second third : ℕ) (told : Told (pieceAt (drop i text)) i next size first second third) where
+    pub string-stopped : next ≡ i → true ≡ fits sort (whole text place)
+    unfolding fits
+    string-stopped e = rw (no-piece text i inside (stays (pieceAt (drop i text)) i next (told .0) e)) at (c .same)
 
-    pub string-turn : t ≡ true → StringLeft text place sort next
-    string-turn u = record { ends = turned .ends; same = rw u at string-first }
+    module _ (h : next ≡ i → ⊥) where
+      abbrev here : Piece
+      here = pieceAt (drop i text)
 
-    pub string-refused : t ≡ false → false ≡ fits sort (whole text place)
-    string-refused u = rw u at string-first
+      good : isPiece here ≡ true
+      good = moves here i next (told .0) h
 
-  pub string-done : getD text i 0 ≡ 0x22 → true ≡ fits sort (whole text place)
-  unfolding fits
-  string-done e = rw (quoted-done text i (c .ends) e) at (c .same)
+      stands : Stands here i next size first second third
+      stands = stands-told here i next size first second third good told
+
+      reads : left text i ≡ piece here (left text next)
+      reads = rw (stands .0) (read-on text i inside good)
+
+      decides : (t : Bool) → t ≡ characterOf sort first → fits sort (pieceValue here) ≡ t
+      decides t e = piece-fits sort here ∙ ap (characterOf sort) (sym (stands .2)) ∙ sym e
+
+      ends-next : isClosed (left text next) ≡ isClosed (left text (place + 1))
+      ends-next = sym (piece-closed here (left text next)) ∙ ap isClosed (sym reads) ∙ c .ends
+
+      pub string-further : i < next
+      string-further = omega (arith, stands, piece-few here)
+
+      pub string-turn : (t : Bool) → t ≡ characterOf sort first → t ≡ true → StringLeft text place sort next
+      string-turn t e u =
+          record {
+            ends = ends-next;
+            same = sym (piece-passed sort here (left text next) (decides t e ∙ u)) ∙ ap (λ (q : Quoted). fits sort (contentOf q)) (sym reads) ∙ c .same;
+          }
+
+      -- A piece that does not fit refuses the string if it has no fault.
+      pub string-refused : (t : Bool) → t ≡ characterOf sort first → t ≡ false
+          → (found : ℕ) → found ≡ stringAt place (drop place text) .number → not (eqb found 0) ≡ fits sort (whole text place)
+      unfolding fits
+      string-refused t e u found f =
+          bool-case (eqb found 0)
+          (λ z. let closes = closed-string text place found f (eqb-true found 0 z) in
+          rw z (sym (piece-refused sort here (left text next) (decides t e ∙ u) (ends-next ∙ closes)) ∙ ap (λ (q : Quoted). fits sort (contentOf q)) (sym reads) ∙ c .same))
+          (λ z. rw (z, fault-nothing text place found f (eqb-false found 0 z)))

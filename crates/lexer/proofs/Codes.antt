@@ -1,25 +1,29 @@
--- The numbers of the classes of bytes: the table of `src/class.rt`, and what a class's number tells of the class. Assumes nothing.
+-- The numbers of the classes of bytes, and what a class's number tells of the class. Assumes nothing.
 use mathlib.Core.Path.{_≡_, refl, sym, _∙_, ap}
-use mathlib.Core.Bool.{Bool, true, false, cond}
-use mathlib.Core.List.{List, _∷_, _++_}
-use Prim.Native.Nat.{ℕ, _<_}
-use lib.Dec.{eqb, eqb→eq}
-use lib.ListN.{getD, replicate}
-use borrow.Author.Tests.{eq-eqb, ne-eqb}
-use Rattle.laws.proofs.Tables.{each-below}
+use mathlib.Core.Bool.{true, false, cond}
+use Prim.Native.Nat.{ℕ, _≤_, _<_}
+use native.Mathlib.Omega.{arith}
+use lib.Dec.{eqb}
+use borrow.Author.Tests.{eq-eqb, ne-eqb, eqb-false, lt-ltb, le-ltb}
+use Rattle.laws.proofs.Booleans.{bool-case}
 use Rattle.syntax.specs.Byte.{round, square, ByteClass, blank, return, quote, forbidden, ordinary, opening, closing, byteClass, blankClass, ordinaryClass, isBlank, isOrdinary}
 use Rattle.lexer.specs.Token.{codeOf}
 
-unfoldable pub codes : List ℕ
-codes =
-    replicate 9 3 ++ 0 ∷ 0 ∷ 3 ∷ 3 ∷ 1 ∷ replicate 18 3 ++ 0 ∷ 4 ∷ 2 ∷ replicate 5 4 ++ 5 ∷ 7 ∷ replicate 49 4 ++ 6 ∷ 4 ∷ 8 ∷ replicate 162 4
+-- The class's number of a byte that is none of those which have a class of their own.
+pub ordinary-byte : (b : ℕ) → 0x20 ≤ b → (b ≡ 0x20 → ⊥) → (b ≡ 0x22 → ⊥) → (b ≡ 0x28 → ⊥) → (b ≡ 0x29 → ⊥)
+    → (b ≡ 0x5B → ⊥) → (b ≡ 0x5D → ⊥) → codeOf (byteClass b) ≡ 4
+unfolding byteClass codeOf
+ordinary-byte b h o p q r s t =
+    rw (ne-eqb b 0x09 (omega arith), ne-eqb b 0x0A (omega arith), ne-eqb b 0x20 o, ne-eqb b 0x0D (omega arith), le-ltb b 0x20 h)
+    (rw (ne-eqb b 0x22 p, ne-eqb b 0x28 q, ne-eqb b 0x29 r, ne-eqb b 0x5B s, ne-eqb b 0x5D t))
 
-right : ℕ → Bool
-right b = eqb (getD codes b 0) (codeOf (byteClass b))
+pub forbidden-byte : (b : ℕ) → b < 0x20 → (b ≡ 0x09 → ⊥) → (b ≡ 0x0A → ⊥) → (b ≡ 0x0D → ⊥) → codeOf (byteClass b) ≡ 3
+unfolding byteClass codeOf
+forbidden-byte b h p q r = rw (ne-eqb b 0x09 p, ne-eqb b 0x0A q, ne-eqb b 0x20 (omega arith), ne-eqb b 0x0D r, lt-ltb b 0x20 h)
 
-pub byte-code : (b : ℕ) → b < 256 → getD codes b 0 ≡ codeOf (byteClass b)
-unfolding right codes byteClass codeOf
-byte-code b h = eqb→eq (getD codes b 0) (codeOf (byteClass b)) (each-below right 256 b h tt)
+pub blank-byte : (b : ℕ) → 0x09 ≤ b → b < 0x0B → codeOf (byteClass b) ≡ 0
+unfolding byteClass codeOf
+blank-byte b h k = bool-case (eqb b 0x09) (λ e. rw e) (λ e. rw (e, eq-eqb b 0x0A (omega (arith, eqb-false b 0x09 e))))
 
 -- The class that has a number.
 unfoldable pub classBy : ℕ → ByteClass

@@ -15,7 +15,9 @@ use Rattle.syntax.specs.Scan.{Quoted, closed, unclosed, bad-escape, piece, esca
 use Rattle.lexer.specs.Token.{stringEnd, stringAt, contentOf, pieceAt, atomValue}
 use Rattle.syntax.proofs.Escapes.{first-of}
 use Rattle.lexer.proofs.PieceAt.{piece-few, piece-short, Told, Stands, stands-told, raw-piece, read-on}
+use Rattle.lexer.specs.Run.{plainRun}
 use Rattle.lexer.proofs.Written.{sets-append, bytes-of}
+use Rattle.lexer.proofs.Runs.{plains, raws, quoted-passed, plain-part}
 
 -- ---- a piece is read
 
@@ -25,7 +27,7 @@ isClosed (closed ps) = true
 isClosed unclosed = false
 isClosed (bad-escape n) = false
 
-piece-closed : (p : Piece) (q : Quoted) → isClosed (piece p q) ≡ isClosed q
+pub piece-closed : (p : Piece) (q : Quoted) → isClosed (piece p q) ≡ isClosed q
 unfolding isClosed piece
 piece-closed p (closed ps) = refl
 piece-closed p unclosed = refl
@@ -36,6 +38,17 @@ unfolding isClosed piece contentOf piecesValue
 piece-content p (closed ps) e = refl
 piece-content p unclosed e = cc
 piece-content p (bad-escape n) e = cc
+
+-- The same of plain bytes in front of a string.
+raws-closed : (r : List ℕ) (q : Quoted) → isClosed (raws r q) ≡ isClosed q
+unfolding raws
+raws-closed [] q = refl
+raws-closed (b ∷ r) q = piece-closed (raw b) (raws r q) ∙ raws-closed r q
+
+raws-content : (r : List ℕ) (q : Quoted) → isClosed q ≡ true → contentOf (raws r q) ≡ r ++ contentOf q
+unfolding raws pieceValue
+raws-content [] q e = refl
+raws-content (b ∷ r) q e = piece-content (raw b) (raws r q) (raws-closed r q ∙ e) ∙ ap (λ (l : List ℕ). b ∷ l) (raws-content r q e)
 
 -- Where a closing quote follows and none stands here, a piece stands.
 first-piece : (n b : ℕ) (s : List ℕ) → (b ≡ 0x22 → ⊥) → isClosed (quotedFrom 0 n (b ∷ s)) ≡ true → isPiece (pieceAt (b ∷ s)) ≡ true
@@ -49,6 +62,22 @@ first-piece n b s h e = go (eqb b 0x22) (eqb b 0x5C) (isPiece (escapeAt s)) refl
     go false true true g x r e = g
     go false true false g x r e = cc
     go false false z g x r e = r refl
+
+-- Where no piece stands a string ends.
+nothing-at : (n b : ℕ) (s : List ℕ) → isPiece (pieceAt (b ∷ s)) ≡ false → contentOf (quotedFrom 0 n (b ∷ s)) ≡ []
+unfolding pieceAt quotedFrom contentOf piecesValue
+nothing-at n b s e = go (eqb b 0x22) (eqb b 0x5C) (raw-piece b) e
+  where
+    go : (x y : Bool) → (x ≡ false → y ≡ false → isPiece (raw b) ≡ true) → isPiece (cond y (escapeAt s) (raw b)) ≡ false
+        → contentOf (cond x (closed []) (cond y (cond (isPiece (escapeAt s)) (piece (escapeAt s) (quotedFrom (length (pieceBefore (escapeAt s) []) - 1) (n + 1) s)) (bad-escape n)) (piece (raw b) (quotedFrom 0 (n + 1) s)))) ≡ []
+    go true y r e = refl
+    go false true r e = rw e
+    go false false r e = let z : true ≡ false = sym (r refl refl) ∙ e in let y : _≡_ {A = ℕ} 0 1 = cc in absurd (omega arith)
+
+pub no-piece : (text : List ℕ) (i : ℕ) → i < length text → isPiece (pieceAt (drop i text)) ≡ false → contentOf (quotedFrom 0 i (drop i text)) ≡ []
+no-piece text i h e =
+    let first = drop-cons text i 0 h in
+    rw first (nothing-at i (getD text i 0) (drop (suc i) text) (rw first at e))
 
 -- ---- the place of a string is of no account for what it stands for
 
@@ -168,12 +197,21 @@ module _ (text : List ℕ) (i : ℕ) (c : isClosed (quotedFrom 0 i (drop i text)
   pub quoted-inside : i < length text
   quoted-inside = inside-closed text i i c
 
+  -- Over a run.
+  pub quoted-over : (end : ℕ) → end ≡ i + plains text i
+      → (isClosed (quotedFrom 0 end (drop end text)) ≡ true)
+      × (contentOf (quotedFrom 0 i (drop i text)) ≡ plainRun (drop i text) ++ contentOf (quotedFrom 0 end (drop end text)))
+  quoted-over end e =
+      let passed = quoted-passed text i end e in
+      let ends : isClosed (quotedFrom 0 end (drop end text)) ≡ true = sym (raws-closed (plainRun (drop i text)) _) ∙ ap isClosed (sym passed) ∙ c in
+      (ends, ap contentOf passed ∙ raws-content (plainRun (drop i text)) _ ends)
+
   pub quoted-done : getD text i 0 ≡ 0x22 → contentOf (quotedFrom 0 i (drop i text)) ≡ []
   unfolding quotedFrom contentOf piecesValue
   quoted-done e = rw (drop-cons text i 0 quoted-inside, e)
 
   module _ (h : getD text i 0 ≡ 0x22 → ⊥) where
-    good-piece : isPiece here ≡ true
+    pub good-piece : isPiece here ≡ true
     good-piece =
         let first = drop-cons text i 0 quoted-inside in
         rw first (first-piece i (getD text i 0) (drop (suc i) text) h (rw first at c))
@@ -204,9 +242,6 @@ module _ (text : List ℕ) (place : ℕ) (start : List ℕ) (at : ℕ) (out : Li
   abbrev value : List ℕ
   value = pieceValue (pieceAt (drop i text))
 
-  pub content-inside : i < length text
-  content-inside = quoted-inside text i (c .ends)
-
   -- With the piece that stands there written, the string is written up to the next one, which is further on.
   pub content-turn : (getD text i 0 ≡ 0x22 → ⊥) → (l : List ℕ) (next size a b d : ℕ) → (i < length text → Told (pieceAt (drop i text)) i next size a b d)
       → l ≡ sets out (at + k) (a ∷ take (size - 1) (b ∷ d ∷ []))
@@ -222,6 +257,21 @@ module _ (text : List ℕ) (place : ℕ) (start : List ℕ) (at : ℕ) (out : Li
         written = rw (all, s, ← add-assoc at k (length value), ← sets-append) (rw (t .more) at (c .written));
       } in
       (t .further, t .inside, step)
+
+  -- With the run that stands there written, it is written up to the run's end.
+  pub content-run : (l : List ℕ) (end : ℕ) → end ≡ i + plains text i → l ≡ sets out (at + k) (take (end - i) (drop i text))
+      → Content text place start at l end (k + (end - i))
+  content-run l end e f =
+      let r : List ℕ = plainRun (drop i text) in
+      let t = quoted-over text i (c .ends) end e in
+      let size : end - i ≡ length r = omega arith in
+      let all : l ≡ sets out (at + k) r = f ∙ rw (size, plain-part (drop i text)) in
+      record {
+        fits = omega (arith, c .fits);
+        ends = t .0;
+        left = omega (arith, rw (t .1, length-append r) at (c .left));
+        written = rw (all, size, ← add-assoc at k (length r), ← sets-append) (rw (t .1) at (c .written));
+      }
 
   pub content-done : getD text i 0 ≡ 0x22
       → (k ≡ length (contentOf (quotedFrom 0 1 (drop 1 (drop place text))))) × (out ≡ sets start at (contentOf (quotedFrom 0 1 (drop 1 (drop place text)))))

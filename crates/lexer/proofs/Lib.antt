@@ -7,3 +7,5 @@ pub mod Looks
 pub mod Written
 pub mod Contents
 pub mod Characters
+pub mod Runs
+pub mod Unescaped

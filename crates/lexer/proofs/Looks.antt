@@ -18,6 +18,11 @@ use Rattle.lexer.proofs.Codes.{classBy, code-class}
 abbrev pub Fields : ℕ → ℕ → ℕ → ℕ → ℕ → Seen → Type 0
 Fields sort place class next size v = (sort ≡ v .sort) × (place ≡ v .place) × (class ≡ v .class) × (next ≡ v .next) × (size ≡ v .length)
 
+-- What has the same fields is seen too.
+pub as-said : {sort place class next size s p k n l : ℕ} {v : Seen} → (s ≡ sort) × (p ≡ place) × (k ≡ class) × (n ≡ next) × (l ≡ size)
+    → Fields sort place class next size v → Fields s p k n l v
+as-said e f = (e .0 ∙ f .0, e .1 ∙ f .1, e .2 ∙ f .2, e .3 ∙ f .3, e .4 ∙ f .4)
+
 pub seen-past : (text : List ℕ) (n : ℕ) → length text ≤ n → Fields 0 n 0 n 0 (seenFirst n (drop n text))
 unfolding seenFirst seenEnd
 seen-past text n h = rw (drop-of-length-le text h) (refl, refl, refl, refl, refl)
@@ -51,18 +56,18 @@ module _ (text : List ℕ) (n class : ℕ) (h : n < length text) (e : class ≡ 
   unfolding seenFirst
   first-by = rw (drop-cons text n 0 h, add-one n)
 
-  pub seen-symbol : (next : ℕ) → class ≡ 4 → next ≡ n + length (ordinaryRun (drop n text)) → Fields 1 n 9 next (next - n) (seenFirst n (drop n text))
-  unfolding seenBy classBy
-  seen-symbol next f g =
-      let whole : getD text n 0 ∷ drop (n + 1) text ≡ drop n text = rw (drop-cons text n 0 h, add-one n) in
-      rw (first-by, code-class _ 4 (sym e ∙ f), whole) (refl, refl, refl, g, omega arith)
+  whole : getD text n 0 ∷ drop (n + 1) text ≡ drop n text
+  whole = rw (drop-cons text n 0 h, add-one n)
 
-  pub seen-string : (next size : ℕ) → class ≡ 2 → next ≡ stringAt n (drop n text) .next → size ≡ stringAt n (drop n text) .length
-      → Fields 2 n 9 next size (seenFirst n (drop n text))
+  pub seen-symbol : class ≡ 4
+      → Fields 1 n 9 (n + length (ordinaryRun (drop n text))) (length (ordinaryRun (drop n text))) (seenFirst n (drop n text))
   unfolding seenBy classBy
-  seen-string next size f p q =
-      let whole : getD text n 0 ∷ drop (n + 1) text ≡ drop n text = rw (drop-cons text n 0 h, add-one n) in
-      rw (first-by, code-class _ 2 (sym e ∙ f), whole) (refl, refl, refl, p, q)
+  seen-symbol f = rw (first-by, code-class _ 4 (sym e ∙ f), whole) (refl, refl, refl, refl, refl)
+
+  pub seen-string : class ≡ 2
+      → Fields 2 n 9 (stringAt n (drop n text) .next) (stringAt n (drop n text) .length) (seenFirst n (drop n text))
+  unfolding seenBy classBy
+  seen-string f = rw (first-by, code-class _ 2 (sym e ∙ f), whole) (refl, refl, refl, refl, refl)
 
   pub seen-other : (class ≡ 4 → ⊥) → (class ≡ 2 → ⊥) → (class < 5) ⊎ (6 < class) → Fields 0 n 0 n 0 (seenFirst n (drop n text))
   unfolding seenEnd

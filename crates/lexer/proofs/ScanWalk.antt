@@ -16,6 +16,7 @@ use Rattle.syntax.specs.Syntax.{Leaf, space, line-end, word, string, piecesBefo
 use Rattle.syntax.specs.Scan.{Quoted, closed, unclosed, bad-escape, quotedFrom, quotedItem, ordinaryRun, Items, a-leaf, itemAt, itemsFrom, Open, Levels, fault, level, addLeaf, wrap, endLevel, atEnd, oneMore, oneLess, build, outermost}
 use Rattle.lexer.specs.Token.{codeOf, stringEnd, stringAt, scanNumber, scanPlace}
 use Rattle.lexer.specs.Step.{Passed, goesOn, stops, pastString, passedAt, bracketOf, closesIt}
+use Rattle.lexer.proofs.Codes.{classBy, code-class}
 use Rattle.syntax.proofs.Classes.{ordinary-class}
 use Rattle.syntax.proofs.Items.{item-of}
 use Rattle.syntax.proofs.Escapes.{later}
@@ -106,6 +107,15 @@ module _ (os : List Open) (left : ℕ) (text : List ℕ) (i : ℕ) (inside : i <
   ordinary-on e =
       let s : List ℕ = drop (i + 1) text in
       here ordinary e ∙ leaf-on os left (word (getD text i 0) (ordinaryRun s)) (itemsFrom (length (ordinaryRun s)) (i + 1) s) ∙ run-on os left (i + 1) s
+
+  -- The same by the class's number.
+  pub blank-passed : (class : ℕ) → class ≡ codeOf (byteClass (getD text i 0)) → class ≡ 0 → answerAt os left text (i + 1) ≡ answerAt os left text i
+  unfolding classBy
+  blank-passed class e f = sym (blank-on (code-class (byteClass (getD text i 0)) 0 (sym e ∙ f)))
+
+  pub ordinary-passed : (class : ℕ) → class ≡ codeOf (byteClass (getD text i 0)) → class ≡ 4 → answerAt os left text (i + 1) ≡ answerAt os left text i
+  unfolding classBy
+  ordinary-passed class e f = sym (ordinary-on (code-class (byteClass (getD text i 0)) 4 (sym e ∙ f)))
 
   return-on : byteClass (getD text i 0) ≡ return → getD (drop (i + 1) text) 0 0 ≡ 0x0A → answerAt os left text i ≡ answerAt os left text (i + 1)
   unfolding itemAt answerAt

@@ -5,16 +5,20 @@ use mathlib.Core.Bool.{Bool, true, false, cond}
 use mathlib.Core.List.{List, [], _∷_}
 use native.Mathlib.Nat.{add-zero, add-assoc}
 use native.Mathlib.Omega.{arith}
-use lib.Dec.{eqb}
-use lib.ListN.{length, drop, getD, length-append, drop-of-length-le}
+use lib.Dec.{eqb, leb}
+use lib.ListN.{length, drop, getD, length-append, drop-of-length-le, List·getD-eq-default}
 use lib.Seq.{drop-cons, drop-drop}
-use borrow.Author.Tests.{ne-eqb}
+use borrow.Author.Tests.{ne-eqb, leb-true, leb-false}
+use Rattle.laws.proofs.Booleans.{bool-case}
+use Rattle.syntax.specs.Byte.{isRaw}
 use Rattle.syntax.specs.Syntax.{Piece, raw, isPiece, pieceBefore, piecesBefore, pieceValue, piecesValue}
 use Rattle.syntax.specs.Scan.{Quoted, closed, unclosed, bad-escape, piece, escapeAt, quotedFrom}
 use Rattle.lexer.specs.Token.{StringEnd, stringEnd, stringAt, pieceAt}
-use Rattle.lexer.specs.Step.{badString, stoppedAt}
+use Rattle.lexer.specs.Step.{badString, stoppedAt, pieceLength}
+use Rattle.lexer.specs.Run.{plainRun}
 use Rattle.syntax.proofs.Strings.{piece-append}
-use Rattle.lexer.proofs.PieceAt.{piece-few, Told, moves, stands-told, read-on, raw-piece}
+use Rattle.lexer.proofs.PieceAt.{piece-few, Told, moves, stays, stands-told, read-on, piece-raw, raw-piece}
+use Rattle.lexer.proofs.Runs.{plains, raws, quoted-passed, plain-ended}
 
 -- ---- the answer from a piece on
 
@@ -26,7 +30,7 @@ finish n i d (closed ps) =
 finish n i d unclosed = badString n
 finish n i d (bad-escape p) = badString p
 
-pub finish-start : (n : ℕ) (q : Quoted) → finish n (n + 1) 0 q ≡ stringEnd n q
+finish-start : (n : ℕ) (q : Quoted) → finish n (n + 1) 0 q ≡ stringEnd n q
 unfolding finish stringEnd badString piecesValue
 finish-start n (closed []) = refl
 finish-start n (closed (p ∷ ps)) =
@@ -38,7 +42,7 @@ finish-start n (closed (p ∷ ps)) =
 finish-start n unclosed = refl
 finish-start n (bad-escape p) = refl
 
-pub finish-piece : (n i d : ℕ) (p : Piece) (q : Quoted)
+finish-piece : (n i d : ℕ) (p : Piece) (q : Quoted)
     → finish n i d (piece p q) ≡ finish n (i + length (pieceBefore p [])) (d + length (pieceValue p)) q
 unfolding finish piece piecesValue piecesBefore
 finish-piece n i d p (closed ps) =
@@ -49,7 +53,7 @@ finish-piece n i d p unclosed = refl
 finish-piece n i d p (bad-escape m) = refl
 
 -- A turn of the loop keeps the answer.
-turn : (text : List ℕ) (n i d : ℕ) → i < length text → isPiece (pieceAt (drop i text)) ≡ true
+pub turn : (text : List ℕ) (n i d : ℕ) → i < length text → isPiece (pieceAt (drop i text)) ≡ true
     → let p = pieceAt (drop i text) in
     let j = i + length (pieceBefore p []) in
     finish n j (d + length (pieceValue p)) (quotedFrom 0 j (drop j text)) ≡ finish n i d (quotedFrom 0 i (drop i text))
@@ -86,7 +90,7 @@ stop-at n i d b s g = go (eqb b 0x22) (eqb b 0x5C) (raw-piece b) g
     go false true r g = rw g
     go false false r g = let z : _≡_ {A = ℕ} 0 1 = ap (λ (t : Bool). cond t 1 0) (sym g ∙ r refl refl) in absurd (omega arith)
 
-pub stop : (text : List ℕ) (n i d : ℕ) → i < length text → isPiece (pieceAt (drop i text)) ≡ false
+stop : (text : List ℕ) (n i d : ℕ) → i < length text → isPiece (pieceAt (drop i text)) ≡ false
     → finish n i d (quotedFrom 0 i (drop i text)) ≡ stoppedAt n i d (drop i text)
 stop text n i d h e = at (drop i text) (drop-cons text i 0 h) e
   where
@@ -94,7 +98,7 @@ stop text n i d h e = at (drop i text) (drop-cons text i 0 h) e
     at [] x e = let z : _≡_ {A = ℕ} 0 1 = cc in absurd (omega arith)
     at (b ∷ s) x e = stop-at n i d b s e
 
-pub at-end : (text : List ℕ) (n i d : ℕ) → length text ≤ i → finish n i d (quotedFrom 0 i (drop i text)) ≡ badString n
+at-end : (text : List ℕ) (n i d : ℕ) → length text ≤ i → finish n i d (quotedFrom 0 i (drop i text)) ≡ badString n
 unfolding quotedFrom finish
 at-end text n i d h = rw (drop-of-length-le text h)
 
@@ -106,3 +110,51 @@ at-start text n = finish-start n (quotedFrom 0 (n + 1) (drop (n + 1) text)) ∙ 
 pub past-end : (text : List ℕ) (n : ℕ) → length text ≤ n → badString n ≡ stringAt n (drop n text)
 unfolding stringAt stringEnd quotedFrom badString
 past-end text n h = rw (drop-of-length-le text h)
+
+-- ---- a run of plain bytes is passed
+
+finish-raws : (r : List ℕ) (n i d : ℕ) (q : Quoted) → finish n i d (raws r q) ≡ finish n (i + length r) (d + length r) q
+unfolding raws pieceBefore pieceValue
+finish-raws [] n i d q = rw (add-zero i, add-zero d)
+finish-raws (b ∷ r) n i d q =
+    let next : (m : ℕ) → m + 1 + length r ≡ m + suc (length r) = λ m. omega arith in
+    finish-piece n i d (raw b) (raws r q) ∙ finish-raws r n (i + 1) (d + 1) q ∙ rw (next i, next d)
+
+-- After a run up to place `end`, whose bytes are counted in d: what follows finishes the string with the answer, and no plain byte stands there.
+pub record RunEnd (text : List ℕ) (n end d : ℕ) (answer : StringEnd) : Type 0 where
+  pub same : finish n end d (quotedFrom 0 end (drop end text)) ≡ answer
+  pub after : end < length text → isRaw (getD text end 0) ≡ false
+
+pub run-end : (text : List ℕ) (n i d end : ℕ) (answer : StringEnd) → end ≡ i + plains text i
+    → finish n i d (quotedFrom 0 i (drop i text)) ≡ answer → RunEnd text n end (d + (end - i)) answer
+run-end text n i d end answer e f =
+    let size : end - i ≡ plains text i = omega arith in
+    let passed : finish n i d (quotedFrom 0 i (drop i text)) ≡ finish n (i + plains text i) (d + plains text i) (quotedFrom 0 end (drop end text))
+    = ap (finish n i d) (quoted-passed text i end e) ∙ finish-raws (plainRun (drop i text)) n i d (quotedFrom 0 end (drop end text)) in
+    record { same = rw (size) (rw (← e) at (sym passed) ∙ f); after = plain-ended text i end e }
+
+pub escape-inside : (text : List ℕ) (i : ℕ) → getD text i 0 ≡ 0x5C → i < length text
+escape-inside text i e =
+    bool-case (leb (length text) i)
+    (λ h. absurd (omega (arith, List·getD-eq-default text 0 (leb-true (length text) i h))))
+    (leb-false (length text) i)
+
+-- What stands there is no escape, or no good one.
+pub run-stopped : {text : List ℕ} {n end d : ℕ} {answer : StringEnd} → RunEnd text n end d answer → (getD text end 0 ≡ 0x5C → ⊥)
+    → stoppedAt n end d (drop end text) ≡ answer
+unfolding stoppedAt isPiece
+run-stopped {text} {n} {end} {d} r h =
+    bool-case (leb (length text) end)
+    (λ e. let past : length text ≤ end = leb-true (length text) end e in
+    rw (drop-of-length-le text past) (sym (at-end text n end d past) ∙ r .same))
+    (λ e. let inside : end < length text = leb-false (length text) end e in
+    let none : isPiece (pieceAt (drop end text)) ≡ false = ap isPiece (piece-raw text end h) ∙ r .after inside in
+    sym (stop text n end d inside none) ∙ r .same)
+
+pub run-bad : {text : List ℕ} {n end d : ℕ} {answer : StringEnd} → RunEnd text n end d answer → (next : ℕ) → getD text end 0 ≡ 0x5C
+    → next ≡ end + pieceLength (pieceAt (drop end text)) → next ≡ end → badString end ≡ answer
+unfolding stoppedAt
+run-bad {text} {n} {end} {d} r next e f g =
+    let inside : end < length text = escape-inside text end e in
+    let at : stoppedAt n end d (drop end text) ≡ badString end = rw (drop-cons text end 0 inside, e) in
+    sym at ∙ sym (stop text n end d inside (stays _ end next f g)) ∙ r .same

@@ -23,22 +23,27 @@ fn symbol_fits(text: &[u8], place: usize, sort: u8) -> bool
     true
 }
 
-// The string whose opening quote is at a place; one that has a fault stands for nothing. A piece's first byte
-// decides: where it stands for more than one, they are from 0x80 on, and no character of any sort.
+// The string whose opening quote is at a place; one that has a fault stands for nothing, and a fault is looked for only
+// where a piece does not fit. A piece's first byte decides: where it stands for more than one, they are from 0x80 on,
+// and no character of any sort.
 fn string_fits(text: &[u8], place: usize, sort: u8) -> bool
     ensures { λ r. ⌜ r ≡ fits sort (contentOf (quotedFrom 0 1 (drop 1 (drop place (now (text .entry)))))) ⌝ }
 {
-    let string = string_at(text, place);
-    if string.number != 0 {
+    if text.len() <= place {
         return true;
     }
     let mut i = place + 1;
-    while byte_at(text, i) != 0x22 {
+    while i < text.len() {
         let p = piece(text, i);
-        if !character(sort, p.first) {
-            return false;
+        let next = p.next;
+        if next == i {
+            return true;
         }
-        i = p.next;
+        if !character(sort, p.first) {
+            let string = string_at(text, place);
+            return string.number != 0;
+        }
+        i = next;
     }
     true
 }

@@ -4,6 +4,7 @@ mod class; // class.rt: the classes of bytes
 mod escape; // escape.rt: escapes by number
 mod fit; // fit.rt: whether what a symbol or string stands for are characters of a sort
 mod pieces; // pieces.rt: the pieces of a quoted string
+mod run; // run.rt: runs of plain bytes, and bytes written as they stand
 mod scanner; // scanner.rt: the scan, faults 3 to 6
 mod stores; // stores.rt: what a symbol or string stands for, written out
 mod string; // string.rt: quoted strings

@@ -1,5 +1,7 @@
 // The scan (document 01, numbers 3 to 6).
+use super::class::BLANK;
 use super::class::FORBIDDEN;
+use super::class::ORDINARY;
 use super::class::QUOTE;
 use super::class::RETURN;
 use super::class::ROUND;
@@ -115,6 +117,15 @@ pub fn scan(text: &[u8], room: usize) -> Scanned
     let mut i: usize = 0;
     while i < text.len() {
         let class = byte_class(text[i]);
+        // nearly every byte is of one of these two classes
+        if class == ORDINARY {
+            i += 1;
+            continue;
+        }
+        if class == BLANK {
+            i += 1;
+            continue;
+        }
         if class < ROUND {
             let passed = pass(text, i, class);
             if passed.number != 0 {

@@ -2,6 +2,8 @@
 use super::class::byte_at;
 use super::pieces::PieceSeen;
 use super::pieces::piece;
+use super::run::plain_end;
+use super::run::put_run;
 use super::string::string_at;
 use super::token::symbol_end;
 ghost use mathlib.Core.Path.{_≡_};
@@ -10,7 +12,7 @@ ghost use Prim.Native.Nat.{_+_, _-_, _<_, _^_};
 ghost use lib.ListN.{drop, length, set, take};
 ghost use lib.Seq.{sets};
 ghost use Rattle.syntax.specs.Scan.{ordinaryRun, quotedFrom};
-ghost use Rattle.lexer.specs.Token.{atomValue, contentOf};
+ghost use Rattle.lexer.specs.Token.{atomValue, contentOf, stringAt};
 
 // One byte, k bytes from an index on.
 fn store(out: &mut [u8], at: usize, k: usize, b: u8)
@@ -45,16 +47,38 @@ fn put_symbol(text: &[u8], place: usize, out: &mut [u8], at: usize) -> usize
     ensures { λ r. ⌜ (r ≡ length (ordinaryRun (drop place (now (text .entry)))))
         × (now (out .exit) ≡ sets (now (out .entry)) at (ordinaryRun (drop place (now (text .entry))))) ⌝ }
 {
-    let size = symbol_end(text, place) - place;
-    let mut k: usize = 0;
-    while k < size {
-        store(out, at, k, text[place + k]);
-        k += 1;
+    if text.len() <= place {
+        return 0;
     }
-    size
+    let end = symbol_end(text, place);
+    put_run(out, at, 0, &text[place..end]);
+    end - place
 }
 
-// The string whose opening quote is at a place; one that has a fault stands for nothing.
+// The string whose opening quote is at a place, run by run with an escape after each but the last.
+fn put_runs(text: &[u8], place: usize, out: &mut [u8], at: usize) -> usize
+    requires { ⌜ stringAt place (drop place (now text)) .number ≡ 0 ⌝ }
+    ensures { λ r. ⌜ (r ≡ length (contentOf (quotedFrom 0 1 (drop 1 (drop place (now (text .entry)))))))
+        × (now (out .exit) ≡ sets (now (out .entry)) at (contentOf (quotedFrom 0 1 (drop 1 (drop place (now (text .entry))))))) ⌝ }
+{
+    let mut i = place + 1;
+    let mut k: usize = 0;
+    loop {
+        let end = plain_end(text, i);
+        put_run(out, at, k, &text[i..end]);
+        k += end - i;
+        if byte_at(text, end) == 0x22 {
+            return k;
+        }
+        let p = piece(text, end);
+        put_piece(out, at, k, p);
+        k += p.size;
+        i = p.next;
+    }
+}
+
+// The string whose opening quote is at a place; one that has a fault stands for nothing. One that stands for as many
+// bytes as are between its quotes has no escape.
 fn put_string(text: &[u8], place: usize, out: &mut [u8], at: usize) -> usize
     ensures { λ r. ⌜ (r ≡ length (contentOf (quotedFrom 0 1 (drop 1 (drop place (now (text .entry)))))))
         × (now (out .exit) ≡ sets (now (out .entry)) at (contentOf (quotedFrom 0 1 (drop 1 (drop place (now (text .entry))))))) ⌝ }
@@ -63,15 +87,13 @@ fn put_string(text: &[u8], place: usize, out: &mut [u8], at: usize) -> usize
     if string.number != 0 {
         return 0;
     }
-    let mut i = place + 1;
-    let mut k: usize = 0;
-    while byte_at(text, i) != 0x22 {
-        let p = piece(text, i);
-        put_piece(out, at, k, p);
-        k += p.size;
-        i = p.next;
+    let from = place + 1;
+    let end = string.next - 1;
+    if string.length == end - from {
+        put_run(out, at, 0, &text[from..end]);
+        return end - from;
     }
-    k
+    put_runs(text, place, out, at)
 }
 
 // Writes what the symbol or string at a place stands for into the output from index `at` on, as far as it reaches.

@@ -1,5 +1,7 @@
 // Quoted strings (document 01, "Characters and brackets" and number 4).
+use super::class::byte_at;
 use super::pieces::piece;
+use super::run::plain_end;
 ghost use mathlib.Core.Path.{_≡_};
 ghost use lib.ListN.{drop};
 ghost use Rattle.lexer.specs.Token.{stringAt};
@@ -52,7 +54,7 @@ fn stopped(text: &[u8], i: usize, start: usize, length: usize) -> StringEnd
     }
 }
 
-// The string whose opening quote is at a place.
+// The string whose opening quote is at a place: runs of plain bytes, with an escape after each but the last.
 pub fn string_at(text: &[u8], place: usize) -> StringEnd
     ensures { λ r. ⌜ (r .number ≡ stringAt place (drop place (now (text .entry))) .number)
         × (r .place ≡ stringAt place (drop place (now (text .entry))) .place)
@@ -64,14 +66,18 @@ pub fn string_at(text: &[u8], place: usize) -> StringEnd
     }
     let mut i = place + 1;
     let mut length: usize = 0;
-    while i < text.len() {
-        let p = piece(text, i);
+    loop {
+        let end = plain_end(text, i);
+        length += end - i;
+        if byte_at(text, end) != 0x5C {
+            return stopped(text, end, place, length);
+        }
+        let p = piece(text, end);
         let next = p.next;
-        if next == i {
-            return stopped(text, i, place, length);
+        if next == end {
+            return bad_string(end);
         }
         length += p.size;
         i = next;
     }
-    bad_string(place)
 }

@@ -3,10 +3,10 @@ use super::class;
 use super::string::string_at;
 ghost use mathlib.Core.Path.{_≡_};
 ghost use lib.ListN.{drop, length};
-ghost use lib.Dec.{ltb};
 ghost use Prim.Native.Nat.{_+_, _<_};
+ghost use Rattle.elements.specs.Class as Class;
 ghost use Rattle.syntax.specs.Scan.{ordinaryRun};
-ghost use Rattle.lexer.specs.Token.{a-list, blanks, leadClassAt, leadLength, seen, seenFirst};
+ghost use Rattle.lexer.specs.Token.{a-list, a-string, a-symbol, blanks, leadClassAt, leadLength, seen, seenFirst, stringAt, the-end};
 
 // What is seen at a place after white space: sort 0 the end of the run, 1 a symbol, 2 a string, 3 a list.
 pub struct Seen {
@@ -17,32 +17,24 @@ pub struct Seen {
     pub length: usize,
 }
 
-// Whether white space stands at a place: a carriage return is white space where a line feed follows.
-fn blank_at(text: &[u8], place: usize) -> bool
-    ensures { λ r. ⌜ r ≡ ltb 0 (blanks (drop place (now (text .entry)))) ⌝ }
-{
-    if text.len() <= place {
-        return false;
-    }
-    let b = text[place];
-    if class::byte_class(b) == class::BLANK {
-        return true;
-    }
-    if b != 0x0D {
-        return false;
-    }
-    class::byte_at(text, place + 1) == 0x0A
-}
-
-// The place after white space.
+// The place after white space: a carriage return is white space where a line feed follows.
 pub fn skip_blanks(text: &[u8], place: usize) -> usize
     ensures { λ r. ⌜ r ≡ place + blanks (drop place (now (text .entry))) ⌝ }
 {
-    let mut i = place;
-    while blank_at(text, i) {
-        i += 1;
+    let mut at = place;
+    while at < text.len() {
+        let b = text[at];
+        if class::byte_class(b) != class::BLANK {
+            if b != 0x0D {
+                return at;
+            }
+            if class::byte_at(text, at + 1) != 0x0A {
+                return at;
+            }
+        }
+        at += 1;
     }
-    i
+    at
 }
 
 // The place after the ordinary bytes from a place on.
@@ -57,6 +49,55 @@ pub fn symbol_end(text: &[u8], place: usize) -> usize
         i += 1;
     }
     i
+}
+
+// The end of the run at a place.
+fn nothing_seen(place: usize) -> Seen
+    ensures { λ r. ⌜ (r .sort ≡ the-end) × (r .place ≡ place) × (r .class ≡ 0) × (r .next ≡ place) × (r .length ≡ 0) ⌝ }
+{
+    Seen {
+        sort: 0,
+        place,
+        class: 0,
+        next: place,
+        length: 0,
+    }
+}
+
+// The symbol at a place, which stands for its own bytes.
+fn symbol_seen(text: &[u8], place: usize) -> Seen
+    ensures { λ r. ⌜ (r .sort ≡ a-symbol)
+        × (r .place ≡ place)
+        × (r .class ≡ Class.text)
+        × (r .next ≡ place + length (ordinaryRun (drop place (now (text .entry)))))
+        × (r .length ≡ length (ordinaryRun (drop place (now (text .entry))))) ⌝ }
+{
+    let next = symbol_end(text, place);
+    Seen {
+        sort: 1,
+        place,
+        class: kind::Kind::TEXT.number,
+        next,
+        length: next - place,
+    }
+}
+
+// The string whose opening quote is at a place.
+fn string_seen(text: &[u8], place: usize) -> Seen
+    ensures { λ r. ⌜ (r .sort ≡ a-string)
+        × (r .place ≡ place)
+        × (r .class ≡ Class.text)
+        × (r .next ≡ stringAt place (drop place (now (text .entry))) .next)
+        × (r .length ≡ stringAt place (drop place (now (text .entry))) .length) ⌝ }
+{
+    let string = string_at(text, place);
+    Seen {
+        sort: 2,
+        place,
+        class: kind::Kind::TEXT.number,
+        next: string.next,
+        length: string.length,
+    }
 }
 
 // The list whose opening bracket is at a place: the name that leads it tells its class.
@@ -88,42 +129,21 @@ fn first_seen(text: &[u8], place: usize) -> Seen
         × (r .next ≡ seenFirst place (drop place (now (text .entry))) .next)
         × (r .length ≡ seenFirst place (drop place (now (text .entry))) .length) ⌝ }
 {
-    let end = Seen {
-        sort: 0,
-        place,
-        class: 0,
-        next: place,
-        length: 0,
-    };
     if text.len() <= place {
-        return end;
+        return nothing_seen(place);
     }
     let class = class::byte_class(text[place]);
     if class == class::ORDINARY {
-        let next = symbol_end(text, place);
-        return Seen {
-            sort: 1,
-            place,
-            class: kind::Kind::TEXT.number,
-            next,
-            length: next - place,
-        };
+        return symbol_seen(text, place);
     }
     if class == class::QUOTE {
-        let string = string_at(text, place);
-        return Seen {
-            sort: 2,
-            place,
-            class: kind::Kind::TEXT.number,
-            next: string.next,
-            length: string.length,
-        };
+        return string_seen(text, place);
     }
     if class < class::ROUND {
-        return end;
+        return nothing_seen(place);
     }
     if class::SQUARE < class {
-        return end;
+        return nothing_seen(place);
     }
     list_seen(text, place)
 }

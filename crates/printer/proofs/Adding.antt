@@ -1,12 +1,11 @@
 -- Pieces written one after another. Assumes nothing.
-use Prim.Native.Nat.{ℕ, zero, suc, _+_, _-_, _<_, _≤_, min}
+use Prim.Native.Nat.{ℕ, zero, suc, _+_, _-_, _≤_, min}
 use mathlib.Core.Path.{_≡_, refl, sym, _∙_}
 use mathlib.Core.List.{List, [], _∷_, _++_}
 use native.Mathlib.Nat.{add-zero, zero-add}
-use native.Mathlib.Numerals.{add-one}
 use native.Mathlib.Omega.{arith}
-use lib.ListN.{length, getD, take, drop, set, length-append, take-append-drop, drop-of-length-le}
-use lib.Seq.{sets, sets-eq, take-suc, take-all, drop-set-add, take-set-le}
+use lib.ListN.{length, take, drop, set, length-append, take-append-drop, drop-of-length-le}
+use lib.Seq.{sets, sets-eq, drop-set-add, take-set-le}
 use Rattle.lexer.proofs.Written.{sets-append}
 use Rattle.document.specs.Answer.{over}
 use Rattle.printer.specs.Adds.{Adds}
@@ -29,19 +28,6 @@ adds-join {s} {t} {at} {m} {r} {out} {mid} {later} a b = record {
       let e : m ≡ at + length s = a .next (omega arith) in
       b .stored (omega arith) ∙ (rw (e, a .stored (omega arith)) (sym (sets-append out s t at)));
 }
-
--- One byte.
-pub adds-byte : (out later : List ℕ) (at b r : ℕ) → (at + 1 ≤ 4294967295 → r ≡ at + 1) → later ≡ set out at b → Adds (b ∷ []) at out r later
-adds-byte out later at b r f e = record { next = f; stored = λ h. e }
-
--- One byte more of a list.
-pub adds-more : (bytes : List ℕ) (i : ℕ) {at m r : ℕ} {out mid later : List ℕ} → i < length bytes → Adds (take i bytes) at out m mid
-    → Adds (getD bytes i 0 ∷ []) m mid r later → Adds (take (i + 1) bytes) at out r later
-adds-more bytes i h a b = rw (add-one i, take-suc bytes i 0) (adds-join a b)
-
--- All of it.
-pub adds-all : (bytes : List ℕ) (i : ℕ) {at r : ℕ} {out later : List ℕ} → length bytes ≤ i → Adds (take i bytes) at out r later → Adds bytes at out r later
-adds-all bytes i h a = adds-as (take-all i bytes h) a
 
 -- A run of stores that begins in the tail of a list is one in the tail alone.
 sets-tail : (out s : List ℕ) (k n : ℕ) → sets out (k + n) s ≡ take k out ++ sets (drop k out) n s

@@ -1,8 +1,10 @@
 pub mod Adding
 pub mod Concat
+pub mod Copied
 pub mod Elements
 pub mod Names
 pub mod Pieces
+pub mod Raw
 pub mod Short
 pub mod Siblings
 pub mod Standing

@@ -1,67 +1,32 @@
--- A table of names, each with spaces behind it and its length in another table, has the name of each class, by one test that antt computes. Assumes nothing.
-use Prim.Native.Nat.{ℕ, zero, suc, _<_, _≤_}
+-- The names of the classes, as the code picks them. Assumes nothing.
+use Prim.Native.Nat.{ℕ}
 use mathlib.Core.Path.{_≡_, refl, sym}
-use mathlib.Core.Bool.{Bool, _&&_}
 use mathlib.Core.List.{List, [], _∷_}
-use native.Mathlib.Omega.{arith}
-use lib.Dec.{T, leb, leb→le}
-use lib.ListN.{length, getD, take}
-use lib.Seq.{length-take-le}
 use borrow.Author.Tests.{ne-eqb}
-use Rattle.laws.proofs.Booleans.{both}
-use Rattle.laws.proofs.Tables.{every, below, each-below}
-use Rattle.elements.specs.Bytes.{codes, same}
-use Rattle.elements.specs.Class.{Named, as-name, names, nameIn, nameOf}
-use Rattle.kind.proofs.Table.{rows}
-use Rattle.elements.proofs.Same.{same-equal}
+use Rattle.elements.specs.Class.{Named, names, nameIn, nameOf}
+use Rattle.printer.specs.Adds.{Adds}
+use Rattle.printer.proofs.Adding.{adds-as, adds-none}
 
--- A name with spaces behind it, n bytes in all.
-unfoldable pub padded : ℕ → List ℕ → List ℕ
-padded zero s = []
-padded (suc n) [] = 0x20 ∷ padded n []
-padded (suc n) (b ∷ s) = b ∷ padded n s
+-- A class that is k has the name of k.
+pub adds-name : (c k : ℕ) {at r : ℕ} {out later : List ℕ} → c ≡ k → Adds (nameOf k) at out r later → Adds (nameOf c) at out r later
+adds-name c k e a = rw e a
 
--- The code's tables, as the names give them.
-unfoldable pub nameRows : List (List ℕ)
-nameRows = rows (λ c. padded 14 (nameOf c)) 32 0
+-- A class is none of those named, as a match leaves it that tried one after the other.
+abbrev pub Unnamed : Type 0 → List Named → ℕ → Type 0
+Unnamed tried [] c = tried
+Unnamed tried (n ∷ ns) c = Unnamed (tried × (c ≡ n .class → ⊥)) ns c
 
-unfoldable pub nameSizes : List ℕ
-nameSizes = rows (λ c. length (nameOf c)) 32 0
+tried-before : (tried : Type 0) (ns : List Named) (c : ℕ) → Unnamed tried ns c → tried
+tried-before tried [] c u = u
+tried-before tried (n ∷ ns) c u = tried-before (tried × (c ≡ n .class → ⊥)) ns c u .0
 
-abbrev has-size : ℕ → Bool
-has-size c = leb (getD nameSizes c 0) (length (getD nameRows c []))
-
-abbrev has-name : ℕ → Bool
-has-name c = same (take (getD nameSizes c 0) (getD nameRows c [])) (nameOf c)
-
-all-named : T (below (λ c. has-size c && has-name c) 32)
-unfolding nameRows nameSizes rows padded nameOf nameIn names as-name codes same
-all-named = tt
-
-tested : (c : ℕ) → c ≤ 31 → T (has-size c) × T (has-name c)
-tested c h = both (has-size c) (has-name c) (each-below (λ c. has-size c && has-name c) 32 c (omega arith) all-named)
-
-pub name-fits : (c : ℕ) → c ≤ 31 → getD nameSizes c 0 ≤ length (getD nameRows c [])
-name-fits c h = leb→le _ _ (tested c h .0)
-
-pub name-size : (c : ℕ) → c ≤ 31 → getD nameSizes c 0 ≡ length (take (getD nameSizes c 0) (getD nameRows c []))
-name-size c h = sym (length-take-le (getD nameSizes c 0) (getD nameRows c []) (name-fits c h))
-
-pub name-taken : (c : ℕ) → c ≤ 31 → take (getD nameSizes c 0) (getD nameRows c []) ≡ nameOf c
-name-taken c h = same-equal _ _ (tested c h .1)
-
--- From 32 on there is no name.
-abbrev low : Named → Bool
-low n = leb (n .class) 31
-
-unnamed : (ns : List Named) (c : ℕ) → T (every low ns) → 31 < c → nameIn ns c ≡ []
+unnamed : (tried : Type 0) (ns : List Named) (c : ℕ) → Unnamed tried ns c → nameIn ns c ≡ []
 unfolding nameIn
-unnamed [] c t h = refl
-unnamed (n ∷ ns) c t h =
-    let (now, later) = both (low n) (every low ns) t in
-    let least : n .class ≤ 31 = leb→le _ _ now in
-    rw (ne-eqb c (n .class) (λ e. omega arith)) (unnamed ns c later h)
+unnamed tried [] c u = refl
+unnamed tried (n ∷ ns) c u =
+    rw (ne-eqb c (n .class) (tried-before (tried × (c ≡ n .class → ⊥)) ns c u .1)) (unnamed (tried × (c ≡ n .class → ⊥)) ns c u)
 
-pub no-name : (c : ℕ) → 31 < c → nameOf c ≡ []
-unfolding nameOf names
-no-name c h = unnamed names c tt h
+-- Such a class has no name.
+pub adds-unnamed : (c at : ℕ) (out : List ℕ) → Unnamed Unit names c → Adds (nameOf c) at out at out
+unfolding nameOf
+adds-unnamed c at out u = adds-as (sym (unnamed Unit names c u)) (adds-none at out)

@@ -54,7 +54,7 @@ module _ (b l : ℕ) (e : l ≡ letterOf b) where
   byte-raw h t f g = sym (unlettered _ (eqb b 0x22) (eqb b 0x0A) (eqb b 0x0D) (eqb b 0x09) l e h ∙ rw (← f, g))
 
 -- The bytes of a string, one after the other.
-bytes-both : (s t : List ℕ) → bytesBefore (s ++ t) [] ≡ bytesBefore s [] ++ bytesBefore t []
+pub bytes-both : (s t : List ℕ) → bytesBefore (s ++ t) [] ≡ bytesBefore s [] ++ bytesBefore t []
 unfolding bytesBefore
 bytes-both s t = go s ∙ bytes-append s (bytesBefore t [])
   where

@@ -4,20 +4,19 @@ use mathlib.Core.Path.{_≡_, ap}
 use mathlib.Core.Bool.{Bool, true, false, _||_}
 use mathlib.Core.List.{List, [], _∷_}
 use native.Mathlib.Omega.{arith}
-use lib.Dec.{eqb, leb, ltb, leb→le}
+use lib.Dec.{T, eqb, leb, ltb, leb→le}
 use lib.ListN.{length, length-append}
-use borrow.Author.Tests.{eqb-true, eqb-false, leb-true, leb-false}
-use Rattle.laws.proofs.Booleans.{cond-case, bool-case}
-use Rattle.laws.proofs.Tables.{each-below}
+use borrow.Author.Tests.{eqb-true, eqb-false}
+use Rattle.laws.proofs.Booleans.{cond-case, bool-case, both}
+use Rattle.laws.proofs.Tables.{every}
 use Rattle.elements.specs.Bytes.{codes}
-use Rattle.elements.specs.Class.{nameOf, nameIn, names, as-name}
+use Rattle.elements.specs.Class.{Named, nameOf, nameIn, names, as-name}
 use Rattle.elements.specs.Class as Class
 use Rattle.elements.specs.Rules.{ruleOf}
 use Rattle.document.specs.Document.{Node, node, Nodes, childless, child, missing}
 use Rattle.document.specs.Table.{count, countAll, pool, poolAll}
 use Rattle.document.specs.Canonical.{nodeFirst, keyClass, unicodeBefore, byteBefore, bytesBefore, quotedBefore, digits, stringBefore, canonical}
 use Rattle.printer.specs.Inside.{insideAll, valueInside, sizeInside, valuesInside, firstOf, restOf}
-use Rattle.printer.proofs.Names.{no-name}
 use Rattle.printer.proofs.Concat.{byte-append}
 use Rattle.printer.proofs.Pieces.{quoted-parts, value-none, value-parts, size-none, size-parts}
 use Rattle.printer.proofs.Elements.{canonical-text, canonical-parts, inside-child, inside-none}
@@ -50,15 +49,19 @@ unfolding stringBefore
 string-short c s =
     cond-case (Short (6 * length s + 2)) (eqb c Class.target) (λ e. quoted-short s) (λ e. omega (arith, length-append s []))
 
-abbrev name-test : ℕ → Bool
-name-test c = leb (length (nameOf c)) 14
+abbrev name-test : Named → Bool
+name-test n = leb (length (n .spelled)) 14
+
+names-short : (ns : List Named) (c : ℕ) → T (every name-test ns) → length (nameIn ns c) ≤ 14
+unfolding nameIn
+names-short [] c t = omega arith
+names-short (n ∷ ns) c t =
+    let (now, later) = both (name-test n) (every name-test ns) t in
+    cond-case (Short 14) (eqb c (n .class)) (λ e. leb→le _ _ now) (λ e. names-short ns c later)
 
 name-short : (c : ℕ) → length (nameOf c) ≤ 14
-unfolding nameOf nameIn names as-name codes
-name-short c =
-    bool-case (leb c 31)
-    (λ e. leb→le _ _ (each-below name-test 32 c (omega (arith, leb-true c 31 e)) tt))
-    (λ e. omega (arith, ap length (no-name c (leb-false c 31 e))))
+unfolding nameOf names as-name codes
+name-short c = names-short names c tt
 
 digits-short : (n : ℕ) → length (digits n) ≤ 5
 unfolding digits

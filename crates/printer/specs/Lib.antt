@@ -2,3 +2,4 @@ pub mod Adds
 pub mod Inside
 pub mod Pieces
 pub mod Prints
+pub mod Raw

@@ -2,90 +2,21 @@
 // An index that would pass 4,294,967,295 is answered as 0: no document within the limits has so long a spelling.
 use kind::Keyword;
 ghost use mathlib.Core.Path.{_≡_};
-ghost use mathlib.Core.Bool.{_||_};
+ghost use mathlib.Core.Bool.{true, _||_};
 ghost use mathlib.Core.List.{[], _∷_};
-ghost use Prim.Native.Nat.{_+_, _<_, _≤_};
+ghost use Prim.Native.Nat.{_+_, _<_, _≤_, min};
 ghost use lib.Dec.{eqb, ltb};
-ghost use lib.ListN.{set};
+ghost use lib.ListN.{length, take, drop, set};
+ghost use lib.Seq.{sets};
 ghost use Rattle.elements.specs.Class.{nameOf};
 ghost use Rattle.document.specs.Canonical.{hexByte, byteBefore, bytesBefore, quotedBefore, digits, stringBefore};
 ghost use Rattle.document.specs.Canonical as Canonical;
 ghost use Rattle.printer.specs.Adds.{Adds};
 ghost use Rattle.printer.specs.Pieces.{letterOf, leadingOf};
+ghost use Rattle.printer.specs.Raw.{Raw, RawTo};
 ghost use Rattle.printer.specs.Inside.{valueInside, sizeInside};
 
 const TARGET: usize = Keyword::TARGET.number as usize;
-
-// The names of the classes, from 0 on, each with spaces to the length of the longest; 0 and 9, a text, have none.
-const NAMES: [[u8; 14]; 32] = [
-    *b"              ",
-    *b"document      ",
-    *b"part          ",
-    *b"section       ",
-    *b"subsection    ",
-    *b"paragraph     ",
-    *b"formal-item   ",
-    *b"footnote      ",
-    *b"title         ",
-    *b"              ",
-    *b"term          ",
-    *b"image         ",
-    *b"verbatim      ",
-    *b"link          ",
-    *b"link-ext      ",
-    *b"footnote-ref  ",
-    *b"list-ordered  ",
-    *b"list-unordered",
-    *b"item          ",
-    *b"table         ",
-    *b"summary       ",
-    *b"head          ",
-    *b"name          ",
-    *b"body          ",
-    *b"row           ",
-    *b"cell          ",
-    *b"id            ",
-    *b"type          ",
-    *b"target        ",
-    *b"size          ",
-    *b"include       ",
-    *b"import        ",
-];
-
-const SIZES: [usize; 32] = [
-    0,
-    8,
-    4,
-    7,
-    10,
-    9,
-    11,
-    8,
-    5,
-    0,
-    4,
-    5,
-    8,
-    4,
-    8,
-    12,
-    12,
-    14,
-    4,
-    5,
-    7,
-    4,
-    4,
-    4,
-    3,
-    4,
-    2,
-    4,
-    6,
-    4,
-    7,
-    6,
-];
 
 // A sum, where it fits a word.
 pub fn plus(a: usize, n: usize) -> usize
@@ -120,28 +51,83 @@ pub fn put(out: &mut [u8], at: usize, b: u8) -> usize
     plus(at, 1)
 }
 
+// Bytes into a slice of their length; the loop is compiled into one copy of memory.
+fn copy(out: &mut [u8], bytes: &[u8])
+    requires { ⌜ length (now out) ≡ length (now bytes) ⌝ }
+    ensures { λ _. ⌜ now (out .exit) ≡ now (bytes .entry) ⌝ }
+{
+    let mut i = 0;
+    while i < bytes.len() {
+        out[i] = bytes[i];
+        i += 1;
+    }
+}
+
+pub fn lesser(a: usize, b: usize) -> usize
+    ensures { λ r. ⌜ r ≡ min a b ⌝ }
+{
+    if a < b {
+        return a;
+    }
+    b
+}
+
+// The bytes that there are places for.
+fn store_all(out: &mut [u8], at: usize, bytes: &[u8])
+    ensures { λ _. ⌜ now (out .exit) ≡ sets (now (out .entry)) at (now (bytes .entry)) ⌝ }
+{
+    if out.len() <= at {
+        return;
+    }
+    let count = lesser(bytes.len(), out.len() - at);
+    let end = at + count;
+    copy(&mut out[at..end], &bytes[..count]);
+}
+
 pub fn put_bytes(out: &mut [u8], at: usize, bytes: &[u8]) -> usize
     ensures { λ r. ⌜ Adds (now (bytes .entry)) at (now (out .entry)) r (now (out .exit)) ⌝ }
 {
-    let mut k = at;
-    let mut i = 0;
-    while i < bytes.len() {
-        k = put(out, k, bytes[i]);
-        i += 1;
-    }
-    k
+    store_all(out, at, bytes);
+    plus(at, bytes.len())
 }
 
-// The name of a class.
+// The name of a class; 0 and 9, a text, have none.
 pub fn put_name(out: &mut [u8], at: usize, class: usize) -> usize
     ensures { λ r. ⌜ Adds (nameOf class) at (now (out .entry)) r (now (out .exit)) ⌝ }
 {
-    if 31 < class {
-        return at;
+    match class {
+        1 => put_bytes(out, at, b"document"),
+        2 => put_bytes(out, at, b"part"),
+        3 => put_bytes(out, at, b"section"),
+        4 => put_bytes(out, at, b"subsection"),
+        5 => put_bytes(out, at, b"paragraph"),
+        6 => put_bytes(out, at, b"formal-item"),
+        7 => put_bytes(out, at, b"footnote"),
+        8 => put_bytes(out, at, b"title"),
+        10 => put_bytes(out, at, b"term"),
+        11 => put_bytes(out, at, b"image"),
+        12 => put_bytes(out, at, b"verbatim"),
+        13 => put_bytes(out, at, b"link"),
+        14 => put_bytes(out, at, b"link-ext"),
+        15 => put_bytes(out, at, b"footnote-ref"),
+        16 => put_bytes(out, at, b"list-ordered"),
+        17 => put_bytes(out, at, b"list-unordered"),
+        18 => put_bytes(out, at, b"item"),
+        19 => put_bytes(out, at, b"table"),
+        20 => put_bytes(out, at, b"summary"),
+        21 => put_bytes(out, at, b"head"),
+        22 => put_bytes(out, at, b"name"),
+        23 => put_bytes(out, at, b"body"),
+        24 => put_bytes(out, at, b"row"),
+        25 => put_bytes(out, at, b"cell"),
+        26 => put_bytes(out, at, b"id"),
+        27 => put_bytes(out, at, b"type"),
+        28 => put_bytes(out, at, b"target"),
+        29 => put_bytes(out, at, b"size"),
+        30 => put_bytes(out, at, b"include"),
+        31 => put_bytes(out, at, b"import"),
+        _ => at,
     }
-    let name = NAMES[class];
-    let size = SIZES[class];
-    put_bytes(out, at, &name[..size])
 }
 
 // "lower-case hex"
@@ -202,16 +188,73 @@ fn put_byte(out: &mut [u8], at: usize, b: u8) -> usize
     put(out, at, b)
 }
 
+// Whether a byte of a string stands for itself.
+fn raw(b: u8) -> bool
+    ensures { λ r. ⌜ (r ≡ true → Raw (b ∷ [])) ⌝ }
+{
+    (b != 0x22) & (b != 0x5C) & (0x1F < b) & (b != 0x7F)
+}
+
+// Whether eight bytes do. `&` makes every test, so that they are compiled into a few on all eight.
+fn raw_8(bytes: &[u8], i: usize) -> bool
+    requires { ⌜ i + 8 ≤ length (now bytes) ⌝ }
+    ensures { λ r. ⌜ (r ≡ true → Raw (take 8 (drop i (now (bytes .entry))))) ⌝ }
+{
+    raw(bytes[i])
+        & raw(bytes[i + 1])
+        & raw(bytes[i + 2])
+        & raw(bytes[i + 3])
+        & raw(bytes[i + 4])
+        & raw(bytes[i + 5])
+        & raw(bytes[i + 6])
+        & raw(bytes[i + 7])
+}
+
+// Past as many blocks of sixteen bytes as stand for themselves.
+fn raw_blocks(bytes: &[u8], from: usize) -> usize
+    requires { ⌜ from ≤ length (now bytes) ⌝ }
+    ensures { λ r. ⌜ RawTo (now (bytes .entry)) from r ⌝ }
+{
+    let mut i = from;
+    while 16 <= bytes.len() - i {
+        if !(raw_8(bytes, i) & raw_8(bytes, i + 8)) {
+            return i;
+        }
+        i += 16;
+    }
+    i
+}
+
+// Past as many bytes as stand for themselves.
+fn raw_end(bytes: &[u8], from: usize) -> usize
+    requires { ⌜ from ≤ length (now bytes) ⌝ }
+    ensures { λ r. ⌜ RawTo (now (bytes .entry)) from r ⌝ }
+{
+    let mut i = raw_blocks(bytes, from);
+    while i < bytes.len() {
+        if !raw(bytes[i]) {
+            return i;
+        }
+        i += 1;
+    }
+    i
+}
+
+// A string's bytes: those that stand for themselves are copied, as many as stand together.
 fn put_escaped(out: &mut [u8], at: usize, bytes: &[u8]) -> usize
     ensures { λ r. ⌜ Adds (bytesBefore (now (bytes .entry)) []) at (now (out .entry)) r (now (out .exit)) ⌝ }
 {
     let mut k = at;
     let mut i = 0;
-    while i < bytes.len() {
-        k = put_byte(out, k, bytes[i]);
-        i += 1;
+    loop {
+        let end = raw_end(bytes, i);
+        k = put_bytes(out, k, &bytes[i..end]);
+        if bytes.len() <= end {
+            return k;
+        }
+        k = put_byte(out, k, bytes[end]);
+        i = end + 1;
     }
-    k
 }
 
 pub fn put_quoted(out: &mut [u8], at: usize, bytes: &[u8]) -> usize

@@ -1,6 +1,7 @@
 // The spelling of a table's nodes: "Subtrees are spelled in order, each element written into what is left of the output."
 // On any words the functions are safe and end; what they write is said where a document's nodes stand in the table.
 // Each writes as much as there is room for and answers how much it would need, so that an empty output measures.
+use super::put::lesser;
 use super::put::plus;
 use super::put::put;
 use super::put::put_name;
@@ -20,7 +21,7 @@ use table::string;
 use table::word;
 ghost use mathlib.Core.Path.{_≡_};
 ghost use mathlib.Core.List.{List};
-ghost use Prim.Native.Nat.{ℕ, _+_, _≤_, _<_, min};
+ghost use Prim.Native.Nat.{ℕ, _+_, _≤_, _<_};
 ghost use lib.ListN.{length};
 ghost use lib.Seq.{sets};
 ghost use Rattle.elements.specs.Rules.{ruleOf};
@@ -100,15 +101,6 @@ fn first_end(nodes: &[u32], i: usize, end: usize) -> usize
         return from;
     }
     first
-}
-
-fn lesser(a: usize, b: usize) -> usize
-    ensures { λ r. ⌜ r ≡ min a b ⌝ }
-{
-    if a < b {
-        return a;
-    }
-    b
 }
 
 // The nodes with numbers from `from` to before `end` that stand side by side, a space before each.

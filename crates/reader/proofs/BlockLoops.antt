@@ -93,7 +93,7 @@ module _ {s : List ℕ} {j : ℕ} {w r : Walked} (bounded : Bounded s j w) (past
   past-bounded =
       record { bounds = λ y. let h = past-none (length s) w r past-it y in rw (h .2) (omega (arith, bounded .bounds (h .0), h .1)) }
 
-  past-by : (m a b : ℕ) (v : Verdict) → w ≡ walkedTo m a b v → m < length s → 0 < j
+  pub past-by : (m a b : ℕ) (v : Verdict) → w ≡ walkedTo m a b v → m < length s → 0 < j
       → (r ≡ walkedTo (r .next) a b v) × (r .number ≡ 0 → r .next ≡ m + 1)
   unfolding walkedTo
   past-by m a b fine e h o =

@@ -12,14 +12,18 @@ use borrow.Author.Tests.{ne-eqb}
 use Rattle.laws.proofs.Booleans.{cond-case, both, or-true}
 use Rattle.elements.specs.Class as Class
 use Rattle.elements.specs.Characters.{typeCharacter}
+use Rattle.elements.specs.Inside.{expecting, start}
 use Rattle.syntax.specs.Expression.{Expr, symbol, quoted, list, Exprs, none, and}
 use Rattle.document.specs.Value.{nonEmpty, every, isValue}
 use Rattle.document.specs.Document.{Tree, size, keepsRules, keyOf, typeOf, widthOr, heightOr, keyIn, typeIn, widthIn, heightIn, missing}
 use Rattle.document.specs.Spelling.{holdsText, leadClass, listClass, exprClass}
 use Rattle.document.specs.Meaning.{fine, judge, judgeList, textBytes, symbolBytes, onlyOne, sizeTree, valueTree, treeOf, treesOf}
 use Rattle.document.proofs.Values.{value-parts}
-use Rattle.reader.specs.Filling.{Filling, Began, OneText, no-text, Without, Picks, at-end, absent, here, later, EachFine}
-use Rattle.reader.proofs.Picked.{value-keeps, one-text, symbol-single}
+use Rattle.document.proofs.Blocks.{Read}
+use Rattle.reader.specs.Stands.{Stands}
+use Rattle.reader.specs.Filling.{Filling, Began, OneText, no-text, Without, Picks, at-end, absent, here, later, EachFine, TextAt, RunAt, Finds, ValuesOf}
+use Rattle.reader.proofs.Picked.{value-keeps, one-text, symbol-single, keys, types, sizes, picked, read-each, bare-without}
+use Rattle.reader.proofs.Passing.{no-value}
 
 -- The class of a value that is no type and no size.
 key-class : (k c : ℕ) (s : List ℕ) → T (isValue k c s) → eqb c Class.type ≡ false → (c ≡ Class.id) ⊎ (c ≡ Class.target)
@@ -179,6 +183,44 @@ sizes-in k w h es p f (here {at} {lead} {inner} {es = rest} l o) m s =
 sizes-in k w h es p f (later {at} {lead} {inner} {es = rest} i j l a q) m s =
     let r = sizes-in k w h rest p (f .1) q m s in
     (no-size (widthIn (treesOf rest)) (list at (and lead inner)) i .0 ∙ r .0, no-size (heightIn (treesOf rest)) (list at (and lead inner)) i .1 ∙ r .1)
+
+-- The values that were found in an element that is fine.
+module _ (s : List ℕ) (at k : ℕ) (es : Exprs) (rd : Read at k (start k) es) where
+  each : EachFine k es
+  each = read-each at k (start k) es rd
+
+  -- With no parameters there are none.
+  pub values-none : start k ≡ expecting [] → ValuesOf s es (length s) (length s) missing missing
+  unfolding onlyOne
+  values-none b =
+      let r = rw b at rd in
+      let z = without-size es (bare-without sizes at k es r) in
+      record {
+        key-at = no-value s none refl ∙ sym (without-key k es each (bare-without keys at k es r));
+        type-at = no-value s none refl ∙ sym (without-type es (bare-without types at k es r));
+        width-is = z .0;
+        height-is = z .1;
+      }
+
+  pub values-found : {from e : ℕ} (key type numbers width height : ℕ) → Stands s from es e → Finds (TextAt s) s Class.id Class.target from key
+      → Finds (TextAt s) s Class.type Class.type from type → Finds (RunAt s) s Class.size Class.size from numbers
+      → ((p : Exprs) (m : ℕ) → Stands s numbers p m → (p ≡ none → (width ≡ missing) × (height ≡ missing))
+      × (T (keepsRules 0 (sizeTree p)) → sizeTree p ≡ size width height))
+      → ValuesOf s es key type width height
+  values-found {e = e} key type numbers width height st f g h m =
+      let (pk, qk) = picked keys at k es rd in
+      let ik = keys-in k es pk each qk in
+      let (pt, qt) = picked types at k es rd in
+      let it = types-in k es pt each qt in
+      let (ps, qs) = picked sizes at k es rd in
+      let (n, u) = h es ps e st qs in
+      let is = sizes-in k width height es ps each qs (m ps n u .0) (m ps n u .1) in
+      record {
+        key-at = f es pk e st qk (ik .1) ∙ sym (ik .0);
+        type-at = g es pt e st qt (it .1) ∙ sym (it .0);
+        width-is = is .0;
+        height-is = is .1;
+      }
 
 -- What was written for these strings and numbers is the beginning of the element that has them.
 pub began : (k parent at w h : ℕ) (es : Exprs) (key type : List ℕ) (a b : Filling) → key ≡ keyIn (treesOf es) → type ≡ typeIn (treesOf es)

@@ -19,6 +19,8 @@ pub mod Picked
 pub mod FilledValues
 pub mod Writes
 pub mod Passing
+pub mod Found
+pub mod Parameters
 pub mod Numbers
 pub mod Measured
 pub mod Nodes

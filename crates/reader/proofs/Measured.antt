@@ -53,6 +53,19 @@ size-read (and (quoted p x) (and e none)) t = absurd (no-number (quoted p x) ref
 size-read (and (list p es) (and e none)) t = absurd (no-number (list p es) refl (both (leb (numberOf (list p es)) 65535) (leb (numberOf e) 65535) t .0))
 size-read (and e (and e′ (and e″ es))) t = absurd t
 
+-- Past the end of the text nothing stands, and nothing is no size.
+nothing : {s : List ℕ} {i e : ℕ} {es : Exprs} → Stands s i es e → length s ≤ i → es ≡ none
+nothing (Stands.ended h) l = refl
+nothing (Stands.after-blank h t) l = absurd (omega (arith, h .inside))
+nothing (Stands.after-line-end h g t) l = absurd (omega (arith, h .inside))
+nothing (Stands.a-symbol h t) l = absurd (omega (arith, h .inside))
+nothing (Stands.a-string h g t) l = absurd (omega (arith, h .inside))
+nothing (Stands.a-list h t g u) l = absurd (omega (arith, h .inside))
+
+pub no-size-past : {P : Type 0} {s : List ℕ} {i e : ℕ} {es : Exprs} → Stands s i es e → length s ≤ i → T (keepsRules 0 (sizeTree es)) → P
+unfolding keepsRules sizeTree isSize
+no-size-past st h t = let n = nothing st h in absurd (rw n at t)
+
 -- A symbol's bytes are those of the text.
 not-quote : (b : ℕ) → byteClass b ≡ ordinary → b ≡ 0x22 → ⊥
 unfolding byteClass

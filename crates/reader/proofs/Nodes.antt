@@ -16,7 +16,7 @@ use Rattle.document.specs.Meaning.{fine, judge, judgeList, finish, run, treeOf,
 use Rattle.document.specs.Table.{offset}
 use Rattle.document.proofs.Nested.{not-fine, value-class-some}
 use Rattle.reader.specs.Stands.{Stands}
-use Rattle.reader.specs.Filling.{Filling, Wrote, Began, EachFine, Fits32, Atoms}
+use Rattle.reader.specs.Filling.{Filling, ElementFilled, Wrote, Began, EachFine, Fits32, Atoms}
 use Rattle.reader.proofs.Looks.{look-stands, SeenAs, saw-symbol, saw-string, saw-list, Led}
 use Rattle.reader.proofs.Passing.{Looked, led-by, none-seen}
 use Rattle.reader.proofs.Picked.{value-atoms, value-keeps, element-fine, read-each}
@@ -142,24 +142,29 @@ module _ {s : List ℕ} {i sort place class next len : ℕ} (k : Looked s i sort
         rw (o .is) (wrote-value parent (seen i (drop i s) .place) (o .lead) (o .inner) a j′),
       )
 
-  pub one-element : sort ≡ 3 → Class.isElement class ≡ true → (b z : Filling) (inside after : ℕ) → b .node ≡ a .node + 1
-      → ((es : Exprs) (e at : ℕ) → Stands s next es e → finish at class (run at class (start class) es) ≡ fine
-      → a .bytes + length (keyIn (treesOf es)) + length (typeIn (treesOf es)) ≤ 4294967295 → Began class parent place es a b)
-      → ((es : Exprs) (e k : ℕ) → Stands s next es e → EachFine k es → Fits32 (b .bytes) es → (inside ≡ e) × Wrote (a .node) es b z)
-      → (inside < length s → after ≡ inside + 1)
-      → First s parent i after a
-      (record { node = z .node; bytes = z .bytes; words = set (z .words) (11 * a .node + 2) (z .node); places = z .places; pool = z .pool })
-  one-element n j b z inside after nb begun filled goes x es e k′ st f fi =
+  pub one-element : sort ≡ 3 → Class.isElement class ≡ true → (z : Filling) (after : ℕ) → ElementFilled s place next class parent after a z
+      → First s parent i after a z
+  one-element n j z after filled x es e k′ st f fi =
       let r : Seen = seen i (drop i s) in
       let o = list-seen s r k′ (look-stands s i e (and x es) st) (sym (k .sort-is) ∙ n) (f .0) in
       let c : class ≡ leadClass (o .lead) = k .class-is ∙ o .class-is in
-      let j′ : Class.isElement (leadClass (o .lead)) ≡ true = rw c at j in
       let ins : Stands s next (o .inner) (o .end) = rw (k .next-is) (o .inside (λ q. named-element class j (k .class-is ∙ q))) in
-      let rd : finish (r .place) class (run (r .place) class (start class) (o .inner)) ≡ fine =
-      rw c (element-fine k′ (r .place) (o .lead) (o .inner) j′ (o .is-fine)) in
-      let ft = element-fits (a .bytes) (r .place) (o .lead) (o .inner) j′ (rw (o .is) at fi) in
-      let bg = begun (o .inner) (o .end) (r .place) ins rd (ft .0) in
-      let fl = filled (o .inner) (o .end) class ins (read-each (r .place) class (start class) (o .inner) rd) (rw (bg .bytes-after) (ft .1)) in
-      let af : after ≡ o .end + 1 = goes (rw (fl .0) (o .within)) ∙ ap (λ (q : ℕ). q + 1) (fl .0) in
       let xi : x ≡ list place (and (o .lead) (o .inner)) = o .is ∙ ap (λ (q : ℕ). list q (and (o .lead) (o .inner))) (sym (k .place-is)) in
-      (rw af (o .follows), rw xi (wrote-element parent place class (o .lead) (o .inner) a b z j′ (sym c) nb bg (fl .1)))
+      let fl = filled (o .lead) (o .inner) (o .end) k′ ins (o .within) (sym c) j (rw (k .place-is) (o .is-fine)) (rw xi at fi) in
+      (rw (fl .0) (o .follows), rw xi (fl .1))
+
+-- What was begun, and then filled from `inside` up to `after`, is the element.
+pub element-filled : (s : List ℕ) (place from kind parent : ℕ) (a b z : Filling) (inside after : ℕ) → b .node ≡ a .node + 1
+    → ((es : Exprs) (e at : ℕ) → Stands s from es e → finish at kind (run at kind (start kind) es) ≡ fine
+    → a .bytes + length (keyIn (treesOf es)) + length (typeIn (treesOf es)) ≤ 4294967295 → Began kind parent place es a b)
+    → ((es : Exprs) (e k : ℕ) → Stands s from es e → EachFine k es → Fits32 (b .bytes) es → (inside ≡ e) × Wrote (a .node) es b z)
+    → (inside < length s → after ≡ inside + 1)
+    → ElementFilled s place from kind parent after a
+    (record { node = z .node; bytes = z .bytes; words = set (z .words) (11 * a .node + 2) (z .node); places = z .places; pool = z .pool })
+element-filled s place from kind parent a b z inside after nb begun filled goes lead es m k st h c j f fi =
+    let j′ : Class.isElement (leadClass lead) ≡ true = rw c j in
+    let rd : finish place kind (run place kind (start kind) es) ≡ fine = rw c at (element-fine k place lead es j′ f) in
+    let ft = element-fits (a .bytes) place lead es j′ fi in
+    let bg = begun es m place st rd (ft .0) in
+    let fl = filled es m kind st (read-each place kind (start kind) es rd) (rw (bg .bytes-after) (ft .1)) in
+    (goes (rw (fl .0) h) ∙ ap (λ (q : ℕ). q + 1) (fl .0), wrote-element parent place kind lead es a b z j′ c nb bg (fl .1))

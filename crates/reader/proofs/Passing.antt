@@ -20,7 +20,7 @@ use Rattle.reader.specs.Filling as Filling
 use Rattle.reader.proofs.Looks.{seen-bounds, look-stands, SeenAs, saw-end, saw-symbol, saw-string, saw-list, Led}
 use Rattle.reader.proofs.Turns.{seen-forward}
 
-true-false : true ≡ false → ⊥
+pub true-false : true ≡ false → ⊥
 true-false e = let z : _≡_ {A = ℕ} 0 1 = cc in omega arith
 
 -- Where nothing stands, the end is seen.
@@ -55,13 +55,13 @@ module _ (s : List ℕ) (r : Seen) where
 
   -- The list that is seen is the one that is looked for.
   pub found : {a b : ℕ} {es p : Exprs} {e : ℕ} → SeenAs s r es e → r .sort ≡ 3 → (r .class ≡ 0 → ⊥) → (r .class ≡ a) ⊎ (r .class ≡ b) → Picks a b es p
-      → (m : ℕ) × Stands s (r .next) p m
+      → (m : ℕ) × Stands s (r .next) p m × (m < length s)
   unfolding exprClass listClass
   found (saw-end q) z n w o = absurd (omega arith)
   found (saw-symbol q c l h st) z n w o = absurd (omega arith)
   found (saw-string q c l h st) z n w o = absurd (omega arith)
   found (saw-list x q c h st l k u) z n w (absent f o) = absurd (⊎-elim (λ i. o .0 (sym c ∙ i)) (λ i. o .1 (sym c ∙ i)) w)
-  found (saw-list {m = m} x q c h st l k u) z n w (here {lead} {inner} i o) = (m, led-by lead inner m (l n))
+  found (saw-list {m = m} x q c h st l k u) z n w (here {lead} {inner} i o) = (m, led-by lead inner m (l n), k .inside)
   found (saw-list x q c h st l k u) z n w (later i j f a o) = absurd (⊎-elim (λ v. i (sym c ∙ v)) (λ v. j (sym c ∙ v)) w)
 
   -- The list that is seen is neither the one that is looked for nor flat: nothing is picked.
@@ -163,42 +163,6 @@ module _ {s : List ℕ} {i sort place class next len : ℕ} (k : Looked s i sort
       → (es : Exprs) (m : ℕ) → Stands s from es m → Atoms es → m < length s → r ≡ m + 1
   skip-stuck from r h p z n es m st a l = let o = p es m st a in absurd (never-stuck h (o .1) z n)
 
-  -- The ways through `find`: p is what is picked from the run at the start.
-  module _ (a b from : ℕ) where
-    -- Where nothing is picked, the end of the text is answered.
-    past : {p : Exprs} → p ≡ none → (m : ℕ) × Stands s (length s) p m
-    past e = (length s, rw e (past-end s))
-
-    pub find-none : (p : Exprs) → Passed (λ (es : Exprs). Picks a b es p) s from i → (sort ≡ 3 → ⊥)
-        → (es : Exprs) (e : ℕ) → Stands s from es e → Picks a b es p → (m : ℕ) × Stands s (length s) p m
-    find-none p v z es e st q =
-        let o = v es e st q in past (no-list s (seen i (drop i s)) (look-stands s i e (o .0) (o .1)) (λ w. z (k .sort-is ∙ w)) (o .2))
-
-    pub find-here : (p : Exprs) → Passed (λ (es : Exprs). Picks a b es p) s from i → sort ≡ 3 → (class ≡ 0 → ⊥) → (class ≡ a) ⊎ (class ≡ b)
-        → (es : Exprs) (e : ℕ) → Stands s from es e → Picks a b es p → (m : ℕ) × Stands s next p m
-    find-here p v z n w es e st q =
-        let o = v es e st q in
-        rw (k .next-is)
-        (found s (seen i (drop i s)) (look-stands s i e (o .0) (o .1)) (sym (k .sort-is) ∙ z) (λ c. n (k .class-is ∙ c)) (rw (k .class-is) at w) (o .2))
-
-    pub find-last : (p : Exprs) → Passed (λ (es : Exprs). Picks a b es p) s from i → sort ≡ 3 → (class ≡ a → ⊥) → (class ≡ b → ⊥) → isFlat class ≡ false
-        → (es : Exprs) (e : ℕ) → Stands s from es e → Picks a b es p → (m : ℕ) × Stands s (length s) p m
-    find-last p v z m n f es e st q =
-        let o = v es e st q in
-        past (none-left s (seen i (drop i s)) (look-stands s i e (o .0) (o .1)) (sym (k .sort-is) ∙ z) (λ c. m (k .class-is ∙ c)) (λ c. n (k .class-is ∙ c))
-        (rw (k .class-is) at f) (o .2))
-
-    pub find-again : (p : Exprs) (after : ℕ) → Passed (λ (es : Exprs). Picks a b es p) s from i → sort ≡ 3 → (class ≡ a → ⊥) → (class ≡ b → ⊥)
-        → isFlat class ≡ true → ((fs : Exprs) (m : ℕ) → Stands s next fs m → Atoms fs → m < length s → after ≡ m + 1)
-        → Passed (λ (es : Exprs). Picks a b es p) s from after
-    find-again p after v z m n f g es e st q =
-        let o = v es e st q in
-        flat-passed s (seen i (drop i s)) (look-stands s i e (o .0) (o .1)) (sym (k .sort-is) ∙ z) (λ c. flat-class class f (k .class-is ∙ c))
-        (λ c. m (k .class-is ∙ c)) (λ c. n (k .class-is ∙ c)) (rw (k .class-is) at f) after (rw (k .next-is) at g) (o .2)
-
   -- The place of the one symbol or string that stands here.
   pub text-here : (p : Exprs) (m : ℕ) → Stands s i p m → OneText p → (sort ≡ 0 → ⊥) → atomValue (drop place s) ≡ onlyOne textBytes p
   text-here p m st o z = rw (k .place-is) (only-text s (seen i (drop i s)) (look-stands s i m p st) (not-end z) o)
-
-  pub no-text-here : (p : Exprs) (m : ℕ) → Stands s i p m → sort ≡ 0 → atomValue (drop (length s) s) ≡ onlyOne textBytes p
-  no-text-here p m st z = no-value s p (ended-here s (seen i (drop i s)) (look-stands s i m p st) (sym (k .sort-is) ∙ z) .0)

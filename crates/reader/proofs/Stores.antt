@@ -53,6 +53,20 @@ row-stores l m n z at a b c d e f g h i j k p q r =
     sets-on l n z at (at + 8) (a ∷ b ∷ c ∷ d ∷ e ∷ f ∷ g ∷ h ∷ []) (i ∷ j ∷ k ∷ []) (a ∷ b ∷ c ∷ d ∷ e ∷ f ∷ g ∷ h ∷ i ∷ j ∷ k ∷ [])
     (sets-on l m n at (at + 4) (a ∷ b ∷ c ∷ d ∷ []) (e ∷ f ∷ g ∷ h ∷ []) (a ∷ b ∷ c ∷ d ∷ e ∷ f ∷ g ∷ h ∷ []) p q refl refl) r refl refl
 
+-- One store after the other, at k and the places after it, counted from i.
+abbrev storesFrom : List ℕ → ℕ → ℕ → List ℕ → List ℕ
+storesFrom l i k [] = l
+storesFrom l i k (x ∷ xs) = storesFrom (set l (i + k) x) i (k + 1) xs
+
+stores-from : (l : List ℕ) (i k : ℕ) (xs : List ℕ) → storesFrom l i k xs ≡ sets l (i + k) xs
+stores-from l i k [] = refl
+stores-from l i k (x ∷ xs) =
+    let e : i + (k + 1) ≡ suc (i + k) = omega arith in
+    stores-from (set l (i + k) x) i (k + 1) xs ∙ ap (λ (n : ℕ). sets (set l (i + k) x) n xs) e
+
+pub stored-row : (l : List ℕ) (i x : ℕ) (xs : List ℕ) → storesFrom (set l i x) i 1 xs ≡ sets l i (x ∷ xs)
+stored-row l i x xs = stores-from (set l i x) i 1 xs ∙ ap (λ (n : ℕ). sets (set l i x) n xs) (add-one i)
+
 -- The offset word of a string is 0 where it is empty.
 pub offset-is : (p : ℕ) (s : List ℕ) → cond (eqb (length s) 0) 0 p ≡ offset p s
 unfolding offset

@@ -1,6 +1,6 @@
 -- The expressions at the top of a text: where a run ends, where its first expression ends, and the answer of the one root. Assumes nothing.
 use Prim.Native.Nat.{ℕ, suc, _+_, _-_, _≤_, _<_}
-use mathlib.Core.Path.{_≡_, refl, sym, _∙_}
+use mathlib.Core.Path.{_≡_, refl, sym, ap, _∙_}
 use mathlib.Core.List.{List}
 use native.Mathlib.Omega.{arith}
 use native.Mathlib.Numerals.{add-one}
@@ -15,13 +15,14 @@ use Rattle.document.specs.Spelling.{nested, leadClass, listClass, exprClass}
 use Rattle.document.specs.Meaning.{Verdict, fine, fault, finish, run, judge, judgeRoot}
 use Rattle.document.specs.Answer.{judged, tooDeep, oneExpression}
 use Rattle.reader.specs.Stands.{Has, Stands}
-use Rattle.reader.specs.Turn.{Opened}
-use Rattle.reader.specs.Second.{secondPlace}
+use Rattle.reader.specs.Turn.{Opened, pastBracket}
+use Rattle.reader.specs.Second.{firstPlace, secondPlace, FirstJudged}
 use Rattle.reader.specs.Sizes.{nodesOf, nodesIn, bytesOf, bytesIn}
-use Rattle.reader.specs.Walked.{walkedTo, readWalked}
+use Rattle.reader.specs.Walked.{walkedTo, Bounded, readWalked}
 use Rattle.reader.specs.declared.walk.Walked.{Walked}
 use Rattle.reader.proofs.Looks.{seen-bounds, SeenAs, saw-end, saw-symbol, saw-string, saw-list, look-stands, stands-within}
 use Rattle.reader.proofs.Turns.{Looked}
+use Rattle.reader.proofs.BlockLoops.{past-by}
 
 -- ---- what was seen, by its number
 
@@ -230,37 +231,47 @@ module _ {s : List ℕ} {i sort q c j l : ℕ} (looked : Looked s i sort q c j l
 
 -- ---- the second expression
 
+first-of-none : (n : ℕ) {es : Exprs} → es ≡ none → n ≡ firstPlace n es
+unfolding firstPlace
+first-of-none n e = rw e
+
+first-of-some : (n : ℕ) {es : Exprs} (x : Expr) {others : Exprs} → es ≡ and x others → place x ≡ firstPlace n es
+unfolding firstPlace
+first-of-some n x e = rw e
+
 second-of-none : (n : ℕ) {es : Exprs} → es ≡ none → n ≡ secondPlace n es
 unfolding secondPlace
 second-of-none n e = rw e
 
-second-of-one : (n : ℕ) {es : Exprs} (x : Expr) {others : Exprs} → es ≡ and x others → others ≡ none → n ≡ secondPlace n es
+second-of-some : (n : ℕ) {es : Exprs} (x : Expr) {others : Exprs} → es ≡ and x others → firstPlace n others ≡ secondPlace n es
 unfolding secondPlace
-second-of-one n x e f = rw (e, f)
+second-of-some n x e = rw e
 
-second-of-two : (n : ℕ) {es : Exprs} (x y : Expr) {others rest : Exprs} → es ≡ and x others → others ≡ and y rest → place y ≡ secondPlace n es
-unfolding secondPlace
-second-of-two n x y e f = rw (e, f)
+module _ {s : List ℕ} {i sort q c j l : ℕ} (looked : Looked s i sort q c j l) where
+  pub first-missing : sort ≡ 0 → (es : Exprs) → Stands s i es (length s) → length s ≡ firstPlace (length s) es
+  first-missing z es t = first-of-none (length s) (looked-end looked t z .0)
+
+  pub first-there : (sort ≡ 0 → ⊥) → (es : Exprs) → Stands s i es (length s) → q ≡ firstPlace (length s) es
+  first-there z es t = let f = looked-first looked t z .0 in sym (f .placed) ∙ first-of-some (length s) (f .first) (f .made)
 
 module _ {s : List ℕ} {sort q c j l : ℕ} (looked : Looked s 0 sort q c j l) where
   pub second-none : sort ≡ 0 → (es : Exprs) → Stands s 0 es (length s) → length s ≡ secondPlace (length s) es
   second-none z es t = second-of-none (length s) (looked-end looked t z .0)
 
-  -- After the first expression, from place i on, one more look.
-  module _ {i sort′ q′ c′ j′ l′ : ℕ} (some : sort ≡ 0 → ⊥) (past : (x : Expr) (es : Exprs) (e : ℕ) → Stands s 0 (and x es) e → Stands s i es e)
-      (looked′ : Looked s i sort′ q′ c′ j′ l′) where
-    pub second-missing : sort′ ≡ 0 → (es : Exprs) → Stands s 0 es (length s) → length s ≡ secondPlace (length s) es
-    second-missing z es t =
-        let f = looked-first looked t some .0 in
-        let u : Stands s i (f .others) (length s) = past (f .first) (f .others) (length s) (rw (f .made) at t) in
-        second-of-one (length s) (f .first) (f .made) (looked-end looked′ u z .0)
+  -- The first expression ends at place i, and the next is at r.
+  pub second-some : {i r : ℕ} → (sort ≡ 0 → ⊥) → ((x : Expr) (es : Exprs) (e : ℕ) → Stands s 0 (and x es) e → Stands s i es e)
+      → ((es : Exprs) → Stands s i es (length s) → r ≡ firstPlace (length s) es)
+      → (es : Exprs) → Stands s 0 es (length s) → r ≡ secondPlace (length s) es
+  second-some some past next es t =
+      let f = looked-first looked t some .0 in
+      next (f .others) (past (f .first) (f .others) (length s) (rw (f .made) at t)) ∙ second-of-some (length s) (f .first) (f .made)
 
-    pub second-there : (sort′ ≡ 0 → ⊥) → (es : Exprs) → Stands s 0 es (length s) → q′ ≡ secondPlace (length s) es
-    second-there z es t =
-        let f = looked-first looked t some .0 in
-        let u : Stands s i (f .others) (length s) = past (f .first) (f .others) (length s) (rw (f .made) at t) in
-        let g = looked-first looked′ u z .0 in
-        sym (g .placed) ∙ second-of-two (length s) (f .first) (g .first) (f .made) (g .made)
+-- The same after a first expression with no fault.
+pub second-after : {s : List ℕ} {r : ℕ} (w : Walked) → w .number ≡ 0 → ((es : Exprs) → Stands s (w .next) es (length s) → r ≡ firstPlace (length s) es)
+    → (es : Exprs) → FirstJudged s es w → r ≡ secondPlace (length s) es
+unfolding walkedTo
+second-after w z next none f = absurd (omega (arith, z, ap (λ (w : Walked). w .number) f))
+second-after {s} w z next (and x es) f = next es (f .1 z) ∙ second-of-some (length s) x refl
 
 -- ---- the answer
 
@@ -278,27 +289,11 @@ below (Stands.a-symbol h t) = (h .inside, below t)
 below (Stands.a-string h g t) = (h .inside, below t)
 below (Stands.a-list h t g u) = (h .inside, below u)
 
-answer-none : (n : ℕ) {es : Exprs} → es ≡ none → walkedTo 0 0 0 (fault 7 n) ≡ readWalked (oneExpression nested n es)
-unfolding oneExpression walkedTo readWalked
-answer-none n e = rw e
-
 answer-two : (n : ℕ) {other : ℕ} (es : Exprs) → other ≡ secondPlace n es → other < n → walkedTo 0 0 0 (fault 7 other) ≡ readWalked (oneExpression nested n es)
-unfolding oneExpression secondPlace walkedTo readWalked
+unfolding oneExpression firstPlace secondPlace walkedTo readWalked
 answer-two n none e h = absurd (omega arith)
 answer-two n (and x none) e h = absurd (omega arith)
 answer-two n (and x (and y es)) e h = rw e
-
--- There is no second expression.
-alone : (n : ℕ) {other : ℕ} (es : Exprs) {x : Expr} {others : Exprs} → es ≡ and x others → Below n es → other ≡ secondPlace n es → n ≤ other → es ≡ and x none
-unfolding secondPlace Below
-alone n none m b e h = cc
-alone n (and y none) m b e h = cc
-alone n (and y (and z es)) m b e h = absurd (omega (arith, b .1 .0))
-
-answer-no-document : (n : ℕ) {es : Exprs} (x : Expr) {q : ℕ} → es ≡ and x none → place x ≡ q → (exprClass x ≡ 1 → ⊥)
-    → walkedTo 0 0 0 (fault 8 q) ≡ readWalked (oneExpression nested n es)
-unfolding oneExpression judged judgeRoot walkedTo readWalked
-answer-no-document n x m p c = rw (m, ne-eqb (exprClass x) 1 c, p)
 
 -- The walk's answer with the counts of the document, and no place of its own.
 settled : (x : Expr) (v : Verdict) {w : Walked} (m n p : ℕ) → w ≡ walkedTo m n p v → nodesOf x ≡ n → bytesOf x ≡ p
@@ -306,6 +301,14 @@ settled : (x : Expr) (v : Verdict) {w : Walked} (m n p : ℕ) → w ≡ walkedTo
 unfolding walkedTo readWalked judged tooDeep
 settled x fine m n p e f g = rw (e, f, g)
 settled x (fault k q) m n p e f g = rw e
+
+-- There is no second expression.
+answer-one : (s : List ℕ) (w : Walked) {other : ℕ} (es : Exprs) → Below (length s) es → other ≡ secondPlace (length s) es → length s ≤ other → FirstJudged s es w
+    → record { number = w .number; place = w .place; next = 0; nodes = w .nodes; pool = w .pool } ≡ readWalked (oneExpression nested (length s) es)
+unfolding oneExpression firstPlace secondPlace walkedTo readWalked Below
+answer-one s w none b e h f = rw f
+answer-one s w (and x none) b e h f = settled x (judgeRoot x) (w .next) (nodesOf x) (bytesOf x) (f .0) refl refl
+answer-one s w (and x (and y es)) b e h f = absurd (omega (arith, b .1 .0))
 
 -- A root that is a document is judged by what follows its name.
 judge-document : (q : ℕ) (lead : Expr) (rest : Exprs) → leadClass lead ≡ 1 → judgeRoot (list q (and lead rest)) ≡ finish q 1 (run q 1 (start 1) rest)
@@ -320,38 +323,44 @@ document-bytes : (q : ℕ) (lead : Expr) (rest : Exprs) → leadClass lead ≡ 1
 unfolding bytesOf Class.isElement Class.isKind
 document-bytes q lead rest e = rw e (omega arith)
 
-answer-document : (n q : ℕ) (lead : Expr) (rest : Exprs) {es : Exprs} {w : Walked} (m : ℕ) → es ≡ and (list q (and lead rest)) none → leadClass lead ≡ 1
-    → w ≡ walkedTo m (1 + nodesIn rest) (0 + bytesIn rest) (finish q 1 (run q 1 (start 1) rest))
-    → record { number = w .number; place = w .place; next = 0; nodes = w .nodes; pool = w .pool } ≡ readWalked (oneExpression nested n es)
-unfolding oneExpression
-answer-document n q lead rest m e c h =
-    rw (e, judge-document q lead rest c)
-    (settled (list q (and lead rest)) (finish q 1 (run q 1 (start 1) rest)) m (1 + nodesIn rest) (0 + bytesIn rest) h
-    (document-nodes q lead rest c) (document-bytes q lead rest c))
+judge-no-document : (x : Expr) → (exprClass x ≡ 1 → ⊥) → judgeRoot x ≡ fault 8 (place x)
+unfolding judgeRoot
+judge-no-document x c = rw (ne-eqb (exprClass x) 1 c)
 
--- The ways out of the judging, where `other` is the place of the second expression.
+-- The ways out of the judging of the first expression.
 module _ {s : List ℕ} {sort q c j l : ℕ} (looked : Looked s 0 sort q c j l) where
-  pub judge-none : sort ≡ 0 → (es : Exprs) → Stands s 0 es (length s) → walkedTo 0 0 0 (fault 7 (length s)) ≡ readWalked (oneExpression nested (length s) es)
-  judge-none z es t = answer-none (length s) (looked-end looked t z .0)
+  pub first-none : sort ≡ 0 → (es : Exprs) → Stands s 0 es (length s) → FirstJudged s es (walkedTo 0 0 0 (fault 7 (length s)))
+  first-none z es t = rw (looked-end looked t z .0) refl
 
-  module _ {other : ℕ} (some : sort ≡ 0 → ⊥) (second : (es : Exprs) → Stands s 0 es (length s) → other ≡ secondPlace (length s) es) where
-    pub judge-two : other < length s → (es : Exprs) → Stands s 0 es (length s) → walkedTo 0 0 0 (fault 7 other) ≡ readWalked (oneExpression nested (length s) es)
-    judge-two h es t = answer-two (length s) es (second es t) h
-
-    pub judge-other : length s ≤ other → (c ≡ 1 → ⊥) → (es : Exprs) → Stands s 0 es (length s)
-        → walkedTo 0 0 0 (fault 8 q) ≡ readWalked (oneExpression nested (length s) es)
-    judge-other h d es t =
+  module _ (some : sort ≡ 0 → ⊥) where
+    pub first-other : (c ≡ 1 → ⊥) → (es : Exprs) → Stands s 0 es (length s) → FirstJudged s es (walkedTo 0 0 0 (fault 8 q))
+    unfolding walkedTo
+    first-other d es t =
         let f = looked-first looked t some .0 in
-        answer-no-document (length s) (f .first) (alone (length s) es (f .made) (below t) (second es t) h) (f .placed) (λ e. d (sym (f .of-class) ∙ e))
+        rw (f .made) (rw (judge-no-document (f .first) (λ e. d (sym (f .of-class) ∙ e)), f .placed) refl, λ z. absurd (omega (arith, z)))
 
-    pub judge-stuck : j ≡ 0 → (es : Exprs) → Stands s 0 es (length s) → walkedTo 0 0 0 (fault 8 q) ≡ readWalked (oneExpression nested (length s) es)
-    judge-stuck h es t = absurd (omega (arith, looked-first looked t some .1))
+    pub first-stuck : (w : Walked) → j ≡ 0 → (es : Exprs) → Stands s 0 es (length s) → FirstJudged s es w
+    first-stuck w h es t = absurd (omega (arith, looked-first looked t some .1))
 
-    pub judge-root : length s ≤ other → c ≡ 1 → {w : Walked}
+    -- w is the walk's answer, and r that past the closing bracket.
+    pub first-root : c ≡ 1 → {w r : Walked} → 0 < j → Bounded s j w
         → ((es : Exprs) (e : ℕ) → Stands s j es e → w ≡ walkedTo e (1 + nodesIn es) (0 + bytesIn es) (finish q 1 (run q 1 (start 1) es)))
-        → (es : Exprs) → Stands s 0 es (length s)
-        → record { number = w .number; place = w .place; next = 0; nodes = w .nodes; pool = w .pool } ≡ readWalked (oneExpression nested (length s) es)
-    judge-root h d {w} walked es t =
+        → r ≡ pastBracket (length s) w → (es : Exprs) → Stands s 0 es (length s) → FirstJudged s es r
+    first-root d {w} {r} h bounded walked past es t =
         let o = looked-document looked t some d in
-        answer-document (length s) q (o .lead) (o .rest) (o .end) (alone (length s) es (o .made) (below t) (second es t) h) (o .of-class ∙ d)
-        (walked (o .rest) (o .end) (o .follows))
+        let root : leadClass (o .lead) ≡ 1 = o .of-class ∙ d in
+        let e = past-by bounded past (o .end) (1 + nodesIn (o .rest)) (0 + bytesIn (o .rest)) _ (walked (o .rest) (o .end) (o .follows)) (o .closed .inside) h in
+        rw (o .made) (
+          rw (judge-document q (o .lead) (o .rest) root, document-nodes q (o .lead) (o .rest) root, document-bytes q (o .lead) (o .rest) root) (e .0),
+          λ z. rw (e .1 z) (o .goes-on),
+        )
+
+-- The ways out of the judging of a text, where `other` is the place of the second expression.
+module _ {s : List ℕ} {other : ℕ} (w : Walked) (first : (es : Exprs) → Stands s 0 es (length s) → FirstJudged s es w)
+    (second : (es : Exprs) → Stands s 0 es (length s) → FirstJudged s es w → other ≡ secondPlace (length s) es) where
+  pub judge-two : other < length s → (es : Exprs) → Stands s 0 es (length s) → walkedTo 0 0 0 (fault 7 other) ≡ readWalked (oneExpression nested (length s) es)
+  judge-two h es t = answer-two (length s) es (second es t (first es t)) h
+
+  pub judge-one : length s ≤ other → (es : Exprs) → Stands s 0 es (length s)
+      → record { number = w .number; place = w .place; next = 0; nodes = w .nodes; pool = w .pool } ≡ readWalked (oneExpression nested (length s) es)
+  judge-one h es t = answer-one s w es (below t) (second es t (first es t)) h (first es t)

@@ -1,18 +1,20 @@
 -- What the fill of a run of expressions leaves in the lent memory. It serves the contracts of private functions.
-use Prim.Native.Nat.{ℕ, _+_, _*_, _≤_}
+use Prim.Native.Nat.{ℕ, _+_, _*_, _≤_, _<_}
 use mathlib.Core.Path.{_≡_}
 use mathlib.Core.Bool.{Bool, true, false, _&&_, _||_}
 use mathlib.Core.Logic.{_⊎_}
 use mathlib.Core.List.{List, [], _∷_, _++_}
 use lib.Dec.{eqb, leb}
-use lib.ListN.{length, set}
+use lib.ListN.{length, drop, set}
 use lib.Seq.{sets}
 use Rattle.elements.specs.Class as Class
 use Rattle.syntax.specs.Expression.{Expr, symbol, quoted, list, Exprs, none, and}
 use Rattle.document.specs.Document.{Nodes, sayAll, keyIn, typeIn, widthIn, heightIn}
 use Rattle.document.specs.Spelling.{leadClass, exprClass}
-use Rattle.document.specs.Meaning.{fine, judge, treesOf, allPlaces}
+use Rattle.document.specs.Meaning.{fine, judge, judgeList, treesOf, allPlaces, textBytes, onlyOne}
 use Rattle.document.specs.Table.{countAll, poolAll, rowsAll, offset}
+use Rattle.lexer.specs.Token.{atomValue}
+use Rattle.reader.specs.Stands.{Stands}
 
 -- How far a fill has got: the numbers of the next node and the next pool byte, and the lent memory.
 pub record Filling : Type 0 where
@@ -92,3 +94,29 @@ pub data Picks (a b : ℕ) : Exprs → Exprs → Type 0 where
       → Picks a b (and (list at (and lead inner)) es) inner
   later : {at : ℕ} {lead : Expr} {inner es p : Exprs} → (leadClass lead ≡ a → ⊥) → (leadClass lead ≡ b → ⊥) → isFlat (leadClass lead) ≡ true
       → Atoms inner → Picks a b es p → Picks a b (and (list at (and lead inner)) es) p
+
+-- At place v stands the one symbol or string p, or nothing of either.
+abbrev pub TextAt : List ℕ → ℕ → Exprs → Type 0
+TextAt s v p = OneText p → atomValue (drop v s) ≡ onlyOne textBytes p
+
+-- From place v on stands the run p.
+abbrev pub RunAt : List ℕ → ℕ → Exprs → Type 0
+RunAt s v p = (m : ℕ) × Stands s v p m
+
+-- What the one list of class a or b holds, in a run from place i on, is at v, in the sense of At.
+abbrev pub Finds : (ℕ → Exprs → Type 0) → List ℕ → ℕ → ℕ → ℕ → ℕ → Type 0
+Finds At s a b i v = (es p : Exprs) (e : ℕ) → Stands s i es e → Picks a b es p → At v p
+
+-- The key and the type of an element that holds es are the symbols or strings at these places, and these are its width and height.
+pub record ValuesOf (s : List ℕ) (es : Exprs) (key type width height : ℕ) : Type 0 where
+  pub key-at : atomValue (drop key s) ≡ keyIn (treesOf es)
+  pub type-at : atomValue (drop type s) ≡ typeIn (treesOf es)
+  pub width-is : widthIn (treesOf es) ≡ width
+  pub height-is : heightIn (treesOf es) ≡ height
+
+-- Between a and z the element of a kind whose bracket is at `at` was written, with all that it holds from `from` on; `next` is the place after it.
+abbrev pub ElementFilled : List ℕ → ℕ → ℕ → ℕ → ℕ → ℕ → Filling → Filling → Type 0
+ElementFilled s at from kind parent next a z =
+    (lead : Expr) (es : Exprs) (m k : ℕ) → Stands s from es m → m < length s → leadClass lead ≡ kind → Class.isElement kind ≡ true
+    → judgeList k at (and lead es) ≡ fine → Fits32 (a .bytes) (and (list at (and lead es)) none)
+    → (next ≡ m + 1) × Wrote parent (and (list at (and lead es)) none) a z

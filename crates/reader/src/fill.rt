@@ -5,22 +5,22 @@ use super::walk::is_element;
 use lexer::look;
 use lexer::put_atom;
 ghost use mathlib.Core.Path.{_≡_};
-ghost use mathlib.Core.Bool.{true, false, cond};
+ghost use mathlib.Core.Bool.{true, false, cond, _&&_, _||_};
 ghost use mathlib.Core.List.{[], _∷_, _++_};
 ghost use Prim.Native.Nat.{ℕ, _+_, _*_, _-_, _≤_, _<_};
 ghost use lib.Dec.{T, eqb};
 ghost use lib.ListN.{length, drop, set, take};
 ghost use lib.Seq.{sets};
-ghost use Rattle.elements.specs.Inside.{start};
+ghost use Rattle.elements.specs.Inside.{State, start};
 ghost use Rattle.syntax.specs.Expression.{Expr, Exprs, none, and};
 ghost use Rattle.lexer.specs.Token.{atomValue};
 ghost use Rattle.document.specs.Value.{decimalAfter};
 ghost use Rattle.document.specs.Document.{keepsRules, keyIn, typeIn};
 ghost use Rattle.document.specs.Document as Document;
-ghost use Rattle.document.specs.Meaning.{textBytes, onlyOne, sizeTree, treesOf, fine, finish, run};
+ghost use Rattle.document.specs.Meaning.{sizeTree, treesOf, fine, finish, run};
 ghost use Rattle.document.specs.Table.{offset};
 ghost use Rattle.reader.specs.Stands.{Stands};
-ghost use Rattle.reader.specs.Filling.{Filling, Wrote, Began, EachFine, Fits32, isFlat, Atoms, OneText, Picks};
+ghost use Rattle.reader.specs.Filling.{Filling, Wrote, Began, EachFine, Fits32, isFlat, Atoms, TextAt, RunAt, Finds, ValuesOf, ElementFilled};
 
 // Where the fill has got to in the text, and the numbers of the next node and the next pool byte.
 // `more` is 0 where the run has ended.
@@ -129,51 +129,105 @@ fn skip(text: &[u8], from: usize) -> usize
     }
 }
 
-// The place after the name of the one list of class a or b in a run, where the flat lists at its front
-// may hold it; the end of the text where there is none.
-fn find(text: &[u8], from: usize, a: u8, b: u8) -> usize
-    requires { ⌜ (from ≤ length (now text)) × (0 < a) × (0 < b) ⌝ }
-    ensures { λ r. ⌜ (r ≤ length (now (text .entry)))
-        × ((es p : Exprs) (e : ℕ) → Stands (now (text .entry)) from es e → Picks a b es p
-        → (m : ℕ) × Stands (now (text .entry)) r p m) ⌝ }
+// The place of the first of the symbols and strings of a list, or of its closing bracket where it has none, and the place after
+// that bracket.
+struct Flat {
+    first: usize,
+    next: usize,
+}
+
+fn flat_list(text: &[u8], from: usize) -> Flat
+    requires { ⌜ from ≤ length (now text) ⌝ }
+    ensures { λ r. ⌜ (from ≤ r .next) × (r .next ≤ length (now (text .entry)))
+        × ((es : Exprs) (m : ℕ) → Stands (now (text .entry)) from es m → (r .first ≤ m) × TextAt (now (text .entry)) (r .first) es
+        × (Atoms es → m < length (now (text .entry)) → r .next ≡ m + 1)) ⌝ }
 {
-    let mut i = from;
-    loop {
-        let seen = look(text, i);
-        let sort = seen.sort;
-        let class = seen.class;
-        let next = seen.next;
-        if sort != 3 {
-            return text.len();
-        }
-        if next <= i {
-            return text.len();
-        }
-        if class == a {
-            return next;
-        }
-        if class == b {
-            return next;
-        }
-        if !is_flat(class) {
-            return text.len();
-        }
-        i = skip(text, next);
+    let held = look(text, from);
+    let first = held.place;
+    if held.sort == 0 {
+        return Flat {
+            first,
+            next: after(text, first),
+        };
+    }
+    let next = held.next;
+    if next <= from {
+        return Flat { first, next: from };
+    }
+    Flat {
+        first,
+        next: skip(text, next),
     }
 }
 
-// The place of the symbol or string that the one list of class a or b holds; the end of the text where there is none.
-fn value_place(text: &[u8], from: usize, a: u8, b: u8) -> usize
-    requires { ⌜ (from ≤ length (now text)) × (0 < a) × (0 < b) ⌝ }
-    ensures { λ r. ⌜ ((es p : Exprs) (e : ℕ) → Stands (now (text .entry)) from es e → Picks a b es p → OneText p
-        → atomValue (drop r (now (text .entry))) ≡ onlyOne textBytes p) ⌝ }
+// The places of the symbols or strings that an element has as its key and its type, and the place after the name of its size;
+// the end of the text where there is none.
+struct Values {
+    key: usize,
+    typename: usize,
+    size: usize,
+}
+
+// What was found first, where `end` says that nothing was found yet: now a list of this class, which is one of a and b or is not.
+fn found_first(found: usize, end: usize, class: u8, a: u8, b: u8, place: usize) -> usize
+    ensures { λ r. ⌜ r ≡ cond (eqb found end && (eqb class a || eqb class b)) place found ⌝ }
 {
-    let seen = look(text, find(text, from, a, b));
-    let sort = seen.sort;
-    if sort == 0 {
-        return text.len();
+    if found != end {
+        return found;
     }
-    seen.place
+    if class == a {
+        return place;
+    }
+    if class == b {
+        return place;
+    }
+    found
+}
+
+// The values of a run, where the flat lists at its front may hold them.
+fn find_values(text: &[u8], from: usize) -> Values
+    requires { ⌜ from ≤ length (now text) ⌝ }
+    ensures { λ r. ⌜ (r .size ≤ length (now (text .entry)))
+        × Finds (TextAt (now (text .entry))) (now (text .entry)) 26 28 from (r .key)
+        × Finds (TextAt (now (text .entry))) (now (text .entry)) 27 27 from (r .typename)
+        × Finds (RunAt (now (text .entry))) (now (text .entry)) 29 29 from (r .size) ⌝ }
+{
+    let end = text.len();
+    let mut i = from;
+    let mut key = end;
+    let mut typename = end;
+    let mut size = end;
+    loop {
+        let seen = look(text, i);
+        let class = seen.class;
+        let next = seen.next;
+        if seen.sort != 3 {
+            return Values {
+                key,
+                typename,
+                size,
+            };
+        }
+        if next <= i {
+            return Values {
+                key,
+                typename,
+                size,
+            };
+        }
+        if !is_flat(class) {
+            return Values {
+                key,
+                typename,
+                size,
+            };
+        }
+        let held = flat_list(text, next);
+        key = found_first(key, end, class, 26, 28, held.first);
+        typename = found_first(typename, end, class, 27, 27, held.first);
+        size = found_first(size, end, class, 29, 29, next);
+        i = held.next;
+    }
 }
 
 // The number that the digits from a place on stand for.
@@ -204,6 +258,15 @@ fn digit(b: u8) -> u32
     (b - 48) as u32
 }
 
+fn square(n: u32) -> Extent
+    ensures { λ r. ⌜ (r .width ≡ n) × (r .height ≡ n) ⌝ }
+{
+    Extent {
+        width: n,
+        height: n,
+    }
+}
+
 // The width and height of the size whose numbers stand from a place on; 4,294,967,295 where none stand there.
 fn measures(text: &[u8], from: usize) -> Extent
     requires { ⌜ from ≤ length (now text) ⌝ }
@@ -211,38 +274,67 @@ fn measures(text: &[u8], from: usize) -> Extent
         → (es ≡ none → (r .width ≡ 4294967295) × (r .height ≡ 4294967295))
         × (T (keepsRules 0 (sizeTree es)) → sizeTree es ≡ Document.size (r .width) (r .height))) ⌝ }
 {
+    if text.len() <= from {
+        return square(4294967295);
+    }
     let first = look(text, from);
     let sort = first.sort;
     let next = first.next;
     if sort != 1 {
-        return Extent {
-            width: 4294967295,
-            height: 4294967295,
-        };
+        return square(4294967295);
     }
     if next <= from {
-        return Extent {
-            width: 0,
-            height: 0,
-        };
+        return square(0);
     }
     let second = look(text, next);
     let after = second.next;
     if after <= next {
-        return Extent {
-            width: 0,
-            height: 0,
-        };
+        return square(0);
     }
     if second.sort != 1 {
-        return Extent {
-            width: 0,
-            height: 0,
-        };
+        return square(0);
     }
     Extent {
         width: number(text, first.place, first.length),
         height: number(text, second.place, second.length),
+    }
+}
+
+// Title, the lists and their items, and the parts of a table have no parameters.
+fn has_parameters(kind: u8) -> bool
+    ensures { λ r. ⌜ (r ≡ false → start kind ≡ State.expecting []) ⌝ }
+{
+    match kind {
+        8 | 16 | 17 | 18 | 20 | 21 | 22 | 23 | 24 | 25 => false,
+        _ => true,
+    }
+}
+
+// What an element holds besides its children: the places of its key and its type in the text, and its size.
+struct Held {
+    key: usize,
+    typename: usize,
+    size: Extent,
+}
+
+// The values of an element of a kind that holds the run from a place on.
+fn values_of(text: &[u8], from: usize, kind: u8) -> Held
+    requires { ⌜ from ≤ length (now text) ⌝ }
+    ensures { λ r. ⌜ ((es : Exprs) (e at : ℕ) → Stands (now (text .entry)) from es e → finish at kind (run at kind (start kind) es) ≡ fine
+        → ValuesOf (now (text .entry)) es (r .key) (r .typename) (r .size .width) (r .size .height)) ⌝ }
+{
+    if !has_parameters(kind) {
+        return Held {
+            key: text.len(),
+            typename: text.len(),
+            size: square(4294967295),
+        };
+    }
+    let found = find_values(text, from);
+    Held {
+        key: found.key,
+        typename: found.typename,
+        size: measures(text, found.size),
     }
 }
 
@@ -261,6 +353,39 @@ fn put_four(words: &mut [u32], at: usize, a: u32, b: u32, c: u32, d: u32)
 {
     put_three(words, at, a, b, c);
     put(words, at + 3, d);
+}
+
+// The eleven words of a node from a place on, where all have room: stores with no test for each.
+fn store_row(
+    nodes: &mut [u32],
+    at: usize,
+    kind: u32,
+    parent: u32,
+    end: u32,
+    key: u32,
+    keylength: u32,
+    typename: u32,
+    typelength: u32,
+    text: u32,
+    textlength: u32,
+    width: u32,
+    height: u32,
+)
+    requires { ⌜ at + 11 ≤ length (now nodes) ⌝ }
+    ensures { λ _. ⌜ now (nodes .exit) ≡ sets (now (nodes .entry)) at
+        (kind ∷ parent ∷ end ∷ key ∷ keylength ∷ typename ∷ typelength ∷ text ∷ textlength ∷ width ∷ height ∷ []) ⌝ }
+{
+    nodes[at] = kind;
+    nodes[at + 1] = parent;
+    nodes[at + 2] = end;
+    nodes[at + 3] = key;
+    nodes[at + 4] = keylength;
+    nodes[at + 5] = typename;
+    nodes[at + 6] = typelength;
+    nodes[at + 7] = text;
+    nodes[at + 8] = textlength;
+    nodes[at + 9] = width;
+    nodes[at + 10] = height;
 }
 
 // "kind; parent; end; offset and length in the pool of id or target; of type; of text; image width; height"
@@ -284,6 +409,24 @@ fn put_row(
         (kind ∷ parent ∷ end ∷ key ∷ keylength ∷ typename ∷ typelength ∷ text ∷ textlength ∷ width ∷ height ∷ []) ⌝ }
 {
     let at = 11 * node;
+    if at + 11 <= nodes.len() {
+        store_row(
+            nodes,
+            at,
+            kind,
+            parent,
+            end,
+            key,
+            keylength,
+            typename,
+            typelength,
+            text,
+            textlength,
+            width,
+            height,
+        );
+        return;
+    }
     put_four(nodes, at, kind, parent, end, key);
     put_four(nodes, at + 4, keylength, typename, typelength, text);
     put_three(nodes, at + 8, textlength, width, height);
@@ -402,15 +545,14 @@ pub fn begin(
         → Began kind parent place es (record { node = node; bytes = bytes; words = now (nodes .entry); places = now (places .entry); pool = now (pool .entry) })
         (record { node = node + 1; bytes = r; words = now (nodes .exit); places = now (places .exit); pool = now (pool .exit) })) ⌝ }
 {
-    let key = value_place(text, next, 26, 28);
-    let typename = value_place(text, next, 27, 27);
-    let size = measures(text, find(text, next, 29, 29));
+    let held = values_of(text, next, kind);
+    let size = held.size;
     head(
         text,
         place,
         kind,
-        key,
-        typename,
+        held.key,
+        held.typename,
         size,
         parent,
         node,
@@ -481,7 +623,7 @@ pub fn one(
             pool: bytes,
         };
     }
-    let begun = begin(
+    fill_element(
         text,
         place,
         next,
@@ -492,10 +634,43 @@ pub fn one(
         nodes,
         places,
         pool,
+    )
+}
+
+// The element of a kind whose bracket is at a place, with all that it holds from `from` on.
+fn fill_element(
+    text: &[u8],
+    place: usize,
+    from: usize,
+    kind: u8,
+    parent: u32,
+    node: usize,
+    bytes: usize,
+    nodes: &mut [u32],
+    places: &mut [u32],
+    pool: &mut [u8],
+) -> Filled
+    requires { ⌜ (place ≤ 65536) × (from ≤ length (now text)) × (length (now text) ≤ 65536) × (node < from) × (bytes ≤ 4294967295) ⌝ }
+    ensures { λ r. ⌜ (r .more ≡ 1) × (from ≤ r .next) × (r .next ≤ length (now (text .entry))) × (r .nodes ≤ r .next) × (r .pool ≤ 4294967295)
+        × ElementFilled (now (text .entry)) place from kind parent (r .next)
+        (record { node = node; bytes = bytes; words = now (nodes .entry); places = now (places .entry); pool = now (pool .entry) })
+        (record { node = r .nodes; bytes = r .pool; words = now (nodes .exit); places = now (places .exit); pool = now (pool .exit) }) ⌝ }
+{
+    let begun = begin(
+        text,
+        place,
+        from,
+        kind,
+        parent,
+        node,
+        bytes,
+        nodes,
+        places,
+        pool,
     );
     let inside = fill(
         text,
-        next,
+        from,
         node as u32,
         node + 1,
         begun,

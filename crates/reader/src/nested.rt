@@ -1,6 +1,7 @@
 // Judging a nested text that was scanned: first 7, for no expression or a second one, then 8 to 12 of the one there is.
 use super::walk::Walked;
 use super::walk::element;
+use super::walk::past_bracket;
 use super::walk::refusal;
 use lexer::look;
 ghost use mathlib.Core.Path.{_≡_};
@@ -10,7 +11,7 @@ ghost use Rattle.syntax.specs.Expression.{Expr, Exprs, and};
 ghost use Rattle.document.specs.Spelling.{nested};
 ghost use Rattle.document.specs.Answer.{oneExpression};
 ghost use Rattle.reader.specs.Stands.{Stands};
-ghost use Rattle.reader.specs.Second.{secondPlace};
+ghost use Rattle.reader.specs.Second.{firstPlace, secondPlace, FirstJudged};
 ghost use Rattle.reader.specs.Walked.{readWalked};
 
 // Where the run of expressions from a place on ends, whatever its lists hold.
@@ -70,6 +71,17 @@ fn past_first(text: &[u8], from: usize) -> usize
     end + 1
 }
 
+// The place of the first expression from a place on, and the text's length where there is none.
+fn first_place(text: &[u8], from: usize) -> usize
+    ensures { λ r. ⌜ ((es : Exprs) → Stands (now (text .entry)) from es (length (now (text .entry))) → r ≡ firstPlace (length (now (text .entry))) es) ⌝ }
+{
+    let seen = look(text, from);
+    if seen.sort == 0 {
+        return text.len();
+    }
+    seen.place
+}
+
 // The place of the second expression of a text, and the text's length where there is none.
 fn second(text: &[u8]) -> usize
     ensures { λ r. ⌜ ((es : Exprs) → Stands (now (text .entry)) 0 es (length (now (text .entry))) → r ≡ secondPlace (length (now (text .entry))) es) ⌝ }
@@ -78,25 +90,27 @@ fn second(text: &[u8]) -> usize
     if first.sort == 0 {
         return text.len();
     }
-    let seen = look(text, past_first(text, 0));
-    if seen.sort == 0 {
-        return text.len();
-    }
-    seen.place
+    first_place(text, past_first(text, 0))
 }
 
-// 7 to 12, or the counts of the document; the root counts as one node.
-pub fn judge_nested(text: &[u8]) -> Walked
-    ensures { λ r. ⌜ ((es : Exprs) → Stands (now (text .entry)) 0 es (length (now (text .entry)))
-        → r ≡ readWalked (oneExpression nested (length (now (text .entry))) es)) ⌝ }
+// The same where the first expression was answered by w. One with no fault need not be passed over again.
+fn second_after(text: &[u8], w: Walked) -> usize
+    ensures { λ r. ⌜ ((es : Exprs) → Stands (now (text .entry)) 0 es (length (now (text .entry))) → FirstJudged (now (text .entry)) es w
+        → r ≡ secondPlace (length (now (text .entry))) es) ⌝ }
+{
+    if w.number == 0 {
+        return first_place(text, w.next);
+    }
+    second(text)
+}
+
+// 7 for no expression, or 8 to 12 of the first one, whatever follows it. The root counts as one node.
+fn judge_first(text: &[u8]) -> Walked
+    ensures { λ r. ⌜ ((es : Exprs) → Stands (now (text .entry)) 0 es (length (now (text .entry))) → FirstJudged (now (text .entry)) es r) ⌝ }
 {
     let root = look(text, 0);
     if root.sort == 0 {
         return refusal(7, text.len());
-    }
-    let other = second(text);
-    if other < text.len() {
-        return refusal(7, other);
     }
     let place = root.place;
     let next = root.next;
@@ -107,7 +121,19 @@ pub fn judge_nested(text: &[u8]) -> Walked
     if next == 0 {
         return refusal(8, place);
     }
-    let w = element(text, place, next, 1, 1, 0);
+    past_bracket(text, element(text, place, next, 1, 1, 0))
+}
+
+// 7 to 12, or the counts of the document. 7 comes before 8 to 12; but the walk over the root comes first, since it finds the root's end.
+pub fn judge_nested(text: &[u8]) -> Walked
+    ensures { λ r. ⌜ ((es : Exprs) → Stands (now (text .entry)) 0 es (length (now (text .entry)))
+        → r ≡ readWalked (oneExpression nested (length (now (text .entry))) es)) ⌝ }
+{
+    let w = judge_first(text);
+    let other = second_after(text, w);
+    if other < text.len() {
+        return refusal(7, other);
+    }
     Walked {
         number: w.number,
         place: w.place,

@@ -1,5 +1,6 @@
 pub mod Rows
 pub mod Walk
+pub mod Ascii
 pub mod Column
 pub mod Decode
 pub mod Agree

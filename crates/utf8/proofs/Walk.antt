@@ -10,7 +10,7 @@ use lib.Seq.{drop-drop}
 use Rattle.utf8.specs.Sequence.{Range, within, begins, forms, firstForm, sequenceLength, validFrom}
 use Rattle.laws.proofs.Booleans.{cond-case, both, true-T}
 
-begins-fits : (f : List Range) (s : List ℕ) → T (begins f s) → length f ≤ length s
+pub begins-fits : (f : List Range) (s : List ℕ) → T (begins f s) → length f ≤ length s
 unfolding begins
 begins-fits [] s t = zero-le
 begins-fits (r ∷ rs) [] t = absurd t

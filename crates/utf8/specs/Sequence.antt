@@ -5,7 +5,7 @@ use mathlib.Core.Bool.{Bool, true, false, cond, _&&_}
 use mathlib.Core.List.{List, [], _∷_}
 use lib.Count.{leadingZeros}
 use lib.Dec.{leb}
-use lib.ListN.{length}
+use lib.ListN.{length, replicate}
 
 -- "A multi-byte sequence's first byte has as many leading one bits as the sequence has bytes": the leading zeros of the complement.
 unfoldable pub leadingOnes : ℕ → ℕ
@@ -40,6 +40,10 @@ unfoldable pub begins : List Range → List ℕ → Bool
 begins [] text = true
 begins (r ∷ rs) [] = false
 begins (r ∷ rs) (b ∷ text) = within r b && begins rs text
+
+-- The first n bytes of the text are below 0x80.
+unfoldable pub beginsAscii : ℕ → List ℕ → Bool
+beginsAscii n text = begins (replicate n (to 0x00 0x7F)) text
 
 unfoldable pub firstForm : List (List Range) → List ℕ → ℕ
 firstForm [] text = 0

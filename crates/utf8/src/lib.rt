@@ -3,10 +3,10 @@
 ghost use mathlib.Core.Path.{_≡_};
 ghost use mathlib.Core.Bool.{cond};
 ghost use mathlib.Core.List.{[], _∷_};
-ghost use Prim.Native.Nat.{min};
+ghost use Prim.Native.Nat.{_+_, _≤_, min};
 ghost use lib.Dec.{eqb};
-ghost use lib.ListN.{drop};
-ghost use Rattle.utf8.specs.Sequence.{begins, leadingOnes, sequenceLength, to, validUpTo};
+ghost use lib.ListN.{drop, length};
+ghost use Rattle.utf8.specs.Sequence.{begins, beginsAscii, leadingOnes, sequenceLength, to, validUpTo};
 ghost use Rattle.utf8.specs.Position.{columnOf, isContinuation, lineOf};
 
 pub struct LineColumn {
@@ -96,12 +96,47 @@ pub fn sequence_length(text: &[u8], place: usize) -> usize
     4
 }
 
-// The place of the first ill-formed sequence, and the text's length where there is none.
+// Whether the eight bytes from a place on are ASCII; `&`, which reads them all, has them compared at once.
+fn ascii_8(text: &[u8], place: usize) -> bool
+    requires { ⌜ place + 8 ≤ length (now text) ⌝ }
+    ensures { λ r. ⌜ r ≡ beginsAscii 8 (drop place (now (text .entry))) ⌝ }
+{
+    (text[place] < 0x80)
+        & (text[place + 1] < 0x80)
+        & (text[place + 2] < 0x80)
+        & (text[place + 3] < 0x80)
+        & (text[place + 4] < 0x80)
+        & (text[place + 5] < 0x80)
+        & (text[place + 6] < 0x80)
+        & (text[place + 7] < 0x80)
+}
+
+// Whether sixteen ASCII bytes stand from a place on.
+fn ascii_16(text: &[u8], place: usize) -> bool
+    requires { ⌜ place ≤ length (now text) ⌝ }
+    ensures { λ r. ⌜ r ≡ beginsAscii 16 (drop place (now (text .entry))) ⌝ }
+{
+    if text.len() - place < 16 {
+        return false;
+    }
+    ascii_8(text, place) & ascii_8(text, place + 8)
+}
+
+// The place of the first ill-formed sequence, and the text's length where there is none. Most text is ASCII,
+// whose bytes are sequences by themselves.
 pub fn valid_up_to(text: &[u8]) -> usize
     ensures { λ r. ⌜ r ≡ validUpTo (now (text .entry)) ⌝ }
 {
     let mut i = 0;
     while i < text.len() {
+        if ascii_16(text, i) {
+            i += 16;
+            continue;
+        }
+        if text[i] < 0x80 {
+            i += 1;
+            continue;
+        }
         let n = sequence_length(text, i);
         if n == 0 {
             return i;

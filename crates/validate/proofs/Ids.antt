@@ -16,7 +16,7 @@ use Rattle.document.specs.WellFormed.{nowhere, at-node, Entry, hasId, isAmong, 
 use Rattle.table.specs.Stored.{wordAt}
 use Rattle.validate.specs.Words.{keyAt, entryAt, entriesFrom, wanted, idsBefore, repeatsAt, danglesAt}
 
-and-both : (a b : Bool) → a && b ≡ true → (a ≡ true) × (b ≡ true)
+pub and-both : (a b : Bool) → a && b ≡ true → (a ≡ true) × (b ≡ true)
 and-both true b e = (refl, e)
 and-both false b e = (e, cc)
 

@@ -1,4 +1,5 @@
 pub mod Ids
+pub mod Slots
 pub mod Children
 pub mod Rows
 pub mod Tables

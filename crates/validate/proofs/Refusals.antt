@@ -5,6 +5,7 @@ use mathlib.Core.Bool.{Bool, true, false, not}
 use Rattle.laws.proofs.Booleans.{false-not-T}
 use mathlib.Core.List.{List}
 use native.Mathlib.Omega.{arith}
+use lib.Dec.{leb→le}
 use lib.ListN.{length, take}
 use lib.Seq.{length-take-le, take-all}
 use Rattle.document.specs.Document.{Node}
@@ -30,6 +31,9 @@ module _ (words : List ℕ) (n : ℕ) (bytes : List ℕ) (m : ℕ) where
   module _ (hn : recordLength * n ≤ length words) (hm : m ≤ length bytes) (d : Node) (x : IsDraft d (take (recordLength * n) words) (take m bytes)) where
     counted : count d ≡ n
     counted = omega (arith, table-length d, ap length (x .node-words), length-take-le (recordLength * n) words hn)
+
+    pub few-nodes : n ≤ 4096
+    few-nodes = omega (arith, leb→le (count d) 4096 (x .few-nodes), counted)
 
     pub held : Holds (take (recordLength * n) words) n (take m bytes) d
     held =

@@ -1,4 +1,10 @@
 // Faults 15 to 18 of the document that a table has (document 01, "Numbers answered").
+use super::index::ANY;
+use super::index::MOST_NODES;
+use super::index::enter;
+use super::index::has_id;
+use super::index::known;
+use super::index::slot;
 use kind::Kind;
 use table::END;
 use table::KEY;
@@ -7,18 +13,17 @@ use table::PARENT;
 use table::string;
 use table::word;
 ghost use mathlib.Core.Path.{_≡_};
-ghost use mathlib.Core.Bool.{Bool, _&&_};
+ghost use mathlib.Core.Bool.{Bool, false};
 ghost use mathlib.Core.List.{[]};
-ghost use Rattle.elements.specs.Bytes.{same};
+ghost use Prim.Native.Nat.{_+_, _≤_, _<_};
 ghost use Rattle.document.specs.Document.{Node, Nodes};
-ghost use Rattle.document.specs.WellFormed.{First, Cells, childCount, cellsIn, isAmong, hasId, repeatedId, unknownTarget, check};
+ghost use Rattle.document.specs.WellFormed.{First, Cells, childCount, cellsIn, repeatedId, unknownTarget, check};
 ghost use Rattle.validate.specs.Checked.{checkNumber, checkNode, Holds};
 ghost use Rattle.table.specs.Stored.{wordAt};
-ghost use Rattle.validate.specs.Words.{keyAt, entryAt, entriesFrom, wanted, idsBefore, repeatsAt, danglesAt, found, cellsFound, Family, Below, Binder, Spot, Searched};
+ghost use Rattle.validate.specs.Index.{Indexed};
+ghost use Rattle.validate.specs.Words.{entriesFrom, idsBefore, repeatsAt, danglesAt, found, cellsFound, Family, Below, Binder, Spot, Searched};
 
-// The kinds that the check looks at, as words. Blocks are the kinds from document to footnote.
-const DOCUMENT: usize = Kind::DOCUMENT.number as usize;
-
+// The kinds that the check looks at, as words.
 const FOOTNOTE: usize = Kind::FOOTNOTE.number as usize;
 
 const LINK: usize = Kind::LINK.number as usize;
@@ -33,9 +38,6 @@ const BODY: usize = Kind::BODY.number as usize;
 
 const ROW: usize = Kind::ROW.number as usize;
 
-// Stands for blocks of any kind.
-const ANY: usize = 0;
-
 // A fault 15 to 18 with the number of the first node that has it; number 0 where there is none.
 pub struct Fault {
     pub number: u32,
@@ -48,73 +50,45 @@ enum Found {
     Nothing,
 }
 
-fn equal(a: &[u8], b: &[u8]) -> bool
-    ensures { λ r. ⌜ r ≡ same (now (a .entry)) (now (b .entry)) ⌝ }
-{
-    if a.len() != b.len() {
-        return false;
-    }
-    let mut i = 0;
-    while i < a.len() {
-        if a[i] != b[i] {
-            return false;
-        }
-        i += 1;
-    }
-    true
-}
-
-// Whether node `i` is a block with an id, and of the kind `only` where that is not 0.
-fn has_id(nodes: &[u32], i: usize, pool: &[u8], only: usize) -> bool
-    ensures { λ r. ⌜ r ≡ wanted only (wordAt (now (nodes .entry)) i 0) && hasId (entryAt (now (nodes .entry)) (now (pool .entry)) i) ⌝ }
-{
-    let kind = word(nodes, i, KIND);
-    if kind < DOCUMENT {
-        return false;
-    }
-    if FOOTNOTE < kind {
-        return false;
-    }
-    if only != ANY {
-        if only != kind {
-            return false;
-        }
-    }
-    string(nodes, i, KEY, pool).len() != 0
-}
-
-// Whether a string is the id of one of the first `count` nodes, blocks of the kind `only` or, where that is 0, of any.
-fn known(nodes: &[u32], count: usize, pool: &[u8], only: usize, id: &[u8]) -> bool
-    ensures { λ r. ⌜ r ≡ isAmong (now (id .entry)) (idsBefore (now (nodes .entry)) (now (pool .entry)) only count) ⌝ }
-{
-    let mut i = count;
-    while 0 < i {
-        i -= 1;
-        if has_id(nodes, i, pool, only) {
-            if equal(id, string(nodes, i, KEY, pool)) {
-                return true;
-            }
-        }
-    }
-    false
-}
-
-// 16: whether node `i` is a block whose id is on an earlier block.
-fn repeats(nodes: &[u32], i: usize, pool: &[u8]) -> bool
-    ensures { λ r. ⌜ r ≡ repeatsAt (now (nodes .entry)) (now (pool .entry)) i ⌝ }
+// 16: whether node `i` is a block whose id is on an earlier block. An id that is on none enters the index.
+fn repeats(
+    nodes: &[u32],
+    i: usize,
+    pool: &[u8],
+    heads: &mut [u32; MOST_NODES],
+    nexts: &mut [u32; MOST_NODES],
+) -> bool
+    requires { ⌜ (i < 4096) × Indexed (now nodes) (now pool) i (now heads) (now nexts) ⌝ }
+    ensures { λ r. ⌜ (r ≡ repeatsAt (now (nodes .entry)) (now (pool .entry)) i)
+        × (r ≡ false → Indexed (now (nodes .entry)) (now (pool .entry)) (i + 1) (now (heads .exit)) (now (nexts .exit))) ⌝ }
 {
     if !has_id(nodes, i, pool, ANY) {
         return false;
     }
-    known(nodes, i, pool, ANY, string(nodes, i, KEY, pool))
+    let id = string(nodes, i, KEY, pool);
+    let s = slot(id);
+    if known(nodes, i, pool, heads, nexts, s, ANY, id) {
+        return true;
+    }
+    enter(heads, nexts, s, i);
+    false
 }
 
-fn first_repeated(nodes: &[u32], count: usize, pool: &[u8]) -> Found
-    ensures { λ r. ⌜ r ≡ found (repeatedId [] (entriesFrom (now (nodes .entry)) (now (pool .entry)) count 0)) ⌝ }
+// The first such node; where there is none, the ids of all nodes have entered.
+fn first_repeated(
+    nodes: &[u32],
+    count: usize,
+    pool: &[u8],
+    heads: &mut [u32; MOST_NODES],
+    nexts: &mut [u32; MOST_NODES],
+) -> Found
+    requires { ⌜ (count ≤ 4096) × Indexed (now nodes) (now pool) 0 (now heads) (now nexts) ⌝ }
+    ensures { λ r. ⌜ (r ≡ found (repeatedId [] (entriesFrom (now (nodes .entry)) (now (pool .entry)) count 0)))
+        × (r ≡ Found.Nothing → Indexed (now (nodes .entry)) (now (pool .entry)) count (now (heads .exit)) (now (nexts .exit))) ⌝ }
 {
     let mut i = 0;
     while i < count {
-        if repeats(nodes, i, pool) {
+        if repeats(nodes, i, pool, heads, nexts) {
             return Found::At(i);
         }
         i += 1;
@@ -123,21 +97,42 @@ fn first_repeated(nodes: &[u32], count: usize, pool: &[u8]) -> Found
 }
 
 // 17 and 18: whether node `i` is of this kind and its target on no block, or on none of the kind `only`.
-fn dangles(nodes: &[u32], count: usize, pool: &[u8], i: usize, kind: usize, only: usize) -> bool
+fn dangles(
+    nodes: &[u32],
+    count: usize,
+    pool: &[u8],
+    heads: &[u32; MOST_NODES],
+    nexts: &[u32; MOST_NODES],
+    i: usize,
+    kind: usize,
+    only: usize,
+) -> bool
+    requires { ⌜ Indexed (now nodes) (now pool) count (now heads) (now nexts) ⌝ }
     ensures { λ r. ⌜ r ≡ danglesAt (now (nodes .entry)) (now (pool .entry)) kind (idsBefore (now (nodes .entry)) (now (pool .entry)) only count) i ⌝ }
 {
     if word(nodes, i, KIND) != kind {
         return false;
     }
-    !known(nodes, count, pool, only, string(nodes, i, KEY, pool))
+    let id = string(nodes, i, KEY, pool);
+    !known(nodes, count, pool, heads, nexts, slot(id), only, id)
 }
 
-fn first_unknown(nodes: &[u32], count: usize, pool: &[u8], kind: usize, only: usize) -> Found
-    ensures { λ r. ⌜ r ≡ found (unknownTarget kind (idsBefore (now (nodes .entry)) (now (pool .entry)) only count) (entriesFrom (now (nodes .entry)) (now (pool .entry)) count 0)) ⌝ }
+fn first_unknown(
+    nodes: &[u32],
+    count: usize,
+    pool: &[u8],
+    heads: &[u32; MOST_NODES],
+    nexts: &[u32; MOST_NODES],
+    kind: usize,
+    only: usize,
+) -> Found
+    requires { ⌜ Indexed (now nodes) (now pool) count (now heads) (now nexts) ⌝ }
+    ensures { λ r. ⌜ r ≡ found (unknownTarget kind (idsBefore (now (nodes .entry)) (now (pool .entry)) only count)
+        (entriesFrom (now (nodes .entry)) (now (pool .entry)) count 0)) ⌝ }
 {
     let mut i = 0;
     while i < count {
-        if dangles(nodes, count, pool, i, kind, only) {
+        if dangles(nodes, count, pool, heads, nexts, i, kind, only) {
             return Found::At(i);
         }
         i += 1;
@@ -236,6 +231,7 @@ fn first_bad_row(nodes: &[u32], count: usize) -> Found
 
 // The check of the table of a document with `count` nodes.
 pub fn check_table(nodes: &[u32], count: usize, pool: &[u8]) -> Fault
+    requires { ⌜ count ≤ 4096 ⌝ }
     ensures { λ r. ⌜ ((d : Node) → Holds (now (nodes .entry)) count (now (pool .entry)) d → (r .number ≡ checkNumber (check d)) × (r .node ≡ checkNode (check d))) ⌝ }
 {
     let row = first_bad_row(nodes, count);
@@ -245,21 +241,23 @@ pub fn check_table(nodes: &[u32], count: usize, pool: &[u8]) -> Fault
             node: i,
         };
     }
-    let id = first_repeated(nodes, count, pool);
+    let mut heads = [0u32; MOST_NODES];
+    let mut nexts = [0u32; MOST_NODES];
+    let id = first_repeated(nodes, count, pool, &mut heads, &mut nexts);
     if let Found::At(i) = id {
         return Fault {
             number: 16,
             node: i,
         };
     }
-    let link = first_unknown(nodes, count, pool, LINK, ANY);
+    let link = first_unknown(nodes, count, pool, &heads, &nexts, LINK, ANY);
     if let Found::At(i) = link {
         return Fault {
             number: 17,
             node: i,
         };
     }
-    let note = first_unknown(nodes, count, pool, FOOTNOTE_REF, FOOTNOTE);
+    let note = first_unknown(nodes, count, pool, &heads, &nexts, FOOTNOTE_REF, FOOTNOTE);
     if let Found::At(i) = note {
         return Fault {
             number: 18,

@@ -1,6 +1,7 @@
 // Is it the table of a document within the limits (20), and has that document a fault 15 to 18?
 mod draft; // draft.rt: whether words and pool are the table of a document
 mod faults; // faults.rt: 15 to 18
+mod index; // index.rt: the ids of blocks, to look them up
 mod record; // record.rt: whether one record is that of a node
 mod values; // values.rt: the values of an element
 

@@ -4,8 +4,10 @@ use mathlib.Core.Path.{_≡_, sym, _∙_}
 use Prim.Native.Nat.{_+_, _-_, _≤_}
 use native.Mathlib.Omega.{arith}
 use borrow.Author.Needs.{needs}
+use borrow.Author.Tests.{lt-ltb}
 use lib.ListN.{length, drop, drop-of-length-le}
 use Rattle.utf8.specs.Sequence.{validFrom, validUpTo}
+use Rattle.utf8.proofs.Ascii.{ascii-byte, block-fits, block-turn}
 use Rattle.utf8.proofs.Walk.{stop, turn, turn-fits}
 use Rattle.utf8.proofs.valid_up_to.Statement.{statement}
 use Rattle.utf8.proofs.valid_up_to.Tie as tie
@@ -20,20 +22,44 @@ loop-holds : tie.Need-loop-holds Inv-loop μ-loop
 unfolding validUpTo
 loop-holds c = (omega arith, omega arith)
 
+ascii-16-requires : tie.Need-ascii-16-requires Inv-loop μ-loop
+ascii-16-requires c κs = search needs
+
+add-i : tie.Need-add-i Inv-loop μ-loop
+add-i c = omega (arith, block-fits _ _ 16 (c .before .before .before .loop .inv .0) (c .before .ascii-16 .ensures) (c .if1 .taken), c .before .before .before .before .before .good)
+
+loop-less : tie.Need-loop-less Inv-loop μ-loop
+loop-less c = omega (arith, block-fits _ _ 16 (c .before .before .before .loop .inv .0) (c .before .ascii-16 .ensures) (c .if1 .taken))
+
+loop-again : tie.Need-loop-again Inv-loop μ-loop
+loop-again c = (block-fits _ _ 16 (c .before .before .before .loop .inv .0) (c .before .ascii-16 .ensures) (c .if1 .taken), block-turn _ _ 16 (c .before .before .before .loop .inv .0) (c .before .ascii-16 .ensures) (c .if1 .taken) ∙ c .before .before .before .loop .inv .1)
+
+shared-slice-read-if2 : tie.Need-shared-slice-read-if2 Inv-loop μ-loop
+shared-slice-read-if2 c = search needs
+
+add-i-2 : tie.Need-add-i-2 Inv-loop μ-loop
+add-i-2 c = search needs
+
+loop-less-2 : tie.Need-loop-less-2 Inv-loop μ-loop
+loop-less-2 c = search needs
+
+loop-again-2 : tie.Need-loop-again-2 Inv-loop μ-loop
+loop-again-2 c = (omega arith, block-turn _ _ 1 (c .before .before .before .before .before .loop .inv .0) (sym (ascii-byte _ _ (c .before .before .before .before .loop-test .taken))) (lt-ltb _ _ (c .if2 .taken)) ∙ c .before .before .before .before .before .loop .inv .1)
+
 sequence-length-requires : tie.Need-sequence-length-requires Inv-loop μ-loop
 sequence-length-requires c κs = search needs
 
 returns : tie.Need-returns Inv-loop μ-loop
-returns c = omega (arith, stop _ (sym (c .before .sequence-length .ensures) ∙ c .if1 .taken), c .before .before .before .loop .inv .1)
+returns c = omega (arith, stop _ (sym (c .before .sequence-length .ensures) ∙ c .if3 .taken), c .before .before .before .before .before .before .before .loop .inv .1)
 
-add-i : tie.Need-add-i Inv-loop μ-loop
-add-i c = omega (arith, turn-fits _ _ _ (c .before .before .before .loop .inv .0) (c .before .sequence-length .ensures), c .before .before .before .before .before .good)
+add-i-3 : tie.Need-add-i-3 Inv-loop μ-loop
+add-i-3 c = omega (arith, turn-fits _ _ _ (c .before .before .before .before .before .before .before .loop .inv .0) (c .before .sequence-length .ensures), c .before .before .before .before .before .before .before .before .before .good)
 
-loop-less : tie.Need-loop-less Inv-loop μ-loop
-loop-less c = omega (arith, turn-fits _ _ _ (c .before .before .before .loop .inv .0) (c .before .sequence-length .ensures))
+loop-less-3 : tie.Need-loop-less-3 Inv-loop μ-loop
+loop-less-3 c = omega (arith, turn-fits _ _ _ (c .before .before .before .before .before .before .before .loop .inv .0) (c .before .sequence-length .ensures))
 
-loop-again : tie.Need-loop-again Inv-loop μ-loop
-loop-again c = (turn-fits _ _ _ (c .before .before .before .loop .inv .0) (c .before .sequence-length .ensures), turn _ _ _ (c .before .sequence-length .ensures) ∙ c .before .before .before .loop .inv .1)
+loop-again-3 : tie.Need-loop-again-3 Inv-loop μ-loop
+loop-again-3 c = (turn-fits _ _ _ (c .before .before .before .before .before .before .before .loop .inv .0) (c .before .sequence-length .ensures), turn _ _ _ (c .before .sequence-length .ensures) ∙ c .before .before .before .before .before .before .before .loop .inv .1)
 
 returns-2 : tie.Need-returns-2 Inv-loop μ-loop
 unfolding validFrom
@@ -46,9 +72,17 @@ valid-up-to-spec =
     Inv-loop
     μ-loop
     loop-holds
-    sequence-length-requires
-    returns
+    ascii-16-requires
     add-i
     loop-less
     loop-again
+    shared-slice-read-if2
+    add-i-2
+    loop-less-2
+    loop-again-2
+    sequence-length-requires
+    returns
+    add-i-3
+    loop-less-3
+    loop-again-3
     returns-2)

@@ -4,7 +4,7 @@ use mathlib.Core.Path.{sym}
 use lib.Seq.{length-take-le}
 use borrow.Author.Tests.{not-false}
 use borrow.Author.Needs.{needs}
-use Rattle.validate.proofs.Refusals.{no-both, refused, node-fits, answered}
+use Rattle.validate.proofs.Refusals.{no-both, refused, few-nodes, node-fits, answered}
 use Rattle.validate.proofs.check.Statement.{statement}
 use Rattle.validate.proofs.check.Tie as tie
 
@@ -30,7 +30,9 @@ returns-3 : tie.Need-returns-3
 returns-3 c = refused _ _ _ _ (λ hn hm d x. no-both _ (c .if3 .taken) (c .before .is-draft .ensures .1 d x))
 
 check-table-requires : tie.Need-check-table-requires
-check-table-requires c κs = search needs
+check-table-requires c κs =
+    let (d, x) = c .before .is-draft .ensures .0 (not-false _ (c .if3 .left)) in
+    few-nodes _ _ _ _ (c .before .before .before .before .before .if1 .left) (c .before .before .before .before .if2 .left) d x
 
 cast-t15 : tie.Need-cast-t15
 cast-t15 c =

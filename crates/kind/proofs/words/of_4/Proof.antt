@@ -1,67 +1,168 @@
--- `words::of_4` meets its contract: the words are tried from the last of the specification's names to the first. Assumes nothing.
+-- `words::of_4` meets its contract: the first byte, and after `t` the second, leaves one word, or none. Assumes nothing.
+use mathlib.Core.Path.{_∙_}
 use borrow.Author.Needs.{needs}
-use Rattle.elements.specs.Class.{names}
-use Rattle.kind.specs.ByLength.{namesOf, pick}
-use Rattle.kind.proofs.Tried.{tried}
+use Rattle.elements.specs.Bytes.{codes}
+use Rattle.elements.specs.Class.{names, as-name, classIn}
+use Rattle.kind.proofs.Chosen.{pick, only, others, by-byte, no-byte, by-bytes, no-second}
 use Rattle.kind.proofs.words.of_4.Statement.{statement}
 use Rattle.kind.proofs.words.of_4.Tie as tie
 
-of-4-last-requires : tie.Need-of-4-last-requires
-of-4-last-requires c κs = search needs
+shared-slice-read-match : tie.Need-shared-slice-read-match
+shared-slice-read-match c = search needs
 
-slice-aggregate-or-if : tie.Need-slice-aggregate-or-if
-slice-aggregate-or-if c = search needs
+slice-aggregate-if-is : tie.Need-slice-aggregate-if-is
+slice-aggregate-if-is c = search needs
 
-or-if-requires : tie.Need-or-if-requires
-or-if-requires c κs = search needs
+if-is-requires : tie.Need-if-is-requires
+if-is-requires c κs = search needs
 
-slice-aggregate-or-if-2 : tie.Need-slice-aggregate-or-if-2
-slice-aggregate-or-if-2 c = search needs
+shared-slice-read-match2 : tie.Need-shared-slice-read-match2
+shared-slice-read-match2 c = search needs
 
-or-if-requires-2 : tie.Need-or-if-requires-2
-or-if-requires-2 c κs = search needs
+slice-aggregate-if-is-2 : tie.Need-slice-aggregate-if-is-2
+slice-aggregate-if-is-2 c = search needs
 
-slice-aggregate-or-if-3 : tie.Need-slice-aggregate-or-if-3
-slice-aggregate-or-if-3 c = search needs
+if-is-requires-2 : tie.Need-if-is-requires-2
+if-is-requires-2 c κs = search needs
 
-or-if-requires-3 : tie.Need-or-if-requires-3
-or-if-requires-3 c κs = search needs
+slice-aggregate-if-is-3 : tie.Need-slice-aggregate-if-is-3
+slice-aggregate-if-is-3 c = search needs
 
-slice-aggregate-or-if-4 : tie.Need-slice-aggregate-or-if-4
-slice-aggregate-or-if-4 c = search needs
+if-is-requires-3 : tie.Need-if-is-requires-3
+if-is-requires-3 c κs = search needs
 
-or-if-requires-4 : tie.Need-or-if-requires-4
-or-if-requires-4 c κs = search needs
+slice-aggregate-if-is-4 : tie.Need-slice-aggregate-if-is-4
+slice-aggregate-if-is-4 c = search needs
 
-slice-aggregate-or-if-5 : tie.Need-slice-aggregate-or-if-5
-slice-aggregate-or-if-5 c = search needs
+if-is-requires-4 : tie.Need-if-is-requires-4
+if-is-requires-4 c κs = search needs
 
-or-if-requires-5 : tie.Need-or-if-requires-5
-or-if-requires-5 c κs = search needs
+slice-aggregate-if-is-5 : tie.Need-slice-aggregate-if-is-5
+slice-aggregate-if-is-5 c = search needs
+
+if-is-requires-5 : tie.Need-if-is-requires-5
+if-is-requires-5 c κs = search needs
+
+slice-aggregate-if-is-6 : tie.Need-slice-aggregate-if-is-6
+slice-aggregate-if-is-6 c = search needs
+
+if-is-requires-6 : tie.Need-if-is-requires-6
+if-is-requires-6 c κs = search needs
+
+slice-aggregate-if-is-7 : tie.Need-slice-aggregate-if-is-7
+slice-aggregate-if-is-7 c = search needs
+
+if-is-requires-7 : tie.Need-if-is-requires-7
+if-is-requires-7 c κs = search needs
+
+slice-aggregate-if-is-8 : tie.Need-slice-aggregate-if-is-8
+slice-aggregate-if-is-8 c = search needs
+
+if-is-requires-8 : tie.Need-if-is-requires-8
+if-is-requires-8 c κs = search needs
+
+slice-aggregate-if-is-9 : tie.Need-slice-aggregate-if-is-9
+slice-aggregate-if-is-9 c = search needs
+
+if-is-requires-9 : tie.Need-if-is-requires-9
+if-is-requires-9 c κs = search needs
+
+slice-aggregate-if-is-10 : tie.Need-slice-aggregate-if-is-10
+slice-aggregate-if-is-10 c = search needs
+
+if-is-requires-10 : tie.Need-if-is-requires-10
+if-is-requires-10 c κs = search needs
 
 returns : tie.Need-returns
-unfolding namesOf pick names
-returns c =
-    tried _ _ _ (c .or-if5 .ensures)
-    (tried _ _ _ (c .before .before .or-if4 .ensures)
-    (tried _ _ _ (c .before .before .before .before .or-if3 .ensures)
-    (tried _ _ _ (c .before .before .before .before .before .before .or-if2 .ensures)
-    (tried _ _ _ (c .before .before .before .before .before .before .before .before .or-if .ensures)
-    (c .before .before .before .before .before .before .before .before .before .before .of-4-last .ensures)))))
+unfolding pick only names as-name codes classIn
+returns c = c .if-is .ensures ∙ by-byte _ _ (c .before .before .before .before .before .pre) 0 (c .before .before .match .keys1)
+
+returns-2 : tie.Need-returns-2
+unfolding pick only names as-name codes classIn
+returns-2 c =
+    c .if-is2 .ensures
+    ∙ by-bytes _ _ (c .before .before .before .before .before .before .before .pre)
+    0 (c .before .before .before .before .match .keys2) 1 (c .before .before .match2 .keys1)
+
+returns-3 : tie.Need-returns-3
+unfolding pick only names as-name codes classIn
+returns-3 c =
+    c .if-is3 .ensures
+    ∙ by-bytes _ _ (c .before .before .before .before .before .before .before .pre)
+    0 (c .before .before .before .before .match .keys2) 1 (c .before .before .match2 .keys2)
+
+returns-4 : tie.Need-returns-4
+unfolding pick only others names as-name codes classIn
+returns-4 c =
+    no-second _ _ (c .before .before .before .before .before .pre) 0 (c .before .before .match .keys2) 1 (codes "ey") (c .match2 .rest)
+
+returns-5 : tie.Need-returns-5
+unfolding pick only names as-name codes classIn
+returns-5 c = c .if-is4 .ensures ∙ by-byte _ _ (c .before .before .before .before .before .pre) 0 (c .before .before .match .keys3)
+
+returns-6 : tie.Need-returns-6
+unfolding pick only names as-name codes classIn
+returns-6 c = c .if-is5 .ensures ∙ by-byte _ _ (c .before .before .before .before .before .pre) 0 (c .before .before .match .keys4)
+
+returns-7 : tie.Need-returns-7
+unfolding pick only names as-name codes classIn
+returns-7 c = c .if-is6 .ensures ∙ by-byte _ _ (c .before .before .before .before .before .pre) 0 (c .before .before .match .keys5)
+
+returns-8 : tie.Need-returns-8
+unfolding pick only names as-name codes classIn
+returns-8 c = c .if-is7 .ensures ∙ by-byte _ _ (c .before .before .before .before .before .pre) 0 (c .before .before .match .keys6)
+
+returns-9 : tie.Need-returns-9
+unfolding pick only names as-name codes classIn
+returns-9 c = c .if-is8 .ensures ∙ by-byte _ _ (c .before .before .before .before .before .pre) 0 (c .before .before .match .keys7)
+
+returns-10 : tie.Need-returns-10
+unfolding pick only names as-name codes classIn
+returns-10 c = c .if-is9 .ensures ∙ by-byte _ _ (c .before .before .before .before .before .pre) 0 (c .before .before .match .keys8)
+
+returns-11 : tie.Need-returns-11
+unfolding pick only names as-name codes classIn
+returns-11 c = c .if-is10 .ensures ∙ by-byte _ _ (c .before .before .before .before .before .pre) 0 (c .before .before .match .keys9)
+
+returns-12 : tie.Need-returns-12
+unfolding pick only others names as-name codes classIn
+returns-12 c = no-byte _ _ (c .before .before .before .pre) 0 (codes "ptlihnbcs") (c .match .rest)
 
 pub of-4-spec : {M : Type 1} → statement M
 of-4-spec =
     tie.close
     (tie.spec
-    of-4-last-requires
-    slice-aggregate-or-if
-    or-if-requires
-    slice-aggregate-or-if-2
-    or-if-requires-2
-    slice-aggregate-or-if-3
-    or-if-requires-3
-    slice-aggregate-or-if-4
-    or-if-requires-4
-    slice-aggregate-or-if-5
-    or-if-requires-5
-    returns)
+    shared-slice-read-match
+    slice-aggregate-if-is
+    if-is-requires
+    shared-slice-read-match2
+    slice-aggregate-if-is-2
+    if-is-requires-2
+    slice-aggregate-if-is-3
+    if-is-requires-3
+    slice-aggregate-if-is-4
+    if-is-requires-4
+    slice-aggregate-if-is-5
+    if-is-requires-5
+    slice-aggregate-if-is-6
+    if-is-requires-6
+    slice-aggregate-if-is-7
+    if-is-requires-7
+    slice-aggregate-if-is-8
+    if-is-requires-8
+    slice-aggregate-if-is-9
+    if-is-requires-9
+    slice-aggregate-if-is-10
+    if-is-requires-10
+    returns
+    returns-2
+    returns-3
+    returns-4
+    returns-5
+    returns-6
+    returns-7
+    returns-8
+    returns-9
+    returns-10
+    returns-11
+    returns-12)

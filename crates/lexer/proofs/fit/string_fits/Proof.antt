@@ -1,13 +1,10 @@
 -- `fit::string_fits` meets its contract. The loop's invariant is `StringLeft`. Assumes nothing.
-use mathlib.Core.Path.{sym, _∙_}
 use Prim.Native.Nat.{_-_}
 use native.Mathlib.Omega.{arith}
 use borrow.Author.Needs.{needs}
 use borrow.Author.Tests.{not-true, not-false}
 use lib.ListN.{length}
-use Rattle.lexer.specs.Token.{fits}
-use Rattle.lexer.proofs.Contents.{fault-nothing, string-inside, quoted-turn}
-use Rattle.lexer.proofs.Characters.{StringLeft, string-start, string-turn, string-refused, string-done}
+use Rattle.lexer.proofs.Characters.{StringLeft, string-start, string-none, string-past, string-stopped, string-further, string-turn, string-refused}
 use Rattle.lexer.proofs.fit.string_fits.Statement.{statement}
 use Rattle.lexer.proofs.fit.string_fits.Tie as tie
 
@@ -17,48 +14,53 @@ Inv-loop text place sort i₀ i = StringLeft text place sort i
 abbrev μ-loop : tie.MeasureT-loop
 μ-loop text place sort i₀ i = length text - i
 
-string-at-requires : tie.Need-string-at-requires Inv-loop μ-loop
-string-at-requires c κs = search needs
-
 returns : tie.Need-returns Inv-loop μ-loop
-unfolding fits
-returns c = rw (fault-nothing (c .before .before .before .before .args .text .now) (c .before .before .before .before .args .place) (c .before .before .string-at .result .number) (c .before .before .string-at .ensures .0) (c .if1 .taken))
+returns c = string-none (c .before .before .args .text .now) (c .before .before .args .place) (c .before .before .args .sort) (c .if1 .taken)
 
 add-i : tie.Need-add-i Inv-loop μ-loop
-add-i c = omega (arith, string-inside (c .before .before .before .before .args .text .now) (c .before .before .before .before .args .place) (c .before .before .string-at .result .number) (c .before .before .string-at .ensures .0) (c .if1 .left))
+add-i c = search needs
 
 loop-holds : tie.Need-loop-holds Inv-loop μ-loop
-loop-holds c = string-start (c .before .before .before .before .args .text .now) (c .before .before .before .before .args .place) (c .before .before .before .before .args .sort) (c .before .before .string-at .result .number) (c .before .before .string-at .ensures .0) (c .if1 .left)
-
-byte-at-requires : tie.Need-byte-at-requires Inv-loop μ-loop
-byte-at-requires c κs = search needs
+loop-holds c = string-start (c .before .before .args .text .now) (c .before .before .args .place) (c .before .before .args .sort)
 
 piece-requires : tie.Need-piece-requires Inv-loop μ-loop
 piece-requires c κs = search needs
 
+returns-2 : tie.Need-returns-2 Inv-loop μ-loop
+returns-2 c =
+    let p = c .before .piece in
+    string-stopped (c .before .before .before .before .before .before .args .text .now) (c .before .before .before .before .before .before .args .place) (c .before .before .before .before .before .before .args .sort) (c .before .before .before .loop .i) (c .before .before .before .loop .inv) (c .before .before .loop-test .taken) (p .result .next) (p .result .size) (p .result .first) (p .result .second) (p .result .third)
+    (p .ensures (c .before .before .loop-test .taken)) (c .if2 .taken)
+
 character-requires : tie.Need-character-requires Inv-loop μ-loop
 character-requires c κs = search needs
 
-returns-2 : tie.Need-returns-2 Inv-loop μ-loop
-returns-2 c =
-    let p = c .before .before .piece .result in
-    string-refused (c .before .before .before .before .before .before .before .before .before .before .args .text .now) (c .before .before .before .before .before .before .before .before .before .before .args .place) (c .before .before .before .before .before .before .before .before .before .before .args .sort) (c .before .before .before .before .before .loop .i) (c .before .before .before .before .before .loop .inv)
-    (λ e. c .before .before .before .if2 .taken (c .before .before .before .before .byte-at .ensures ∙ e)) (p .next) (p .size) (p .first) (p .second) (p .third) (c .before .before .piece .ensures) (c .before .character .result) (c .before .character .ensures) (not-true _ (c .if3 .taken))
+string-at-requires : tie.Need-string-at-requires Inv-loop μ-loop
+string-at-requires c κs = search needs
+
+returns-3 : tie.Need-returns-3 Inv-loop μ-loop
+returns-3 c =
+    let p = c .before .before .before .before .before .piece in
+    string-refused (c .before .before .before .before .before .before .before .before .before .before .args .text .now) (c .before .before .before .before .before .before .before .before .before .before .args .place) (c .before .before .before .before .before .before .before .before .before .before .args .sort) (c .before .before .before .before .before .before .before .loop .i) (c .before .before .before .before .before .before .before .loop .inv) (c .before .before .before .before .before .before .loop-test .taken) (p .result .next) (p .result .size) (p .result .first) (p .result .second) (p .result .third)
+    (p .ensures (c .before .before .before .before .before .before .loop-test .taken)) (c .before .before .before .before .if2 .left) (c .before .before .before .character .result) (c .before .before .before .character .ensures) (not-true _ (c .before .before .if3 .taken)) (c .before .string-at .result .number) (c .before .string-at .ensures .0)
 
 loop-less : tie.Need-loop-less Inv-loop μ-loop
 loop-less c =
-    let p = c .before .before .piece .result in
-    let t = quoted-turn (c .before .before .before .before .before .before .before .before .before .before .args .text .now) (c .before .before .before .before .before .loop .i) (c .before .before .before .before .before .loop .inv .ends) (λ e. c .before .before .before .if2 .taken (c .before .before .before .before .byte-at .ensures ∙ e)) (p .next) (p .size) (p .first) (p .second) (p .third) (c .before .before .piece .ensures) in
-    omega (arith, t .further, t .inside)
+    let p = c .before .before .before .piece in
+    omega (
+      arith,
+      string-further (c .before .before .before .before .before .before .before .before .args .text .now) (c .before .before .before .before .before .before .before .before .args .place) (c .before .before .before .before .before .before .before .before .args .sort) (c .before .before .before .before .before .loop .i) (c .before .before .before .before .before .loop .inv) (c .before .before .before .before .loop-test .taken) (p .result .next) (p .result .size) (p .result .first) (p .result .second) (p .result .third)
+          (p .ensures (c .before .before .before .before .loop-test .taken)) (c .before .before .if2 .left),
+    )
 
 loop-again : tie.Need-loop-again Inv-loop μ-loop
 loop-again c =
-    let p = c .before .before .piece .result in
-    string-turn (c .before .before .before .before .before .before .before .before .before .before .args .text .now) (c .before .before .before .before .before .before .before .before .before .before .args .place) (c .before .before .before .before .before .before .before .before .before .before .args .sort) (c .before .before .before .before .before .loop .i) (c .before .before .before .before .before .loop .inv)
-    (λ e. c .before .before .before .if2 .taken (c .before .before .before .before .byte-at .ensures ∙ e)) (p .next) (p .size) (p .first) (p .second) (p .third) (c .before .before .piece .ensures) (c .before .character .result) (c .before .character .ensures) (not-false _ (c .if3 .left))
+    let p = c .before .before .before .piece in
+    string-turn (c .before .before .before .before .before .before .before .before .args .text .now) (c .before .before .before .before .before .before .before .before .args .place) (c .before .before .before .before .before .before .before .before .args .sort) (c .before .before .before .before .before .loop .i) (c .before .before .before .before .before .loop .inv) (c .before .before .before .before .loop-test .taken) (p .result .next) (p .result .size) (p .result .first) (p .result .second) (p .result .third)
+    (p .ensures (c .before .before .before .before .loop-test .taken)) (c .before .before .if2 .left) (c .before .character .result) (c .before .character .ensures) (not-false _ (c .if3 .left))
 
-returns-3 : tie.Need-returns-3 Inv-loop μ-loop
-returns-3 c = string-done (c .before .before .before .before .before .before .before .args .text .now) (c .before .before .before .before .before .before .before .args .place) (c .before .before .before .before .before .before .before .args .sort) (c .before .before .loop .i) (c .before .before .loop .inv) (sym (c .before .byte-at .ensures) ∙ c .if2 .left)
+returns-4 : tie.Need-returns-4 Inv-loop μ-loop
+returns-4 c = string-past (c .before .before .before .before .args .text .now) (c .before .before .before .before .args .place) (c .before .before .before .before .args .sort) (c .before .loop .i) (c .before .loop .inv) (c .loop-test .left)
 
 pub string-fits-spec : {M : Type 1} → statement M
 string-fits-spec =
@@ -66,14 +68,14 @@ string-fits-spec =
     (tie.spec
     Inv-loop
     μ-loop
-    string-at-requires
     returns
     add-i
     loop-holds
-    byte-at-requires
     piece-requires
-    character-requires
     returns-2
+    character-requires
+    string-at-requires
+    returns-3
     loop-less
     loop-again
-    returns-3)
+    returns-4)

@@ -1,81 +1,100 @@
--- `stores::put_string` meets its contract. The loop's invariant is `Content`. Assumes nothing.
-use mathlib.Core.Path.{_≡_, refl, sym, _∙_}
-use Prim.Native.Nat.{_-_, _+_, _<_}
+-- `stores::put_string` meets its contract. Assumes nothing.
+use mathlib.Core.Path.{refl, sym, _∙_}
+use Prim.Native.Nat.{_-_, _+_, _≤_}
+use native.Mathlib.Nat.{add-zero}
 use native.Mathlib.Omega.{arith}
 use borrow.Author.Needs.{needs}
-use lib.ListN.{length}
-use Rattle.lexer.proofs.Contents.{Content, fault-nothing, string-inside, content-start, content-inside, content-turn, content-done}
+use lib.ListN.{length, drop, length-drop}
+use lib.Seq.{length-take-le}
+use Rattle.lexer.proofs.Contents.{fault-nothing, string-inside}
+use Rattle.lexer.proofs.Unescaped.{string-span, Between, unescaped}
 use Rattle.lexer.proofs.stores.put_string.Statement.{statement}
 use Rattle.lexer.proofs.stores.put_string.Tie as tie
 
-abbrev Inv-loop : tie.InvT-loop
-Inv-loop text place out₀ at i₀ k₀ out i k = (length out ≡ length out₀) × Content text place out₀ at out i k
-
-abbrev μ-loop : tie.MeasureT-loop
-μ-loop text place out₀ at i₀ k₀ out i k = length text - i
-
-string-at-requires : tie.Need-string-at-requires Inv-loop μ-loop
+string-at-requires : tie.Need-string-at-requires
 string-at-requires c κs = search needs
 
-returns : tie.Need-returns Inv-loop μ-loop
+returns : tie.Need-returns
 returns c = rw (fault-nothing (c .before .before .before .before .before .args .text .now) (c .before .before .before .before .before .args .place) (c .before .before .string-at .result .number) (c .before .before .string-at .ensures .0) (c .if1 .taken)) (refl, refl)
 
-add-i : tie.Need-add-i Inv-loop μ-loop
-add-i c = omega (arith, string-inside (c .before .before .before .before .before .args .text .now) (c .before .before .before .before .before .args .place) (c .before .before .string-at .result .number) (c .before .before .string-at .ensures .0) (c .if1 .left))
+add-from : tie.Need-add-from
+add-from c = omega (arith, string-inside (c .before .before .before .before .before .args .text .now) (c .before .before .before .before .before .args .place) (c .before .before .string-at .result .number) (c .before .before .string-at .ensures .0) (c .if1 .left))
 
-loop-holds : tie.Need-loop-holds Inv-loop μ-loop
-loop-holds c = (refl, content-start (c .before .before .before .before .before .args .text .now) (c .before .before .before .before .before .args .place) (c .before .before .string-at .result .number) (c .before .before .string-at .ensures .0) (c .if1 .left) (c .before .before .before .before .before .args .out .now) (c .before .before .before .before .before .args .at))
+-- There are at least as many bytes between the quotes as the string stands for,
+span : (c : tie.Else1) → c .before .before .before .before .before .args .place + 2 + c .before .before .string-at .result .length ≤ c .before .before .string-at .result .next
+span c =
+    let s = c .before .before .string-at in
+    let args = c .before .before .before .before .before .args in
+    string-span (args .text .now) (args .place) (s .result .number) (s .result .next) (s .result .length) (s .ensures .0) (c .if1 .left) (s .ensures .2) (s .ensures .3)
 
-byte-at-requires : tie.Need-byte-at-requires Inv-loop μ-loop
-byte-at-requires c κs = search needs
+sub-end : tie.Need-sub-end
+sub-end c = omega (arith, span (c .before))
 
-piece-requires : tie.Need-piece-requires Inv-loop μ-loop
-piece-requires c κs = search needs
+sub-if2 : tie.Need-sub-if2
+sub-if2 c = omega (arith, span (c .before))
 
-put-piece-requires : tie.Need-put-piece-requires Inv-loop μ-loop
-put-piece-requires c κs = omega (arith, content-inside (c .before .before .before .before .before .before .before .before .before .before .args .text .now) (c .before .before .before .before .before .before .before .before .before .before .args .place) (c .before .before .before .before .before .before .before .before .before .before .args .out .now) (c .before .before .before .before .before .before .before .before .before .before .args .at) (c .before .before .before .before .loop .out) (c .before .before .before .before .loop .i) (c .before .before .before .before .loop .k) (c .before .before .before .before .loop .inv .1), c .before .before .before .before .loop .inv .1 .fits)
+-- and where there are as many, they are those.
+between : (c : tie.Then2)
+    → let s = c .before .before .before .before .before .string-at in
+    let args = c .before .before .before .before .before .before .before .before .args in
+    Between (args .text .now) (args .place) (s .result .number) (s .result .next) (s .result .length) (s .ensures .0) (c .before .before .before .if1 .left) (s .ensures .2) (s .ensures .3)
+between c =
+    let s = c .before .before .before .before .before .string-at in
+    let args = c .before .before .before .before .before .before .before .before .args in
+    unescaped (args .text .now) (args .place) (s .result .number) (s .result .next) (s .result .length) (s .ensures .0) (c .before .before .before .if1 .left) (s .ensures .2) (s .ensures .3) (c .if2 .taken)
 
--- After a turn of the loop.
-turn : (c : tie.After-struct-known2 Inv-loop μ-loop)
-    → (c .before .before .before .before .before .before .before .before .loop .i < c .before .before .before .before .before .piece .result .next) × (c .before .before .before .before .before .piece .result .next < length (c .before .before .before .before .before .before .before .before .before .before .before .before .before .before .args .text .now))
-    × Content (c .before .before .before .before .before .before .before .before .before .before .before .before .before .before .args .text .now) (c .before .before .before .before .before .before .before .before .before .before .before .before .before .before .args .place) (c .before .before .before .before .before .before .before .before .before .before .before .before .before .before .args .out .now) (c .before .before .before .before .before .before .before .before .before .before .before .before .before .before .args .at) (c .before .before .before .put-piece .last .0) (c .before .before .before .before .before .piece .result .next) (c .before .before .before .before .before .before .before .before .loop .k + c .before .before .before .before .before .piece .result .size)
-turn c =
-    let r = c .before .before .before .before .before .piece .result in
-    let e = c .before .before .before .before .before .piece .ensures in
-    content-turn (c .before .before .before .before .before .before .before .before .before .before .before .before .before .before .args .text .now) (c .before .before .before .before .before .before .before .before .before .before .before .before .before .before .args .place) (c .before .before .before .before .before .before .before .before .before .before .before .before .before .before .args .out .now) (c .before .before .before .before .before .before .before .before .before .before .before .before .before .before .args .at) (c .before .before .before .before .before .before .before .before .loop .out) (c .before .before .before .before .before .before .before .before .loop .i) (c .before .before .before .before .before .before .before .before .loop .k) (c .before .before .before .before .before .before .before .before .loop .inv .1)
-    (λ e. c .before .before .before .before .before .before .if2 .taken (c .before .before .before .before .before .before .before .byte-at .ensures ∙ e))
-    (c .before .before .before .put-piece .last .0) (r .next) (r .size) (r .first) (r .second) (r .third) e (c .before .before .before .put-piece .ensures)
+sub-put-run : tie.Need-sub-put-run
+sub-put-run c = omega (arith, span (c .before .before .before .before))
 
-add-k : tie.Need-add-k Inv-loop μ-loop
-add-k c = omega (arith, turn c .1, turn c .2 .fits)
+part-put-run-start : tie.Need-part-put-run-start
+part-put-run-start c = omega (arith, span (c .before .before .before .before))
 
-loop-less : tie.Need-loop-less Inv-loop μ-loop
-loop-less c = omega (arith, turn c .0, turn c .1)
+part-put-run-end : tie.Need-part-put-run-end
+part-put-run-end c = between (c .before) .within
 
-loop-again : tie.Need-loop-again Inv-loop μ-loop
-loop-again c = (c .before .before .before .put-piece .kept .0 ∙ c .before .before .before .before .before .before .before .before .loop .inv .0, turn c .2)
+put-run-requires : tie.Need-put-run-requires
+put-run-requires c κs = search needs
 
-same-length : tie.Need-same-length Inv-loop μ-loop
+sub-result : tie.Need-sub-result
+sub-result c = omega (arith, span (c .before .before .before .before .before .before .before .before))
+
+same-length : tie.Need-same-length
 same-length c = search needs
 
-returns-2 : tie.Need-returns-2 Inv-loop μ-loop
-returns-2 c = content-done (c .before .before .before .before .before .before .before .before .args .text .now) (c .before .before .before .before .before .before .before .before .args .place) (c .before .before .before .before .before .before .before .before .args .out .now) (c .before .before .before .before .before .before .before .before .args .at) (c .before .before .loop .out) (c .before .before .loop .i) (c .before .before .loop .k) (c .before .before .loop .inv .1) (sym (c .before .byte-at .ensures) ∙ c .if2 .left)
+returns-2 : tie.Need-returns-2
+returns-2 c =
+    let b = between (c .before .before .before .before .before) in
+    let text = c .before .before .before .before .before .before .before .before .before .before .before .before .before .args .text .now in
+    let from = c .before .before .before .before .before .before .before .before .before .before .before .before .before .args .place + 1 in
+    let size = c .before .before .before .before .before .before .before .before .before .before .string-at .result .next - 1 - from in
+    let fits : size ≤ length (drop from text) = omega (arith, length-drop from text, b .within) in
+    rw (b .same) (sym (length-take-le size (drop from text) fits), rw (add-zero (c .before .before .before .before .before .before .before .before .before .before .before .before .before .args .at)) at (c .before .before .put-run .ensures))
+
+put-runs-requires : tie.Need-put-runs-requires
+put-runs-requires c κs = sym (c .before .before .before .before .before .before .string-at .ensures .0) ∙ c .before .before .before .before .if1 .left
+
+same-length-2 : tie.Need-same-length-2
+same-length-2 c = search needs
+
+returns-3 : tie.Need-returns-3
+returns-3 c = search needs
 
 pub put-string-spec : {M : Type 1} → statement M
 put-string-spec =
     tie.close
     (tie.spec
-    Inv-loop
-    μ-loop
     string-at-requires
     returns
-    add-i
-    loop-holds
-    byte-at-requires
-    piece-requires
-    put-piece-requires
-    add-k
-    loop-less
-    loop-again
+    add-from
+    sub-end
+    sub-if2
+    sub-put-run
+    part-put-run-start
+    part-put-run-end
+    put-run-requires
+    sub-result
     same-length
-    returns-2)
+    returns-2
+    put-runs-requires
+    same-length-2
+    returns-3)

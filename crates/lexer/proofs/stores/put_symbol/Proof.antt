@@ -1,70 +1,57 @@
--- `stores::put_symbol` meets its contract. The loop's invariant is `Symbol`. Assumes nothing.
-use mathlib.Core.Path.{_≡_, refl, _∙_}
-use Prim.Native.Nat.{_-_}
+-- `stores::put_symbol` meets its contract. Assumes nothing.
+use mathlib.Core.Path.{_≡_, refl}
+use mathlib.Core.List.{List}
+use Prim.Native.Nat.{ℕ, _+_, _-_}
+use native.Mathlib.Nat.{add-zero}
 use native.Mathlib.Omega.{arith}
 use borrow.Author.Needs.{needs}
-use lib.ListN.{length}
-use Rattle.lexer.proofs.Written.{Symbol, symbol-start, symbol-inside, symbol-turn, symbol-done}
+use lib.ListN.{length, take, drop, length-drop, drop-of-length-le}
+use Rattle.syntax.specs.Scan.{ordinaryRun}
+use Rattle.lexer.proofs.Blanks.{run-fits, run-part}
 use Rattle.lexer.proofs.stores.put_symbol.Statement.{statement}
 use Rattle.lexer.proofs.stores.put_symbol.Tie as tie
 
-abbrev Inv-loop : tie.InvT-loop
-Inv-loop text place out₀ at size k₀ out k = (length out ≡ length out₀) × Symbol text place out₀ at size out k
+here : (text : List ℕ) (i end : ℕ) → end ≡ i + length (ordinaryRun (drop i text)) → take (end - i) (drop i text) ≡ ordinaryRun (drop i text)
+here text i end e = let size : end - i ≡ length (ordinaryRun (drop i text)) = omega arith in rw size (run-part (drop i text))
 
-abbrev μ-loop : tie.MeasureT-loop
-μ-loop text place out₀ at size k₀ out k = size - k
+returns : tie.Need-returns
+unfolding ordinaryRun
+returns c = rw (drop-of-length-le (c .before .before .before .args .text .now) (c .if1 .taken)) (refl, refl)
 
-symbol-end-requires : tie.Need-symbol-end-requires Inv-loop μ-loop
+symbol-end-requires : tie.Need-symbol-end-requires
 symbol-end-requires c κs = search needs
 
-sub-size : tie.Need-sub-size Inv-loop μ-loop
-sub-size c = search needs
+sub-put-run : tie.Need-sub-put-run
+sub-put-run c = search needs
 
-loop-holds : tie.Need-loop-holds Inv-loop μ-loop
-loop-holds c = (refl, symbol-start (c .before .before .before .args .text .now) (c .before .before .before .args .place) (c .before .before .before .args .out .now) (c .before .before .before .args .at) (c .symbol-end .result) (c .symbol-end .ensures))
+part-put-run-start : tie.Need-part-put-run-start
+part-put-run-start c = search needs
 
-add-store : tie.Need-add-store Inv-loop μ-loop
-add-store c = omega (arith, symbol-inside (c .before .before .before .before .before .before .args .text .now) (c .before .before .before .before .before .before .args .place) (c .before .before .before .before .before .before .args .out .now) (c .before .before .before .before .before .before .args .at) (c .before .before .before .symbol-end .result - c .before .before .before .before .before .before .args .place) (c .before .before .loop .out) (c .before .before .loop .k) (c .before .before .loop .inv .1) (c .before .loop-test .taken))
+part-put-run-end : tie.Need-part-put-run-end
+part-put-run-end c = omega (arith, run-fits (drop (c .before .before .before .before .before .args .place) (c .before .before .before .before .before .args .text .now)), length-drop (c .before .before .before .before .before .args .place) (c .before .before .before .before .before .args .text .now), c .before .symbol-end .ensures)
 
-shared-slice-read-store : tie.Need-shared-slice-read-store Inv-loop μ-loop
-shared-slice-read-store c = symbol-inside (c .before .before .before .before .before .before .before .args .text .now) (c .before .before .before .before .before .before .before .args .place) (c .before .before .before .before .before .before .before .args .out .now) (c .before .before .before .before .before .before .before .args .at) (c .before .before .before .before .symbol-end .result - c .before .before .before .before .before .before .before .args .place) (c .before .before .before .loop .out) (c .before .before .before .loop .k) (c .before .before .before .loop .inv .1) (c .before .before .loop-test .taken)
+put-run-requires : tie.Need-put-run-requires
+put-run-requires c κs = search needs
 
-store-requires : tie.Need-store-requires Inv-loop μ-loop
-store-requires c κs = search needs
+sub-result : tie.Need-sub-result
+sub-result c = search needs
 
-add-k : tie.Need-add-k Inv-loop μ-loop
-add-k c = search needs
-
-loop-less : tie.Need-loop-less Inv-loop μ-loop
-loop-less c = search needs
-
-loop-again : tie.Need-loop-again Inv-loop μ-loop
-loop-again c = (
-  c .before .before .store .kept .0 ∙ c .before .before .before .before .before .before .loop .inv .0,
-  symbol-turn (c .before .before .before .before .before .before .before .before .before .before .args .text .now) (c .before .before .before .before .before .before .before .before .before .before .args .place) (c .before .before .before .before .before .before .before .before .before .before .args .out .now) (c .before .before .before .before .before .before .before .before .before .before .args .at) (c .before .before .before .before .before .before .before .symbol-end .result - c .before .before .before .before .before .before .before .before .before .before .args .place) (c .before .before .before .before .before .before .loop .out) (c .before .before .before .before .before .before .loop .k) (c .before .before .before .before .before .before .loop .inv .1)
-      (c .before .before .store .last .0) (c .before .before .before .before .before .loop-test .taken) (c .before .before .store .ensures),
-)
-
-same-length : tie.Need-same-length Inv-loop μ-loop
+same-length : tie.Need-same-length
 same-length c = search needs
 
-returns : tie.Need-returns Inv-loop μ-loop
-returns c = (c .before .loop .inv .1 .whole, symbol-done (c .before .before .before .before .before .args .text .now) (c .before .before .before .before .before .args .place) (c .before .before .before .before .before .args .out .now) (c .before .before .before .before .before .args .at) (c .before .before .symbol-end .result - c .before .before .before .before .before .args .place) (c .before .loop .out) (c .before .loop .k) (c .before .loop .inv .1) (c .loop-test .left))
+returns-2 : tie.Need-returns-2
+returns-2 c = (omega (arith, c .before .before .before .before .before .symbol-end .ensures), rw (add-zero (c .before .before .before .before .before .before .before .before .before .args .at), here (c .before .before .before .before .before .before .before .before .before .args .text .now) (c .before .before .before .before .before .before .before .before .before .args .place) (c .before .before .before .before .before .symbol-end .result) (c .before .before .before .before .before .symbol-end .ensures)) at (c .before .before .put-run .ensures))
 
 pub put-symbol-spec : {M : Type 1} → statement M
 put-symbol-spec =
     tie.close
     (tie.spec
-    Inv-loop
-    μ-loop
+    returns
     symbol-end-requires
-    sub-size
-    loop-holds
-    add-store
-    shared-slice-read-store
-    store-requires
-    add-k
-    loop-less
-    loop-again
+    sub-put-run
+    part-put-run-start
+    part-put-run-end
+    put-run-requires
+    sub-result
     same-length
-    returns)
+    returns-2)

@@ -1,13 +1,12 @@
 -- `string::string_at` meets its contract. The loop's invariant: what follows `i` finishes the string with the answer. Assumes nothing.
 use mathlib.Core.Path.{_≡_, sym, _∙_}
-use Prim.Native.Nat.{_-_, _≤_}
+use Prim.Native.Nat.{_+_, _-_, _≤_}
 use native.Mathlib.Omega.{arith}
 use borrow.Author.Needs.{needs}
 use lib.ListN.{drop}
 use Rattle.syntax.specs.Scan.{quotedFrom}
 use Rattle.lexer.specs.Token.{stringAt}
-use Rattle.lexer.proofs.StringWalk.{finish, Turned, walk, stop, at-end, at-start, past-end}
-use Rattle.lexer.proofs.PieceAt.{stays}
+use Rattle.lexer.proofs.StringWalk.{finish, Turned, walk, at-start, past-end, RunEnd, run-end, escape-inside, run-stopped, run-bad}
 use Rattle.lexer.proofs.string.string_at.Statement.{statement}
 use Rattle.lexer.proofs.string.string_at.Tie as tie
 
@@ -29,41 +28,67 @@ add-i c = search needs
 loop-holds : tie.Need-loop-holds Inv-loop μ-loop
 loop-holds c = (omega arith, at-start _ _)
 
-piece-requires : tie.Need-piece-requires Inv-loop μ-loop
-piece-requires c κs = search needs
+plain-end-requires : tie.Need-plain-end-requires Inv-loop μ-loop
+plain-end-requires c κs = search needs
+
+-- After a run.
+ended : (c : tie.After-byte-at Inv-loop μ-loop)
+    → let loop = c .before .before .loop in
+    let args = c .before .before .before .before .before .args in
+    let end = c .before .plain-end .result in
+    RunEnd (args .text .now) (args .place) end (loop .length + (end - loop .i)) (stringAt (args .place) (drop (args .place) (args .text .now)))
+ended c =
+    let loop = c .before .before .loop in
+    let args = c .before .before .before .before .before .args in
+    run-end (args .text .now) (args .place) (loop .i) (loop .length) (c .before .plain-end .result) _ (c .before .plain-end .ensures) (loop .inv .1)
+
+sub-length : tie.Need-sub-length Inv-loop μ-loop
+sub-length c = search needs
+
+add-length : tie.Need-add-length Inv-loop μ-loop
+add-length c = search needs
+
+byte-at-requires : tie.Need-byte-at-requires Inv-loop μ-loop
+byte-at-requires c κs = search needs
 
 stopped-requires : tie.Need-stopped-requires Inv-loop μ-loop
 stopped-requires c κs = search needs
 
 returns-2 : tie.Need-returns-2 Inv-loop μ-loop
-returns-2 c =
-    let inside = c .before .before .before .loop-test .taken in
-    let e = sym (stop _ _ _ _ inside (stays _ _ _ (c .before .before .piece .ensures inside .0) (c .before .if2 .taken))) ∙ c .before .before .before .before .loop .inv .1 in
-    rw e at (c .stopped .ensures)
+returns-2 c = rw (run-stopped (ended (c .before .before)) (λ e. c .before .if2 .taken (c .before .before .byte-at .ensures ∙ e))) at (c .stopped .ensures)
 
--- What a turn of the loop does.
-turned : (c : tie.After-struct-known Inv-loop μ-loop)
-    → let loop = c .before .before .before .before .loop in
-    let args = c .before .before .before .before .before .before .before .args in
-    Turned (args .text .now) (args .place) (loop .i) (loop .length) (c .before .before .piece .result .next) (c .before .before .piece .result .size)
-turned c =
-    let inside = c .before .before .before .loop-test .taken in
-    walk _ _ _ _ _ _ _ _ _ inside (c .before .before .piece .ensures inside) (c .before .if2 .left)
-
-add-length : tie.Need-add-length Inv-loop μ-loop
-add-length c = omega (arith, turned c)
-
-loop-less : tie.Need-loop-less Inv-loop μ-loop
-loop-less c = omega (arith, turned c)
-
-loop-again : tie.Need-loop-again Inv-loop μ-loop
-loop-again c = (omega (arith, turned c), turned c .3 ∙ c .before .before .before .before .loop .inv .1)
+piece-requires : tie.Need-piece-requires Inv-loop μ-loop
+piece-requires c κs = search needs
 
 bad-string-requires-2 : tie.Need-bad-string-requires-2 Inv-loop μ-loop
 bad-string-requires-2 c κs = search needs
 
 returns-3 : tie.Need-returns-3 Inv-loop μ-loop
-returns-3 c = rw (sym (at-end _ _ _ _ (c .before .loop-test .left)) ∙ c .before .before .loop .inv .1) at (c .bad-string2 .ensures)
+returns-3 c =
+    let escape = sym (c .before .before .before .before .byte-at .ensures) ∙ c .before .before .before .if2 .left in
+    let told = c .before .before .piece .ensures (escape-inside (c .before .before .before .before .before .before .before .before .before .args .text .now) (c .before .before .before .before .before .plain-end .result) escape) in
+    rw (run-bad (ended (c .before .before .before .before)) (c .before .before .piece .result .next) escape (told .0) (c .before .if3 .taken)) at (c .bad-string2 .ensures)
+
+-- After the escape.
+turned : (c : tie.After-struct-known Inv-loop μ-loop)
+    → let loop = c .before .before .before .before .before .before .loop in
+    let args = c .before .before .before .before .before .before .before .before .before .args in
+    let end = c .before .before .before .before .before .plain-end .result in
+    let p = c .before .before .piece .result in
+    Turned (args .text .now) (args .place) end (loop .length + (end - loop .i)) (p .next) (p .size)
+turned c =
+    let args = c .before .before .before .before .before .before .before .before .before .args in
+    let inside = escape-inside (args .text .now) (c .before .before .before .before .before .plain-end .result) (sym (c .before .before .before .before .byte-at .ensures) ∙ c .before .before .before .if2 .left) in
+    walk _ _ _ _ _ _ _ _ _ inside (c .before .before .piece .ensures inside) (c .before .if3 .left)
+
+add-length-2 : tie.Need-add-length-2 Inv-loop μ-loop
+add-length-2 c = omega (arith, turned c)
+
+loop-less : tie.Need-loop-less Inv-loop μ-loop
+loop-less c = omega (arith, turned c, escape-inside (c .before .before .before .before .before .before .before .before .before .args .text .now) (c .before .before .before .before .before .plain-end .result) (sym (c .before .before .before .before .byte-at .ensures) ∙ c .before .before .before .if2 .left))
+
+loop-again : tie.Need-loop-again Inv-loop μ-loop
+loop-again c = (omega (arith, turned c), turned c .3 ∙ ended (c .before .before .before .before) .same)
 
 pub string-at-spec : {M : Type 1} → statement M
 string-at-spec =
@@ -75,11 +100,15 @@ string-at-spec =
     returns
     add-i
     loop-holds
-    piece-requires
+    plain-end-requires
+    sub-length
+    add-length
+    byte-at-requires
     stopped-requires
     returns-2
-    add-length
-    loop-less
-    loop-again
+    piece-requires
     bad-string-requires-2
-    returns-3)
+    returns-3
+    add-length-2
+    loop-less
+    loop-again)

@@ -1,40 +1,72 @@
--- `token::skip_blanks` meets its contract. The loop's invariant: what is left of the white space from `i` on ends where the whole does. Assumes nothing.
-use mathlib.Core.Path.{_≡_, refl, sym, _∙_}
+-- `token::skip_blanks` meets its contract. The loop's invariant: what is left of the white space from `at` on ends where the whole does. Assumes nothing.
+use mathlib.Core.Path.{_≡_, refl, _∙_}
+use mathlib.Core.Logic.{⊎-elim}
 use Prim.Native.Nat.{_+_, _-_}
 use native.Mathlib.Omega.{arith}
 use borrow.Author.Needs.{needs}
-use borrow.Author.Tests.{ltb-false}
 use lib.ListN.{length, drop}
 use Rattle.lexer.specs.Token.{blanks}
-use Rattle.lexer.proofs.Blanks.{blank-turn}
+use Rattle.lexer.proofs.Blanks.{blanks-end, blank-on, blank-stop, return-on, return-stop}
 use Rattle.lexer.proofs.token.skip_blanks.Statement.{statement}
 use Rattle.lexer.proofs.token.skip_blanks.Tie as tie
 
 abbrev Inv-loop : tie.InvT-loop
-Inv-loop text place i₀ i = i + blanks (drop i text) ≡ place + blanks (drop place text)
+Inv-loop text place at₀ at = at + blanks (drop at text) ≡ place + blanks (drop place text)
 
 abbrev μ-loop : tie.MeasureT-loop
-μ-loop text place i₀ i = length text - i
+μ-loop text place at₀ at = length text - at
 
 loop-holds : tie.Need-loop-holds Inv-loop μ-loop
 loop-holds c = refl
 
-blank-at-requires : tie.Need-blank-at-requires Inv-loop μ-loop
-blank-at-requires c κs = search needs
+shared-slice-read-b : tie.Need-shared-slice-read-b Inv-loop μ-loop
+shared-slice-read-b c = search needs
 
-add-i : tie.Need-add-i Inv-loop μ-loop
-add-i c = omega (arith, blank-turn (c .before .before .before .before .args .text .now) (c .before .before .loop .i) (sym (c .before .blank-at .ensures) ∙ c .if1 .taken))
-
-loop-less : tie.Need-loop-less Inv-loop μ-loop
-loop-less c = omega (arith, blank-turn (c .before .before .before .before .args .text .now) (c .before .before .loop .i) (sym (c .before .blank-at .ensures) ∙ c .if1 .taken))
-
-loop-again : tie.Need-loop-again Inv-loop μ-loop
-loop-again c = blank-turn (c .before .before .before .before .args .text .now) (c .before .before .loop .i) (sym (c .before .blank-at .ensures) ∙ c .if1 .taken) .1 ∙ c .before .before .loop .inv
+byte-class-requires : tie.Need-byte-class-requires Inv-loop μ-loop
+byte-class-requires c κs = search needs
 
 returns : tie.Need-returns Inv-loop μ-loop
-returns c = omega (arith, ltb-false 0 (blanks (drop (c .before .before .loop .i) (c .before .before .before .before .args .text .now))) (sym (c .before .blank-at .ensures) ∙ c .if1 .left))
+returns c = omega (arith, blank-stop (c .before .before .before .before .before .before .before .args .text .now) (c .before .before .before .before .before .loop .at) (c .before .before .byte-class .result) (c .before .before .before .before .loop-test .taken) (c .before .before .byte-class .ensures) (c .before .if1 .taken) (c .if2 .taken), c .before .before .before .before .before .loop .inv)
+
+add-byte-at : tie.Need-add-byte-at Inv-loop μ-loop
+add-byte-at c = search needs
+
+byte-at-requires : tie.Need-byte-at-requires Inv-loop μ-loop
+byte-at-requires c κs = search needs
+
+returns-2 : tie.Need-returns-2 Inv-loop μ-loop
+returns-2 c = omega (arith, return-stop (c .before .before .before .before .before .before .before .before .before .args .text .now) (c .before .before .before .before .before .before .before .loop .at) (c .before .before .before .before .byte-class .result) (c .before .before .before .before .before .before .loop-test .taken) (c .before .before .before .before .byte-class .ensures) (c .before .byte-at .result) (c .before .before .before .if1 .taken) (c .before .before .if2 .left) (c .before .byte-at .ensures) (c .if3 .taken), c .before .before .before .before .before .before .before .loop .inv)
+
+add-at : tie.Need-add-at Inv-loop μ-loop
+add-at c = search needs
+
+loop-less : tie.Need-loop-less Inv-loop μ-loop
+loop-less c = search needs
+
+loop-again : tie.Need-loop-again Inv-loop μ-loop
+loop-again c =
+    ⊎-elim
+    (λ w. return-on (c .before .before .before .before .before .before .args .text .now) (c .before .before .before .before .loop .at) (c .before .byte-class .result) (c .before .before .before .loop-test .taken) (c .before .byte-class .ensures) (w .2 .result) (w .0 .taken) (w .1 .left) (w .2 .ensures) (w .3 .left) ∙ c .before .before .before .before .loop .inv)
+    (λ w. blank-on (c .before .before .before .before .before .before .args .text .now) (c .before .before .before .before .loop .at) (c .before .byte-class .result) (c .before .before .before .loop-test .taken) (c .before .byte-class .ensures) (w .left) ∙ c .before .before .before .before .loop .inv)
+    (c .if1 .came)
+
+returns-3 : tie.Need-returns-3 Inv-loop μ-loop
+returns-3 c = omega (arith, blanks-end (c .before .before .before .args .text .now) (c .before .loop .at) (c .loop-test .left), c .before .loop .inv)
 
 pub skip-blanks-spec : {M : Type 1} → statement M
 skip-blanks-spec =
     tie.close
-    (tie.spec Inv-loop μ-loop loop-holds blank-at-requires add-i loop-less loop-again returns)
+    (tie.spec
+    Inv-loop
+    μ-loop
+    loop-holds
+    shared-slice-read-b
+    byte-class-requires
+    returns
+    add-byte-at
+    byte-at-requires
+    returns-2
+    add-at
+    loop-less
+    loop-again
+    returns-3)

@@ -1,63 +1,134 @@
--- `put::put_name` meets its contract. Assumes nothing.
-use mathlib.Core.Path.{sym}
+-- `put::put_name` meets its contract: in each arm the bytes are the name of the class, and a class without an arm has no name. Assumes nothing.
 use Rattle.elements.specs.Bytes.{codes}
 use Rattle.elements.specs.Class.{names, nameIn, nameOf, as-name}
-use Rattle.kind.proofs.Table.{rows}
-use Rattle.printer.proofs.Adding.{adds-as, adds-none}
-use Rattle.printer.proofs.Names.{padded, nameRows, nameSizes, name-fits, name-size, name-taken, no-name}
+use Rattle.printer.proofs.Names.{adds-name, adds-unnamed}
 use borrow.Author.Needs.{needs}
 use Rattle.printer.proofs.put.put_name.Statement.{statement}
 use Rattle.printer.proofs.put.put_name.Tie as tie
 
-returns : tie.Need-returns
-returns c =
-    let args = c .before .before .args in
-    adds-as (sym (no-name (args .class) (c .if1 .taken))) (adds-none (args .at) (args .out .now))
-
-mul-name : tie.Need-mul-name
-mul-name c = search needs
-
-array-copy-out-name : tie.Need-array-copy-out-name
-array-copy-out-name c = search needs
-
-mul-size : tie.Need-mul-size
-mul-size c = search needs
-
-array-read-size : tie.Need-array-read-size
-array-read-size c = search needs
-
-array-share-prefix-name : tie.Need-array-share-prefix-name
-unfolding nameRows nameSizes rows padded nameOf nameIn names as-name codes
-array-share-prefix-name c = name-fits (c .before .before .before .before .args .class) (c .before .before .if1 .left)
-
-slice-aggregate-put-bytes : tie.Need-slice-aggregate-put-bytes
-unfolding nameRows nameSizes rows padded nameOf nameIn names as-name codes
-slice-aggregate-put-bytes c = name-size (c .before .before .before .before .before .args .class) (c .before .before .before .if1 .left)
-
-put-bytes-requires : tie.Need-put-bytes-requires
-put-bytes-requires c κs = search needs
-
-same-length : tie.Need-same-length
-same-length c = search needs
-
-returns-2 : tie.Need-returns-2
-unfolding nameRows nameSizes rows padded nameOf nameIn names as-name codes
-returns-2 c =
-    let args = c .before .before .before .before .before .before .before .before .args in
-    let if1 = c .before .before .before .before .before .before .if1 in
-    adds-as (name-taken (args .class) (if1 .left)) (c .before .before .put-bytes .ensures)
-
 pub put-name-spec : {M : Type 1} → statement M
+unfolding names nameIn nameOf as-name codes
 put-name-spec =
     tie.close
     (tie.spec
-    returns
-    mul-name
-    array-copy-out-name
-    mul-size
-    array-read-size
-    array-share-prefix-name
-    slice-aggregate-put-bytes
-    put-bytes-requires
-    same-length
-    returns-2)
+    (λ c. search needs)
+    (λ c κs. search needs)
+    (λ c. search needs)
+    (λ c κs. search needs)
+    (λ c. search needs)
+    (λ c κs. search needs)
+    (λ c. search needs)
+    (λ c κs. search needs)
+    (λ c. search needs)
+    (λ c κs. search needs)
+    (λ c. search needs)
+    (λ c κs. search needs)
+    (λ c. search needs)
+    (λ c κs. search needs)
+    (λ c. search needs)
+    (λ c κs. search needs)
+    (λ c. search needs)
+    (λ c κs. search needs)
+    (λ c. search needs)
+    (λ c κs. search needs)
+    (λ c. search needs)
+    (λ c κs. search needs)
+    (λ c. search needs)
+    (λ c κs. search needs)
+    (λ c. search needs)
+    (λ c κs. search needs)
+    (λ c. search needs)
+    (λ c κs. search needs)
+    (λ c. search needs)
+    (λ c κs. search needs)
+    (λ c. search needs)
+    (λ c κs. search needs)
+    (λ c. search needs)
+    (λ c κs. search needs)
+    (λ c. search needs)
+    (λ c κs. search needs)
+    (λ c. search needs)
+    (λ c κs. search needs)
+    (λ c. search needs)
+    (λ c κs. search needs)
+    (λ c. search needs)
+    (λ c κs. search needs)
+    (λ c. search needs)
+    (λ c κs. search needs)
+    (λ c. search needs)
+    (λ c κs. search needs)
+    (λ c. search needs)
+    (λ c κs. search needs)
+    (λ c. search needs)
+    (λ c κs. search needs)
+    (λ c. search needs)
+    (λ c κs. search needs)
+    (λ c. search needs)
+    (λ c κs. search needs)
+    (λ c. search needs)
+    (λ c κs. search needs)
+    (λ c. search needs)
+    (λ c κs. search needs)
+    (λ c. search needs)
+    (λ c κs. search needs)
+    (λ c. search needs)
+    (λ c. adds-name _ 1 (c .before .before .before .before .before .match .keys1) (c .before .before .put-bytes .ensures))
+    (λ c. search needs)
+    (λ c. adds-name _ 2 (c .before .before .before .before .before .match .keys2) (c .before .before .put-bytes2 .ensures))
+    (λ c. search needs)
+    (λ c. adds-name _ 3 (c .before .before .before .before .before .match .keys3) (c .before .before .put-bytes3 .ensures))
+    (λ c. search needs)
+    (λ c. adds-name _ 4 (c .before .before .before .before .before .match .keys4) (c .before .before .put-bytes4 .ensures))
+    (λ c. search needs)
+    (λ c. adds-name _ 5 (c .before .before .before .before .before .match .keys5) (c .before .before .put-bytes5 .ensures))
+    (λ c. search needs)
+    (λ c. adds-name _ 6 (c .before .before .before .before .before .match .keys6) (c .before .before .put-bytes6 .ensures))
+    (λ c. search needs)
+    (λ c. adds-name _ 7 (c .before .before .before .before .before .match .keys7) (c .before .before .put-bytes7 .ensures))
+    (λ c. search needs)
+    (λ c. adds-name _ 8 (c .before .before .before .before .before .match .keys8) (c .before .before .put-bytes8 .ensures))
+    (λ c. search needs)
+    (λ c. adds-name _ 10 (c .before .before .before .before .before .match .keys9) (c .before .before .put-bytes9 .ensures))
+    (λ c. search needs)
+    (λ c. adds-name _ 11 (c .before .before .before .before .before .match .keys10) (c .before .before .put-bytes10 .ensures))
+    (λ c. search needs)
+    (λ c. adds-name _ 12 (c .before .before .before .before .before .match .keys11) (c .before .before .put-bytes11 .ensures))
+    (λ c. search needs)
+    (λ c. adds-name _ 13 (c .before .before .before .before .before .match .keys12) (c .before .before .put-bytes12 .ensures))
+    (λ c. search needs)
+    (λ c. adds-name _ 14 (c .before .before .before .before .before .match .keys13) (c .before .before .put-bytes13 .ensures))
+    (λ c. search needs)
+    (λ c. adds-name _ 15 (c .before .before .before .before .before .match .keys14) (c .before .before .put-bytes14 .ensures))
+    (λ c. search needs)
+    (λ c. adds-name _ 16 (c .before .before .before .before .before .match .keys15) (c .before .before .put-bytes15 .ensures))
+    (λ c. search needs)
+    (λ c. adds-name _ 17 (c .before .before .before .before .before .match .keys16) (c .before .before .put-bytes16 .ensures))
+    (λ c. search needs)
+    (λ c. adds-name _ 18 (c .before .before .before .before .before .match .keys17) (c .before .before .put-bytes17 .ensures))
+    (λ c. search needs)
+    (λ c. adds-name _ 19 (c .before .before .before .before .before .match .keys18) (c .before .before .put-bytes18 .ensures))
+    (λ c. search needs)
+    (λ c. adds-name _ 20 (c .before .before .before .before .before .match .keys19) (c .before .before .put-bytes19 .ensures))
+    (λ c. search needs)
+    (λ c. adds-name _ 21 (c .before .before .before .before .before .match .keys20) (c .before .before .put-bytes20 .ensures))
+    (λ c. search needs)
+    (λ c. adds-name _ 22 (c .before .before .before .before .before .match .keys21) (c .before .before .put-bytes21 .ensures))
+    (λ c. search needs)
+    (λ c. adds-name _ 23 (c .before .before .before .before .before .match .keys22) (c .before .before .put-bytes22 .ensures))
+    (λ c. search needs)
+    (λ c. adds-name _ 24 (c .before .before .before .before .before .match .keys23) (c .before .before .put-bytes23 .ensures))
+    (λ c. search needs)
+    (λ c. adds-name _ 25 (c .before .before .before .before .before .match .keys24) (c .before .before .put-bytes24 .ensures))
+    (λ c. search needs)
+    (λ c. adds-name _ 26 (c .before .before .before .before .before .match .keys25) (c .before .before .put-bytes25 .ensures))
+    (λ c. search needs)
+    (λ c. adds-name _ 27 (c .before .before .before .before .before .match .keys26) (c .before .before .put-bytes26 .ensures))
+    (λ c. search needs)
+    (λ c. adds-name _ 28 (c .before .before .before .before .before .match .keys27) (c .before .before .put-bytes27 .ensures))
+    (λ c. search needs)
+    (λ c. adds-name _ 29 (c .before .before .before .before .before .match .keys28) (c .before .before .put-bytes28 .ensures))
+    (λ c. search needs)
+    (λ c. adds-name _ 30 (c .before .before .before .before .before .match .keys29) (c .before .before .put-bytes29 .ensures))
+    (λ c. search needs)
+    (λ c. adds-name _ 31 (c .before .before .before .before .before .match .keys30) (c .before .before .put-bytes30 .ensures))
+    (λ c. adds-unnamed _ _ _ (c .match .rest)))

@@ -1,28 +1,15 @@
--- `fill::begin` meets its contract: what is found of each sort is what the element has.
--- Assumes nothing.
-use Rattle.reader.proofs.FilledValues.{keys-in, types-in, sizes-in, began}
-use Rattle.reader.proofs.Picked.{keys, types, sizes, picked, read-each}
-use Rattle.document.specs.Meaning.{treesOf}
-use Rattle.document.specs.Document.{keyIn, typeIn}
-use Rattle.lexer.specs.Token.{atomValue}
-use Rattle.elements.specs.Inside.{start}
+-- `fill::begin` meets its contract: what was written is the beginning of the element that has these values. Assumes nothing.
+use Prim.Native.Nat.{_+_}
 use lib.ListN.{drop}
-use mathlib.Core.Path.{_≡_, sym, _∙_}
+use Rattle.lexer.specs.Token.{atomValue}
+use Rattle.reader.specs.Filling.{Filling}
+use Rattle.reader.proofs.FilledValues.{began}
 use borrow.Author.Needs.{needs}
 use Rattle.reader.proofs.fill.begin.Statement.{statement}
 use Rattle.reader.proofs.fill.begin.Tie as tie
 
-value-place-requires : tie.Need-value-place-requires
-value-place-requires c κs = search needs
-
-value-place-requires-2 : tie.Need-value-place-requires-2
-value-place-requires-2 c κs = search needs
-
-find-requires : tie.Need-find-requires
-find-requires c κs = search needs
-
-measures-requires : tie.Need-measures-requires
-measures-requires c κs = search needs
+values-of-requires : tie.Need-values-of-requires
+values-of-requires c κs = search needs
 
 head-requires : tie.Need-head-requires
 head-requires c κs = search needs
@@ -37,34 +24,21 @@ same-length-3 : tie.Need-same-length-3
 same-length-3 c = search needs
 
 returns : tie.Need-returns
-returns c = (
-  c .before .before .before .before .before .before .head .ensures .0,
-  λ es e at st rd h.
-      let each = read-each at (c .before .before .before .before .before .before .before .before .before .before .before .before .before .before .before .before .before .before .args .kind) (start (c .before .before .before .before .before .before .before .before .before .before .before .before .before .before .before .before .before .before .args .kind)) es rd in
-      let pk = picked keys at (c .before .before .before .before .before .before .before .before .before .before .before .before .before .before .before .before .before .before .args .kind) es rd in
-      let k = keys-in (c .before .before .before .before .before .before .before .before .before .before .before .before .before .before .before .before .before .before .args .kind) es (pk .0) each (pk .1) in
-      let ek : (atomValue (drop (c .before .before .before .before .before .before .before .before .before .before .before .before .before .value-place .result) (c .before .before .before .before .before .before .before .before .before .before .before .before .before .before .before .before .before .before .args .text .now))) ≡ keyIn (treesOf es) = c .before .before .before .before .before .before .before .before .before .before .before .before .before .value-place .ensures es (pk .0) e st (pk .1) (k .1) ∙ sym (k .0) in
-      let pt = picked types at (c .before .before .before .before .before .before .before .before .before .before .before .before .before .before .before .before .before .before .args .kind) es rd in
-      let t = types-in (c .before .before .before .before .before .before .before .before .before .before .before .before .before .before .before .before .before .before .args .kind) es (pt .0) each (pt .1) in
-      let et : (atomValue (drop (c .before .before .before .before .before .before .before .before .before .before .before .before .value-place2 .result) (c .before .before .before .before .before .before .before .before .before .before .before .before .before .before .before .before .before .before .args .text .now))) ≡ typeIn (treesOf es) = c .before .before .before .before .before .before .before .before .before .before .before .before .value-place2 .ensures es (pt .0) e st (pt .1) (t .1) ∙ sym (t .0) in
-      let ps = picked sizes at (c .before .before .before .before .before .before .before .before .before .before .before .before .before .before .before .before .before .before .args .kind) es rd in
-      let u = c .before .before .before .before .before .before .before .before .before .before .before .find .ensures .1 es (ps .0) e st (ps .1) in
-      let m = c .before .before .before .before .before .before .before .before .before .before .measures .ensures (ps .0) (u .0) (u .1) in
-      let z = sizes-in (c .before .before .before .before .before .before .before .before .before .before .before .before .before .before .before .before .before .before .args .kind) (c .before .before .before .before .before .before .before .before .before .before .measures .result .width) (c .before .before .before .before .before .before .before .before .before .before .measures .result .height) es (ps .0) each (ps .1) (m .0) (m .1) in
-      let x = c .before .before .before .before .before .before .head .ensures .1 (rw (ek, et) h) in
-      began (c .before .before .before .before .before .before .before .before .before .before .before .before .before .before .before .before .before .before .args .kind) (c .before .before .before .before .before .before .before .before .before .before .before .before .before .before .before .before .before .before .args .parent) (c .before .before .before .before .before .before .before .before .before .before .before .before .before .before .before .before .before .before .args .place) (c .before .before .before .before .before .before .before .before .before .before .measures .result .width) (c .before .before .before .before .before .before .before .before .before .before .measures .result .height) es (atomValue (drop (c .before .before .before .before .before .before .before .before .before .before .before .before .before .value-place .result) (c .before .before .before .before .before .before .before .before .before .before .before .before .before .before .before .before .before .before .args .text .now))) (atomValue (drop (c .before .before .before .before .before .before .before .before .before .before .before .before .value-place2 .result) (c .before .before .before .before .before .before .before .before .before .before .before .before .before .before .before .before .before .before .args .text .now))) _ _ ek et (z .0) (z .1) (x .0) (x .1) (x .2) (x .3),
-)
+returns c =
+    let g = c .before .before .before .before .before .before .before .before .before .before .before .before .before .before .before .before .args in
+    let v = c .before .before .before .before .before .before .before .before .before .before .before .values-of in
+    let h = c .before .before .before .before .before .before .head in
+    let a : Filling = record { node = g .node; bytes = g .bytes; words = g .nodes .now; places = g .places .now; pool = g .pool .now } in
+    let b : Filling = record { node = g .node + 1; bytes = h .result; words = h .last .1 .1 .1 .1 .1 .1 .1 .1 .1 .0; places = h .last .1 .1 .1 .1 .1 .1 .1 .1 .1 .1 .0; pool = h .last .1 .1 .1 .1 .1 .1 .1 .1 .1 .1 .1 .0 } in (
+      h .ensures .0,
+      λ es e at st rd f.
+          let o = v .ensures es e at st rd in
+          let x = h .ensures .1 (rw (o .key-at, o .type-at) f) in
+          began (g .kind) (g .parent) (g .place) (v .result .size .width) (v .result .size .height) es (atomValue (drop (v .result .key) (g .text .now)))
+          (atomValue (drop (v .result .typename) (g .text .now))) a b (o .key-at) (o .type-at) (o .width-is) (o .height-is) (x .0) (x .1) (x .2) (x .3),
+    )
 
 pub begin-spec : {M : Type 1} → statement M
 begin-spec =
     tie.close
-    (tie.spec
-    value-place-requires
-    value-place-requires-2
-    find-requires
-    measures-requires
-    head-requires
-    same-length
-    same-length-2
-    same-length-3
-    returns)
+    (tie.spec values-of-requires head-requires same-length same-length-2 same-length-3 returns)

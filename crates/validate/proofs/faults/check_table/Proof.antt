@@ -1,6 +1,7 @@
 -- `validate::check_table` meets its contract. Assumes nothing.
 use borrow.Author.Needs.{needs}
 use Rattle.validate.proofs.Answers.{answer-15, answer-16, answer-17, answer-18, answer-sound}
+use Rattle.validate.proofs.Slots.{none-entered}
 use Rattle.validate.proofs.faults.check_table.Statement.{statement}
 use Rattle.validate.proofs.faults.check_table.Tie as tie
 
@@ -21,65 +22,75 @@ enum-told : tie.Need-enum-told
 enum-told c = search needs
 
 first-repeated-requires : tie.Need-first-repeated-requires
-first-repeated-requires c κs = search needs
+first-repeated-requires c κs =
+    let pre = c .before .before .before .before .before .before .before .pre in
+    let args = c .before .before .before .before .before .before .before .args in
+    (pre, none-entered (args .nodes .now) (args .pool .now))
 
 enum-known-id : tie.Need-enum-known-id
 enum-known-id c = search needs
 
 returns-2 : tie.Need-returns-2
 returns-2 c =
-    let first-bad-row = c .before .before .before .before .before .before .first-bad-row in
-    let enum-told = c .before .before .before .before .enum-told in
+    let first-bad-row = c .before .before .before .before .before .before .before .before .first-bad-row in
+    let enum-told = c .before .before .before .before .before .before .enum-told in
     let first-repeated = c .before .before .before .first-repeated in
     let id = c .before .id in
     λ d h.
     answer-16 _ _ _ d h _ (first-bad-row .ensures) (enum-told .given .1) _
-    (first-repeated .ensures) (id .given .0 .0) (id .given .1)
+    (first-repeated .ensures .0) (id .given .0 .0) (id .given .1)
 
 enum-told-2 : tie.Need-enum-told-2
 enum-told-2 c = search needs
 
 first-unknown-requires : tie.Need-first-unknown-requires
-first-unknown-requires c κs = search needs
+first-unknown-requires c κs =
+    let first-repeated = c .before .before .before .before .first-repeated in
+    let enum-told2 = c .before .before .enum-told2 in
+    first-repeated .ensures .1 (enum-told2 .given .1)
 
 enum-known-link : tie.Need-enum-known-link
 enum-known-link c = search needs
 
 returns-3 : tie.Need-returns-3
 returns-3 c =
-    let first-bad-row = c .before .before .before .before .before .before .before .before .before .first-bad-row in
-    let enum-told = c .before .before .before .before .before .before .before .enum-told in
-    let first-repeated = c .before .before .before .before .before .before .first-repeated in
-    let enum-told2 = c .before .before .before .before .enum-told2 in
+    let first-bad-row = c .before .before .before .before .before .before .before .before .before .before .before .before .before .first-bad-row in
+    let enum-told = c .before .before .before .before .before .before .before .before .before .before .before .enum-told in
+    let first-repeated = c .before .before .before .before .before .before .before .before .first-repeated in
+    let enum-told2 = c .before .before .before .before .before .before .enum-told2 in
     let first-unknown = c .before .before .before .first-unknown in
     let link = c .before .link in
     λ d h.
     answer-17 _ _ _ d h _ (first-bad-row .ensures) (enum-told .given .1) _
-    (first-repeated .ensures) (enum-told2 .given .1) _
+    (first-repeated .ensures .0) (enum-told2 .given .1) _
     (first-unknown .ensures) (link .given .0 .0) (link .given .1)
 
 enum-told-3 : tie.Need-enum-told-3
 enum-told-3 c = search needs
 
 first-unknown-requires-2 : tie.Need-first-unknown-requires-2
-first-unknown-requires-2 c κs = search needs
+first-unknown-requires-2 c κs =
+    let first-repeated = c .before .before .before .before .before .before .before .before .before .first-repeated in
+    let enum-told2 = c .before .before .before .before .before .before .before .enum-told2 in
+    first-repeated .ensures .1 (enum-told2 .given .1)
 
 enum-known-note : tie.Need-enum-known-note
 enum-known-note c = search needs
 
 returns-4 : tie.Need-returns-4
 returns-4 c =
-    let first-bad-row = c .before .before .before .before .before .before .before .before .before .before .before .before .first-bad-row in
-    let enum-told = c .before .before .before .before .before .before .before .before .before .before .enum-told in
-    let first-repeated = c .before .before .before .before .before .before .before .before .before .first-repeated in
-    let enum-told2 = c .before .before .before .before .before .before .before .enum-told2 in
-    let first-unknown = c .before .before .before .before .before .before .first-unknown in
-    let enum-told3 = c .before .before .before .before .enum-told3 in
+    let repeated = c .before .before .before .before .before .before .before .before .before .before .before .before .before in
+    let first-bad-row = repeated .before .before .before .before .before .first-bad-row in
+    let enum-told = repeated .before .before .before .enum-told in
+    let first-repeated = repeated .first-repeated in
+    let enum-told2 = c .before .before .before .before .before .before .before .before .before .before .before .enum-told2 in
+    let first-unknown = c .before .before .before .before .before .before .before .before .first-unknown in
+    let enum-told3 = c .before .before .before .before .before .before .enum-told3 in
     let first-unknown2 = c .before .before .before .first-unknown2 in
     let note = c .before .note in
     λ d h.
     answer-18 _ _ _ d h _ (first-bad-row .ensures) (enum-told .given .1) _
-    (first-repeated .ensures) (enum-told2 .given .1) _
+    (first-repeated .ensures .0) (enum-told2 .given .1) _
     (first-unknown .ensures) (enum-told3 .given .1) _
     (first-unknown2 .ensures) (note .given .0 .0) (note .given .1)
 
@@ -88,16 +99,17 @@ enum-told-4 c = search needs
 
 returns-5 : tie.Need-returns-5
 returns-5 c =
-    let first-bad-row = c .before .before .before .before .before .before .before .before .before .before .before .first-bad-row in
-    let enum-told = c .before .before .before .before .before .before .before .before .before .enum-told in
-    let first-repeated = c .before .before .before .before .before .before .before .before .first-repeated in
-    let enum-told2 = c .before .before .before .before .before .before .enum-told2 in
-    let first-unknown = c .before .before .before .before .before .first-unknown in
-    let enum-told3 = c .before .before .before .enum-told3 in
+    let repeated = c .before .before .before .before .before .before .before .before .before .before .before .before in
+    let first-bad-row = repeated .before .before .before .before .before .first-bad-row in
+    let enum-told = repeated .before .before .before .enum-told in
+    let first-repeated = repeated .first-repeated in
+    let enum-told2 = c .before .before .before .before .before .before .before .before .before .before .enum-told2 in
+    let first-unknown = c .before .before .before .before .before .before .before .first-unknown in
+    let enum-told3 = c .before .before .before .before .before .enum-told3 in
     let first-unknown2 = c .before .before .first-unknown2 in
     λ d h.
     answer-sound _ _ _ d h _ (first-bad-row .ensures) (enum-told .given .1) _
-    (first-repeated .ensures) (enum-told2 .given .1) _
+    (first-repeated .ensures .0) (enum-told2 .given .1) _
     (first-unknown .ensures) (enum-told3 .given .1) _
     (first-unknown2 .ensures) (c .enum-told4 .given .1)
 

@@ -15,15 +15,20 @@ returns c = rw (ne-eqb _ _ (λ e. c .if1 .taken (c .before .word .ensures ∙ e)
 string-requires : tie.Need-string-requires
 string-requires c κs = search needs
 
+slot-requires : tie.Need-slot-requires
+slot-requires c κs = search needs
+
 known-requires : tie.Need-known-requires
 known-requires c κs = search needs
 
 returns-2 : tie.Need-returns-2
 returns-2 c =
-    let word = c .before .before .before .word in
-    let if1 = c .before .before .if1 in
-    let key = c .before .string in
-    rw (eq-eqb _ _ (sym (word .ensures) ∙ if1 .left), ← key .ensures) (ap not (c .known .ensures))
+    let word = c .before .before .before .before .word in
+    let if1 = c .before .before .before .if1 in
+    let string = c .before .before .string in
+    rw (eq-eqb _ _ (sym (word .ensures) ∙ if1 .left), ← string .ensures) (ap not (c .known .ensures))
 
 pub dangles-spec : {M : Type 1} → statement M
-dangles-spec = tie.close (tie.spec word-requires returns string-requires known-requires returns-2)
+dangles-spec =
+    tie.close
+    (tie.spec word-requires returns string-requires slot-requires known-requires returns-2)

@@ -1,37 +1,47 @@
--- `validate::first_repeated` meets its contract. The loop's invariant: the first repeated id from node `i` on is the first of all. Assumes nothing.
-use Prim.Native.Nat.{_-_}
+-- `validate::first_repeated` meets its contract. The loop's invariant: the first repeated id from node `i` on is the first of all,
+-- and the nodes before it have entered. Assumes nothing.
+use Prim.Native.Nat.{ℕ, _-_, _≤_}
 use mathlib.Core.Path.{_≡_, _∙_, sym, ap}
 use mathlib.Core.List.{[]}
 use native.Mathlib.Omega.{arith}
 use borrow.Author.Needs.{needs}
 use Rattle.document.specs.WellFormed.{repeatedId}
 use Rattle.validate.specs.Words.{entriesFrom, idsBefore, found}
+use Rattle.validate.specs.Index.{Indexed}
 use Rattle.validate.proofs.Ids.{rest, repeated-here, repeated-on, repeated-end}
 use Rattle.validate.proofs.faults.first_repeated.Statement.{statement}
 use Rattle.validate.proofs.faults.first_repeated.Tie as tie
 
 abbrev Inv-loop : tie.InvT-loop
-Inv-loop nodes count pool i₀ i = repeatedId (idsBefore nodes pool 0 i) (rest nodes pool count i) ≡ repeatedId [] (entriesFrom nodes pool count 0)
+Inv-loop nodes count pool heads₀ nexts₀ i₀ heads nexts i =
+    (i ≤ count) × Indexed nodes pool i heads nexts
+    × (repeatedId (idsBefore nodes pool 0 i) (rest nodes pool count i) ≡ repeatedId [] (entriesFrom nodes pool count 0))
 
 abbrev μ-loop : tie.MeasureT-loop
-μ-loop nodes count pool i₀ i = count - i
+μ-loop nodes count pool heads₀ nexts₀ i₀ heads nexts i = count - i
 
 loop-holds : tie.Need-loop-holds Inv-loop μ-loop
 unfolding idsBefore
 loop-holds c =
     let e : c .before .before .args .count - 0 ≡ c .before .before .args .count = omega arith in
-    rw e
+    (omega arith, c .before .before .pre .1, rw e)
 
 repeats-requires : tie.Need-repeats-requires Inv-loop μ-loop
-repeats-requires c κs = search needs
+repeats-requires c κs =
+    let pre = c .before .before .before .before .before .before .pre in
+    let loop = c .before .before .before .loop in
+    let loop-test = c .before .before .loop-test in
+    (omega (arith, pre .0, loop-test .taken), loop .inv .1)
 
 returns : tie.Need-returns Inv-loop μ-loop
 unfolding found
 returns c =
-    let loop = c .before .before .before .loop in
-    let loop-test = c .before .before .loop-test in
-    let repeats = c .before .repeats in
-    ap found (sym (repeated-here _ _ _ _ (loop-test .taken) (sym (repeats .ensures) ∙ c .if1 .taken)) ∙ loop .inv)
+    let loop = c .before .before .before .before .before .loop in
+    let loop-test = c .before .before .before .before .loop-test in
+    let repeats = c .before .repeats in (
+      ap found (sym (repeated-here _ _ _ _ (loop-test .taken) (sym (repeats .ensures .0) ∙ c .if1 .taken)) ∙ loop .inv .2),
+      λ e. let z : _≡_ {A = ℕ} 0 1 = cc in absurd (omega arith),
+    )
 
 add-i : tie.Need-add-i Inv-loop μ-loop
 add-i c = search needs
@@ -41,16 +51,21 @@ loop-less c = search needs
 
 loop-again : tie.Need-loop-again Inv-loop μ-loop
 loop-again c =
-    let loop = c .before .before .before .loop in
-    let loop-test = c .before .before .loop-test in
-    let repeats = c .before .repeats in
-    repeated-on _ _ _ _ (loop-test .taken) (sym (repeats .ensures) ∙ c .if1 .left) ∙ loop .inv
+    let loop = c .before .before .before .before .before .loop in
+    let loop-test = c .before .before .before .before .loop-test in
+    let repeats = c .before .repeats in (
+      omega (arith, loop-test .taken),
+      repeats .ensures .1 (c .if1 .left),
+      repeated-on _ _ _ _ (loop-test .taken) (sym (repeats .ensures .0) ∙ c .if1 .left) ∙ loop .inv .2,
+    )
 
 returns-2 : tie.Need-returns-2 Inv-loop μ-loop
 unfolding found
 returns-2 c =
+    let args = c .before .before .before .before .args in
     let loop = c .before .loop in
-    ap found (sym (repeated-end _ _ _ _ _ (c .loop-test .left)) ∙ loop .inv)
+    let e : loop .i ≡ args .count = omega (arith, loop .inv .0, c .loop-test .left) in
+    (ap found (sym (repeated-end _ _ _ _ _ (c .loop-test .left)) ∙ loop .inv .2), λ q. rw e at (loop .inv .1))
 
 pub first-repeated-spec : {M : Type 1} → statement M
 first-repeated-spec =

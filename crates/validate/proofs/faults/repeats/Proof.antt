@@ -1,11 +1,13 @@
 -- `validate::repeats` meets its contract. Assumes nothing.
-use mathlib.Core.Path.{_≡_, _∙_, sym}
-use mathlib.Core.Bool.{true, false}
+use mathlib.Core.Path.{_≡_, _∙_, sym, ap}
+use mathlib.Core.Bool.{true, false, true≢false}
 use borrow.Author.Needs.{needs}
 use borrow.Author.Tests.{not-true, not-false}
 use Rattle.document.specs.WellFormed.{hasId}
-use Rattle.validate.specs.Words.{entryAt}
+use Rattle.validate.specs.Words.{keyAt, entryAt}
+use Rattle.validate.specs.Index.{slotOf}
 use Rattle.validate.proofs.Ids.{any-block}
+use Rattle.validate.proofs.Slots.{slot-below, no-id, entered}
 use Rattle.validate.proofs.faults.repeats.Statement.{statement}
 use Rattle.validate.proofs.faults.repeats.Tie as tie
 
@@ -15,26 +17,65 @@ has-id-requires c κs = search needs
 returns : tie.Need-returns
 returns c =
     let args = c .before .before .before .before .args in
+    let pre = c .before .before .before .before .pre in
     let has-id = c .before .has-id in
     let h : hasId (entryAt (args .nodes .now) (args .pool .now) (args .i)) ≡ false =
     sym (any-block (args .nodes .now) (args .pool .now) (args .i)) ∙ (sym (has-id .ensures) ∙ not-true _ (c .if1 .taken)) in
-    rw h
+    (rw h, λ e. no-id _ _ _ _ _ (pre .1) (pre .0) h)
 
 string-requires : tie.Need-string-requires
 string-requires c κs = search needs
+
+slot-requires : tie.Need-slot-requires
+slot-requires c κs = search needs
 
 known-requires : tie.Need-known-requires
 known-requires c κs = search needs
 
 returns-2 : tie.Need-returns-2
 returns-2 c =
-    let args = c .before .before .before .before .before .before .args in
-    let has-id = c .before .before .before .has-id in
-    let if1 = c .before .before .if1 in
-    let key = c .before .string in
+    let args = c .before .before .before .before .before .before .before .before .before .before .args in
+    let has-id = c .before .before .before .before .before .before .before .has-id in
+    let if1 = c .before .before .before .before .before .before .if1 in
+    let string = c .before .before .before .before .before .string in
+    let known = c .before .known in
     let h : hasId (entryAt (args .nodes .now) (args .pool .now) (args .i)) ≡ true =
     sym (any-block (args .nodes .now) (args .pool .now) (args .i)) ∙ (sym (has-id .ensures) ∙ not-false _ (if1 .left)) in
-    rw (h, ← key .ensures) (c .known .ensures)
+    (rw (h, ← string .ensures) (sym (c .if2 .taken) ∙ known .ensures), λ e. absurd (true≢false e))
+
+enter-requires : tie.Need-enter-requires
+enter-requires c κs =
+    let pre = c .before .before .before .before .before .before .before .before .before .before .before .before .pre in
+    let slot = c .before .before .before .before .before .before .slot in
+    (rw (slot .ensures) (slot-below _), pre .0)
+
+returns-3 : tie.Need-returns-3
+returns-3 c =
+    let args = c .before .before .before .before .before .before .before .before .before .before .before .before .before .args in
+    let pre = c .before .before .before .before .before .before .before .before .before .before .before .before .before .pre in
+    let has-id = c .before .before .before .before .before .before .before .before .before .before .has-id in
+    let if1 = c .before .before .before .before .before .before .before .before .before .if1 in
+    let string = c .before .before .before .before .before .before .before .before .string in
+    let slot = c .before .before .before .before .before .before .before .slot in
+    let known = c .before .before .before .before .known in
+    let if2 = c .before .before .before .if2 in
+    let h : hasId (entryAt (args .nodes .now) (args .pool .now) (args .i)) ≡ true =
+    sym (any-block (args .nodes .now) (args .pool .now) (args .i)) ∙ (sym (has-id .ensures) ∙ not-false _ (if1 .left)) in (
+      rw (h, ← string .ensures) (sym (if2 .left) ∙ known .ensures),
+      λ e.
+          let q : slot .result ≡ slotOf (keyAt (args .nodes .now) (args .pool .now) (args .i)) = slot .ensures ∙ ap slotOf (string .ensures) in
+          rw (c .enter .ensures .1, c .enter .ensures .0, q) (entered _ _ _ _ _ (pre .1) (pre .0) h),
+    )
 
 pub repeats-spec : {M : Type 1} → statement M
-repeats-spec = tie.close (tie.spec has-id-requires returns string-requires known-requires returns-2)
+repeats-spec =
+    tie.close
+    (tie.spec
+    has-id-requires
+    returns
+    string-requires
+    slot-requires
+    known-requires
+    returns-2
+    enter-requires
+    returns-3)

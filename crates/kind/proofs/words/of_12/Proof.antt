@@ -1,0 +1,48 @@
+-- `words::of_12` meets its contract: the byte leaves one word, or none. Assumes nothing.
+use mathlib.Core.Path.{_∙_}
+use borrow.Author.Needs.{needs}
+use Rattle.elements.specs.Bytes.{codes}
+use Rattle.elements.specs.Class.{names, as-name, classIn}
+use Rattle.kind.proofs.Chosen.{pick, only, others, by-byte, no-byte}
+use Rattle.kind.proofs.words.of_12.Statement.{statement}
+use Rattle.kind.proofs.words.of_12.Tie as tie
+
+shared-slice-read-match : tie.Need-shared-slice-read-match
+shared-slice-read-match c = search needs
+
+slice-aggregate-if-is : tie.Need-slice-aggregate-if-is
+slice-aggregate-if-is c = search needs
+
+if-is-requires : tie.Need-if-is-requires
+if-is-requires c κs = search needs
+
+slice-aggregate-if-is-2 : tie.Need-slice-aggregate-if-is-2
+slice-aggregate-if-is-2 c = search needs
+
+if-is-requires-2 : tie.Need-if-is-requires-2
+if-is-requires-2 c κs = search needs
+
+returns : tie.Need-returns
+unfolding pick only names as-name codes classIn
+returns c = c .if-is .ensures ∙ by-byte _ _ (c .before .before .before .before .before .pre) 0 (c .before .before .match .keys1)
+
+returns-2 : tie.Need-returns-2
+unfolding pick only names as-name codes classIn
+returns-2 c = c .if-is2 .ensures ∙ by-byte _ _ (c .before .before .before .before .before .pre) 0 (c .before .before .match .keys2)
+
+returns-3 : tie.Need-returns-3
+unfolding pick only others names as-name codes classIn
+returns-3 c = no-byte _ _ (c .before .before .before .pre) 0 (codes "fl") (c .match .rest)
+
+pub of-12-spec : {M : Type 1} → statement M
+of-12-spec =
+    tie.close
+    (tie.spec
+    shared-slice-read-match
+    slice-aggregate-if-is
+    if-is-requires
+    slice-aggregate-if-is-2
+    if-is-requires-2
+    returns
+    returns-2
+    returns-3)

@@ -1,0 +1,10 @@
+-- `put::raw` meets its contract. Assumes nothing.
+use Rattle.printer.proofs.Raw.{raw-tested}
+use Rattle.printer.proofs.put.raw.Statement.{statement}
+use Rattle.printer.proofs.put.raw.Tie as tie
+
+returns : tie.Need-returns
+returns c = raw-tested (c .args .b)
+
+pub raw-spec : {M : Type 1} → statement M
+raw-spec = tie.close (tie.spec returns)

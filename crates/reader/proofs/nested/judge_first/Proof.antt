@@ -1,0 +1,54 @@
+-- `judge_first` meets its contract: each way out is one law of `Tops`. Assumes nothing.
+use native.Mathlib.Omega.{arith}
+use Rattle.reader.proofs.Tops.{first-none, first-other, first-stuck, first-root, looked-within}
+use borrow.Author.Needs.{needs}
+use Rattle.reader.proofs.nested.judge_first.Statement.{statement}
+use Rattle.reader.proofs.nested.judge_first.Tie as tie
+
+look-requires : tie.Need-look-requires
+look-requires c κs = search needs
+
+refusal-requires : tie.Need-refusal-requires
+refusal-requires c κs = search needs
+
+returns : tie.Need-returns
+returns c = rw (c .refusal .ensures) (first-none (c .before .before .before .look .ensures) (c .before .if1 .taken))
+
+refusal-requires-2 : tie.Need-refusal-requires-2
+refusal-requires-2 c κs = search needs
+
+returns-2 : tie.Need-returns-2
+returns-2 c = rw (c .refusal2 .ensures) (first-other (c .before .before .before .before .before .look .ensures) (c .before .before .before .if1 .left) (c .before .if2 .taken))
+
+refusal-requires-3 : tie.Need-refusal-requires-3
+refusal-requires-3 c κs = search needs
+
+returns-3 : tie.Need-returns-3
+returns-3 c = first-stuck (c .before .before .before .before .before .before .look .ensures) (c .before .before .before .before .if1 .left) _ (c .before .if3 .taken)
+
+element-requires : tie.Need-element-requires
+element-requires c κs =
+    let b = looked-within (c .before .before .before .before .before .before .before .args .text .now) 0 (c .before .before .before .before .before .look .ensures) (omega arith) .2 (c .before .before .before .if1 .left) (omega (arith, c .if3 .left)) in
+    omega (arith, b, c .if3 .left)
+
+past-bracket-requires : tie.Need-past-bracket-requires
+past-bracket-requires c κs = search needs
+
+returns-4 : tie.Need-returns-4
+returns-4 c =
+    first-root (c .before .before .before .before .before .before .before .look .ensures) (c .before .before .before .before .before .if1 .left) (c .before .before .before .if2 .left) (omega (arith, c .before .before .if3 .left)) (c .before .element .ensures .0) (c .before .element .ensures .1) (c .past-bracket .ensures)
+
+pub judge-first-spec : {M : Type 1} → statement M
+judge-first-spec =
+    tie.close
+    (tie.spec
+    look-requires
+    refusal-requires
+    returns
+    refusal-requires-2
+    returns-2
+    refusal-requires-3
+    returns-3
+    element-requires
+    past-bracket-requires
+    returns-4)
