@@ -122,6 +122,17 @@ fn ascii_16(text: &[u8], place: usize) -> bool
     ascii_8(text, place) & ascii_8(text, place + 8)
 }
 
+// Whether eight ASCII bytes stand from a place on.
+fn ascii_8_at(text: &[u8], place: usize) -> bool
+    requires { ⌜ place ≤ length (now text) ⌝ }
+    ensures { λ r. ⌜ r ≡ beginsAscii 8 (drop place (now (text .entry))) ⌝ }
+{
+    if text.len() - place < 8 {
+        return false;
+    }
+    ascii_8(text, place)
+}
+
 // The place of the first ill-formed sequence, and the text's length where there is none. Most text is ASCII,
 // whose bytes are sequences by themselves.
 pub fn valid_up_to(text: &[u8]) -> usize
@@ -131,6 +142,10 @@ pub fn valid_up_to(text: &[u8]) -> usize
     while i < text.len() {
         if ascii_16(text, i) {
             i += 16;
+            continue;
+        }
+        if ascii_8_at(text, i) {
+            i += 8;
             continue;
         }
         if text[i] < 0x80 {

@@ -14,19 +14,13 @@ use Rattle.elements.specs.Inside.{start}
 use Rattle.document.specs.Document.{text, element, Trees, keepsRules, keepRules}
 use Rattle.document.specs.Document.{node, Nodes, childless, missing, says, sayAll}
 use Rattle.document.specs.Table.{count, pool}
-use Rattle.document.specs.Printing.{part}
 use Rattle.document.specs.Canonical.{nodeFirst, placeValues, layout, layoutAll, treeLevels, mostLevelsIn}
 use Rattle.table.specs.Stored.{wordAt, StoredAll}
 use Rattle.table.specs.Stored.{stringAt}
 use Rattle.validate.specs.Walking.{Decided, Decides, stringsEnd, RecordAt, TextAt, ElementAt, valueLevels, valuesOf, Lawful, NodeAt, ChildrenAt}
 use Rattle.validate.proofs.Decisions.{Same}
-use Rattle.validate.proofs.Recordings.{nodeOf, named, stored-node, node-stored, node-pool}
+use Rattle.validate.proofs.Recordings.{nodeOf, no-string, named, stored-node, node-stored, node-pool}
 use Rattle.validate.proofs.Spoken.{levelsOf, inside-say}
-
--- A string of no bytes is missing.
-no-string : (words bytes : List ℕ) (i j : ℕ) → wordAt words i (j + 1) ≡ 0 → stringAt words bytes i j ≡ []
-unfolding stringAt part
-no-string words bytes i j e = rw e
 
 -- The kinds of elements.
 pub element-range : (k : ℕ) → T (Class.isElement k) → (1 ≤ k) × (k ≤ 25)

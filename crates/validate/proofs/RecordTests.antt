@@ -1,18 +1,38 @@
 -- The tests of one record. Assumes nothing.
-use Prim.Native.Nat.{ℕ, _+_, _-_, _≤_, _<_}
+use Prim.Native.Nat.{ℕ, _+_, _*_, _-_, _≤_, _<_}
 use mathlib.Core.Path.{_≡_, refl, sym, _∙_}
 use mathlib.Core.Bool.{true, false}
 use mathlib.Core.List.{List, [], _∷_}
 use native.Mathlib.Omega.{arith}
-use lib.Dec.{T, eqb}
-use lib.ListN.{length}
-use borrow.Author.Tests.{eq-eqb, ne-eqb, eqb-true, eqb-false}
-use Rattle.laws.proofs.Booleans.{true-T, T-true}
+use lib.Dec.{T, eqb, ltb}
+use lib.ListN.{length, getD, List·getD-eq-default}
+use borrow.Author.Tests.{eq-eqb, ne-eqb, eqb-true, eqb-false, ltb-true, ltb-false}
+use Rattle.laws.proofs.Booleans.{bool-case, true-T, T-true}
 use Rattle.utf8.specs.Sequence.{validUpTo}
 use Rattle.document.specs.Value.{nonEmpty, isText}
-use Rattle.table.specs.Stored.{wordAt}
+use Rattle.table.specs.Stored.{wordAt, Recorded}
+use Rattle.table.proofs.Stored.{recorded-word}
 use Rattle.validate.specs.Walking.{Decided, offsetOf, StringAt}
 use Rattle.validate.proofs.Decisions.{decided, denied}
+
+-- ---- the words of a record
+
+-- A word past the table's end is 0.
+pub word-past : (words : List ℕ) (i j : ℕ) → length words ≤ 11 * i + j → wordAt words i j ≡ 0
+unfolding wordAt
+word-past words i j h = List·getD-eq-default words 0 h
+
+-- A word that is not 0 is there.
+pub word-there : (words : List ℕ) (i j : ℕ) → 0 < wordAt words i j → 11 * i + j < length words
+word-there words i j h =
+    bool-case (ltb (11 * i + j) (length words)) (λ e. ltb-true _ _ e)
+    (λ e. absurd (omega (arith, word-past words i j (ltb-false _ _ e))))
+
+-- The words of a record that is there whole.
+pub word-in : (words r : List ℕ) (i j : ℕ) → Recorded words i r → j < 11 → getD r j 0 ≡ wordAt words i j
+word-in words r i j e h = sym (recorded-word words r i j e h)
+
+-- ---- the tests
 
 module _ (words : List ℕ) (i j p size : ℕ) {o n : ℕ} (a : o ≡ wordAt words i j) (b : n ≡ wordAt words i (j + 1)) where
   pub string-none : p ≤ size → n ≡ 0 → Decided (StringAt words i j p size) (eqb o 0)

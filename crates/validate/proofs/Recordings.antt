@@ -43,6 +43,11 @@ string-within : (bytes s : List ℕ) (p : ℕ) → part bytes p (length s) ≡ s
 unfolding part
 string-within bytes s p e h = omega (arith, simp (length-take, length-drop) at (ap length e))
 
+-- A string of no bytes is missing.
+pub no-string : (words bytes : List ℕ) (i j : ℕ) → wordAt words i (j + 1) ≡ 0 → stringAt words bytes i j ≡ []
+unfolding stringAt part
+no-string words bytes i j e = rw e
+
 -- The string s is the one that words j and j + 1 name.
 pub record Named (words bytes : List ℕ) (i j p : ℕ) : Type 0 where
   pub size : length (stringAt words bytes i j) ≡ wordAt words i (j + 1)

@@ -6,7 +6,7 @@ use mathlib.Core.List.{List, [], _∷_}
 use native.Mathlib.Omega.{arith}
 use lib.Dec.{eqb}
 use lib.ListN.{length}
-use borrow.Author.Tests.{eq-eqb, ne-eqb, le-leb, lt-leb}
+use borrow.Author.Tests.{eqb-true, eq-eqb, ne-eqb, le-leb, lt-leb}
 use Rattle.laws.proofs.Booleans.{and-false}
 use Rattle.elements.specs.Class as Class
 use Rattle.elements.specs.Characters.{idCharacter, uriCharacter, characterOf}
@@ -14,8 +14,10 @@ use Rattle.elements.specs.Inside.{go, bad, step}
 use Rattle.kind.specs.Machine.{stateOf, stepOf}
 use Rattle.document.specs.Document.{Trees, treeClass, goesOn, keepsRules, keepRules, missing}
 use Rattle.document.specs.Value.{nonEmpty, every, namesBlock, targetCharacter, isValue, isSize}
-use Rattle.document.specs.Canonical.{valueBefore, sizeBefore}
-use Rattle.validate.specs.Walking.{Takes}
+use Rattle.document.specs.Canonical.{keyClass, valueBefore, sizeBefore}
+use Rattle.table.specs.Stored.{wordAt, stringAt}
+use Rattle.validate.specs.Walking.{Takes, valueLevels, valuesOf}
+use Rattle.validate.proofs.Recordings.{no-string}
 
 -- ---- the characters of a value
 
@@ -94,3 +96,21 @@ module _ {k state : ℕ} {ok : Bool} {state′ : ℕ} {W W′ : Trees → Trees}
 
   pub takes-not : {other : ℕ} → ok ≡ false → Takes k (λ ts. W (W′ ts)) state false other
   takes-not e = record { taken = λ ts. t .taken (W′ ts) ∙ rw e }
+
+-- ---- no values
+
+levels-none : (a b c : Bool) → _≡_ {A = ℕ} (cond (a && (b && c)) 0 1) 0 → (a ≡ true) × (b ≡ true) × (c ≡ true)
+levels-none true true true e = (refl, refl, refl)
+levels-none true true false e = absurd (omega arith)
+levels-none true false c e = absurd (omega arith)
+levels-none false b c e = absurd (omega arith)
+
+-- An element without values takes nothing.
+pub no-values : (words bytes : List ℕ) (k i state : ℕ) → valueLevels words i ≡ 0 → Takes k (valuesOf words bytes k i) state true state
+unfolding valueLevels valuesOf
+no-values words bytes k i state e =
+    let (a, b, c) = levels-none (eqb (wordAt words i 4) 0) (eqb (wordAt words i 6) 0) (eqb (wordAt words i 9) missing) e in
+    let key = value-missing k (keyClass k) state (stringAt words bytes i 3) (ap length (no-string words bytes i 3 (eqb-true _ 0 a))) in
+    let size = size-missing k state (wordAt words i 9) (wordAt words i 10) (eqb-true _ missing c) in
+    let type = value-missing k Class.type state (stringAt words bytes i 5) (ap length (no-string words bytes i 5 (eqb-true _ 0 b))) in
+    takes-then key refl (takes-then size refl type)

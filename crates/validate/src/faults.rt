@@ -5,6 +5,7 @@ use super::index::enter;
 use super::index::has_id;
 use super::index::known;
 use super::index::slot;
+use super::record::kind_at;
 use kind::Kind;
 use table::END;
 use table::KEY;
@@ -110,7 +111,7 @@ fn dangles(
     requires { ⌜ Indexed (now nodes) (now pool) count (now heads) (now nexts) ⌝ }
     ensures { λ r. ⌜ r ≡ danglesAt (now (nodes .entry)) (now (pool .entry)) kind (idsBefore (now (nodes .entry)) (now (pool .entry)) only count) i ⌝ }
 {
-    if word(nodes, i, KIND) != kind {
+    if kind_at(nodes, i) != kind {
         return false;
     }
     let id = string(nodes, i, KEY, pool);
@@ -202,11 +203,11 @@ fn binder(nodes: &[u32], i: usize) -> usize
 fn row_differs(nodes: &[u32], i: usize) -> bool
     ensures { λ r. ⌜ ((b : Bool) → Spot (now (nodes .entry)) i b → r ≡ b) ⌝ }
 {
-    if word(nodes, i, KIND) != ROW {
+    if kind_at(nodes, i) != ROW {
         return false;
     }
     let t = binder(nodes, i);
-    if word(nodes, t, KIND) != TABLE {
+    if kind_at(nodes, t) != TABLE {
         return false;
     }
     let names = head_names(nodes, t);

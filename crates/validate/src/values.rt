@@ -1,4 +1,5 @@
 // The values of an element: id or target, size, type (document 01, "Elements").
+use super::record::value_levels;
 use kind::Keyword;
 use kind::Kind;
 use kind::character;
@@ -114,6 +115,10 @@ fn key_class(kind: u8) -> u8
 pub fn values(nodes: &[u32], pool: &[u8], i: usize, kind: u8, state: u8) -> Taken
     ensures { λ r. ⌜ Takes kind (valuesOf (now (nodes .entry)) (now (pool .entry)) kind i) state (r .ok) (r .state) ⌝ }
 {
+    // most elements have none
+    if value_levels(nodes, i) == 0 {
+        return Taken { ok: true, state };
+    }
     let key = take_value(kind, state, key_class(kind), string(nodes, i, KEY, pool));
     if !key.ok {
         return Taken { ok: false, state };

@@ -34,32 +34,51 @@ loop-less c = omega (arith, block-fits _ _ 16 (c .before .before .before .loop .
 loop-again : tie.Need-loop-again Inv-loop μ-loop
 loop-again c = (block-fits _ _ 16 (c .before .before .before .loop .inv .0) (c .before .ascii-16 .ensures) (c .if1 .taken), block-turn _ _ 16 (c .before .before .before .loop .inv .0) (c .before .ascii-16 .ensures) (c .if1 .taken) ∙ c .before .before .before .loop .inv .1)
 
-shared-slice-read-if2 : tie.Need-shared-slice-read-if2 Inv-loop μ-loop
-shared-slice-read-if2 c = search needs
+ascii-8-at-requires : tie.Need-ascii-8-at-requires Inv-loop μ-loop
+ascii-8-at-requires c κs = search needs
 
 add-i-2 : tie.Need-add-i-2 Inv-loop μ-loop
-add-i-2 c = search needs
+add-i-2 c =
+    let inside = c .before .before .before .before .before .loop .inv .0 in
+    omega (arith, block-fits _ _ 8 inside (c .before .ascii-8-at .ensures) (c .if2 .taken), c .before .before .before .before .before .before .before .good)
 
 loop-less-2 : tie.Need-loop-less-2 Inv-loop μ-loop
-loop-less-2 c = search needs
+loop-less-2 c =
+    let inside = c .before .before .before .before .before .loop .inv .0 in
+    omega (arith, block-fits _ _ 8 inside (c .before .ascii-8-at .ensures) (c .if2 .taken))
 
 loop-again-2 : tie.Need-loop-again-2 Inv-loop μ-loop
-loop-again-2 c = (omega arith, block-turn _ _ 1 (c .before .before .before .before .before .loop .inv .0) (sym (ascii-byte _ _ (c .before .before .before .before .loop-test .taken))) (lt-ltb _ _ (c .if2 .taken)) ∙ c .before .before .before .before .before .loop .inv .1)
+loop-again-2 c =
+    let inv = c .before .before .before .before .before .loop .inv in
+    let ascii = c .before .ascii-8-at .ensures in
+    (block-fits _ _ 8 (inv .0) ascii (c .if2 .taken), block-turn _ _ 8 (inv .0) ascii (c .if2 .taken) ∙ inv .1)
+
+shared-slice-read-if3 : tie.Need-shared-slice-read-if3 Inv-loop μ-loop
+shared-slice-read-if3 c = search needs
+
+add-i-3 : tie.Need-add-i-3 Inv-loop μ-loop
+add-i-3 c = search needs
+
+loop-less-3 : tie.Need-loop-less-3 Inv-loop μ-loop
+loop-less-3 c = search needs
+
+loop-again-3 : tie.Need-loop-again-3 Inv-loop μ-loop
+loop-again-3 c = (omega arith, block-turn _ _ 1 (c .before .before .before .before .before .before .before .loop .inv .0) (sym (ascii-byte _ _ (c .before .before .before .before .before .before .loop-test .taken))) (lt-ltb _ _ (c .if3 .taken)) ∙ c .before .before .before .before .before .before .before .loop .inv .1)
 
 sequence-length-requires : tie.Need-sequence-length-requires Inv-loop μ-loop
 sequence-length-requires c κs = search needs
 
 returns : tie.Need-returns Inv-loop μ-loop
-returns c = omega (arith, stop _ (sym (c .before .sequence-length .ensures) ∙ c .if3 .taken), c .before .before .before .before .before .before .before .loop .inv .1)
+returns c = omega (arith, stop _ (sym (c .before .sequence-length .ensures) ∙ c .if4 .taken), c .before .before .before .before .before .before .before .before .before .loop .inv .1)
 
-add-i-3 : tie.Need-add-i-3 Inv-loop μ-loop
-add-i-3 c = omega (arith, turn-fits _ _ _ (c .before .before .before .before .before .before .before .loop .inv .0) (c .before .sequence-length .ensures), c .before .before .before .before .before .before .before .before .before .good)
+add-i-4 : tie.Need-add-i-4 Inv-loop μ-loop
+add-i-4 c = omega (arith, turn-fits _ _ _ (c .before .before .before .before .before .before .before .before .before .loop .inv .0) (c .before .sequence-length .ensures), c .before .before .before .before .before .before .before .before .before .before .before .good)
 
-loop-less-3 : tie.Need-loop-less-3 Inv-loop μ-loop
-loop-less-3 c = omega (arith, turn-fits _ _ _ (c .before .before .before .before .before .before .before .loop .inv .0) (c .before .sequence-length .ensures))
+loop-less-4 : tie.Need-loop-less-4 Inv-loop μ-loop
+loop-less-4 c = omega (arith, turn-fits _ _ _ (c .before .before .before .before .before .before .before .before .before .loop .inv .0) (c .before .sequence-length .ensures))
 
-loop-again-3 : tie.Need-loop-again-3 Inv-loop μ-loop
-loop-again-3 c = (turn-fits _ _ _ (c .before .before .before .before .before .before .before .loop .inv .0) (c .before .sequence-length .ensures), turn _ _ _ (c .before .sequence-length .ensures) ∙ c .before .before .before .before .before .before .before .loop .inv .1)
+loop-again-4 : tie.Need-loop-again-4 Inv-loop μ-loop
+loop-again-4 c = (turn-fits _ _ _ (c .before .before .before .before .before .before .before .before .before .loop .inv .0) (c .before .sequence-length .ensures), turn _ _ _ (c .before .sequence-length .ensures) ∙ c .before .before .before .before .before .before .before .before .before .loop .inv .1)
 
 returns-2 : tie.Need-returns-2 Inv-loop μ-loop
 unfolding validFrom
@@ -76,13 +95,17 @@ valid-up-to-spec =
     add-i
     loop-less
     loop-again
-    shared-slice-read-if2
+    ascii-8-at-requires
     add-i-2
     loop-less-2
     loop-again-2
-    sequence-length-requires
-    returns
+    shared-slice-read-if3
     add-i-3
     loop-less-3
     loop-again-3
+    sequence-length-requires
+    returns
+    add-i-4
+    loop-less-4
+    loop-again-4
     returns-2)

@@ -6,11 +6,11 @@ use borrow.Author.Tests.{eq-eqb, ne-eqb}
 use Rattle.validate.proofs.faults.dangles.Statement.{statement}
 use Rattle.validate.proofs.faults.dangles.Tie as tie
 
-word-requires : tie.Need-word-requires
-word-requires c κs = search needs
+kind-at-requires : tie.Need-kind-at-requires
+kind-at-requires c κs = search needs
 
 returns : tie.Need-returns
-returns c = rw (ne-eqb _ _ (λ e. c .if1 .taken (c .before .word .ensures ∙ e)))
+returns c = rw (ne-eqb _ _ (λ e. c .if1 .taken (c .before .kind-at .ensures ∙ e)))
 
 string-requires : tie.Need-string-requires
 string-requires c κs = search needs
@@ -23,12 +23,12 @@ known-requires c κs = search needs
 
 returns-2 : tie.Need-returns-2
 returns-2 c =
-    let word = c .before .before .before .before .word in
+    let kind = c .before .before .before .before .kind-at in
     let if1 = c .before .before .before .if1 in
     let string = c .before .before .string in
-    rw (eq-eqb _ _ (sym (word .ensures) ∙ if1 .left), ← string .ensures) (ap not (c .known .ensures))
+    rw (eq-eqb _ _ (sym (kind .ensures) ∙ if1 .left), ← string .ensures) (ap not (c .known .ensures))
 
 pub dangles-spec : {M : Type 1} → statement M
 dangles-spec =
     tie.close
-    (tie.spec word-requires returns string-requires slot-requires known-requires returns-2)
+    (tie.spec kind-at-requires returns string-requires slot-requires known-requires returns-2)

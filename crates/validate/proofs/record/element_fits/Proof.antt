@@ -1,30 +1,22 @@
 -- `record::element_fits` meets its contract. Assumes nothing.
 use native.Mathlib.Omega.{arith}
-use mathlib.Core.Path.{_≡_, sym, _∙_}
-use mathlib.Core.Logic.{⊎-elim}
-use lib.Dec.{ltb}
-use Rattle.document.specs.Document.{missing}
-use Rattle.table.specs.Stored.{wordAt}
-use borrow.Author.Tests.{ltb-true, ltb-false}
-use Rattle.validate.proofs.Decisions.{decided, denied}
+use Rattle.validate.proofs.RecordTests.{word-in}
 use borrow.Author.Needs.{needs}
 use Rattle.validate.proofs.record.element_fits.Statement.{statement}
 use Rattle.validate.proofs.record.element_fits.Tie as tie
+use Rattle.table.proofs.word.Reads as word-reads
+use Rattle.validate.proofs.record.may_be_element.Reads as may-be-element-reads
+use Rattle.validate.proofs.record.value_levels.Reads as value-levels-reads
+use Rattle.validate.proofs.record.words.Reads as words-reads
+
+value-levels-requires : tie.Need-value-levels-requires
+value-levels-requires c κs = search needs
 
 word-requires : tie.Need-word-requires
 word-requires c κs = search needs
 
-returns : tie.Need-returns
-returns c = denied (λ s. omega (arith, c .before .word .ensures, s .kind-low))
-
-returns-2 : tie.Need-returns-2
-returns-2 c = denied (λ s. omega (arith, c .before .before .word .ensures, s .kind-high))
-
 word-requires-2 : tie.Need-word-requires-2
 word-requires-2 c κs = search needs
-
-returns-3 : tie.Need-returns-3
-returns-3 c = denied (λ s. c .if3 .taken (c .before .word2 .ensures ∙ s .no-text))
 
 word-requires-3 : tie.Need-word-requires-3
 word-requires-3 c κs = search needs
@@ -32,37 +24,75 @@ word-requires-3 c κs = search needs
 word-requires-4 : tie.Need-word-requires-4
 word-requires-4 c κs = search needs
 
-returns-4 : tie.Need-returns-4
-returns-4 c = denied (λ s. c .if5 .taken (c .before .word4 .ensures ∙ s .sized (sym (c .before .before .before .word3 .ensures) ∙ c .before .before .if4 .taken)))
+may-be-element-requires : tie.Need-may-be-element-requires
+may-be-element-requires c κs = search needs
 
-value-levels-requires : tie.Need-value-levels-requires
-value-levels-requires c κs = search needs
+returns : tie.Need-returns
+returns c =
+    let kind = c .before .before .before .before .word .ensures in
+    let text = c .before .before .before .word2 .ensures in
+    let width = c .before .before .word3 .ensures in
+    let height = c .before .word4 .ensures in
+    c .may-be-element .ensures _ _ kind text width height (c .before .before .before .before .before .before .value-levels .ensures)
 
-returns-5 : tie.Need-returns-5
-returns-5 c =
-    let levels = c .value-levels .result in
-    let left = c .before .before .before .before .before .before .before .before .before .args .left in
-    decided (ltb levels left)
-    (λ e. record {
-      kind-low = omega (arith, c .before .before .before .before .before .before .before .word .ensures, c .before .before .before .before .before .before .if1 .left);
-      kind-high = omega (arith, c .before .before .before .before .before .before .before .word .ensures, c .before .before .before .before .before .if2 .left);
-      no-text = sym (c .before .before .before .before .word2 .ensures) ∙ c .before .before .before .if3 .left;
-      sized = λ w. ⊎-elim {C = wordAt (c .before .before .before .before .before .before .before .before .before .args .nodes .now) (c .before .before .before .before .before .before .before .before .before .args .i) 10 ≡ missing} (λ t. sym (t .1 .ensures) ∙ t .2 .left) (λ t. absurd (t .left (c .before .before .word3 .ensures ∙ w))) (c .before .if4 .came);
-      levels = omega (arith, c .value-levels .ensures, ltb-true levels left e);
-    })
-    (λ e s. omega (arith, c .value-levels .ensures, ltb-false levels left e, s .levels))
+words-requires : tie.Need-words-requires
+words-requires c κs = search needs
+
+shared-slice-read-may-be-element : tie.Need-shared-slice-read-may-be-element
+shared-slice-read-may-be-element c = search needs
+
+cast-may-be-element : tie.Need-cast-may-be-element
+cast-may-be-element c = omega (arith, c .shared-slice-known2 .given 0)
+
+shared-slice-read-may-be-element-2 : tie.Need-shared-slice-read-may-be-element-2
+shared-slice-read-may-be-element-2 c = search needs
+
+cast-may-be-element-2 : tie.Need-cast-may-be-element-2
+cast-may-be-element-2 c = omega (arith, c .shared-slice-known3 .given 8)
+
+shared-slice-read-may-be-element-3 : tie.Need-shared-slice-read-may-be-element-3
+shared-slice-read-may-be-element-3 c = search needs
+
+cast-may-be-element-3 : tie.Need-cast-may-be-element-3
+cast-may-be-element-3 c = omega (arith, c .shared-slice-known4 .given 9)
+
+shared-slice-read-may-be-element-4 : tie.Need-shared-slice-read-may-be-element-4
+shared-slice-read-may-be-element-4 c = search needs
+
+cast-may-be-element-4 : tie.Need-cast-may-be-element-4
+cast-may-be-element-4 c = omega (arith, c .shared-slice-known5 .given 10)
+
+may-be-element-requires-2 : tie.Need-may-be-element-requires-2
+may-be-element-requires-2 c κs = search needs
+
+returns-2 : tie.Need-returns-2
+returns-2 c =
+    let r = c .before .before .before .before .before .words .ensures .0 in
+    let kind = word-in _ _ _ 0 r (omega arith) in
+    let text = word-in _ _ _ 8 r (omega arith) in
+    let width = word-in _ _ _ 9 r (omega arith) in
+    let height = word-in _ _ _ 10 r (omega arith) in
+    c .may-be-element2 .ensures _ _ kind text width height (c .before .before .before .before .before .before .before .value-levels .ensures)
 
 pub element-fits-spec : {M : Type 1} → statement M
 element-fits-spec =
     tie.close
     (tie.spec
+    value-levels-requires
     word-requires
-    returns
-    returns-2
     word-requires-2
-    returns-3
     word-requires-3
     word-requires-4
-    returns-4
-    value-levels-requires
-    returns-5)
+    may-be-element-requires
+    returns
+    words-requires
+    shared-slice-read-may-be-element
+    cast-may-be-element
+    shared-slice-read-may-be-element-2
+    cast-may-be-element-2
+    shared-slice-read-may-be-element-3
+    cast-may-be-element-3
+    shared-slice-read-may-be-element-4
+    cast-may-be-element-4
+    may-be-element-requires-2
+    returns-2)

@@ -1,4 +1,5 @@
 -- `values::values` meets its contract. Assumes nothing.
+use mathlib.Core.Path.{sym, _∙_}
 use native.Mathlib.Omega.{arith}
 use borrow.Author.Tests.{not-true, not-false}
 use Rattle.laws.proofs.Booleans.{cond-case}
@@ -6,10 +7,16 @@ use Prim.Native.Nat.{ℕ, _≤_}
 use Rattle.document.specs.Canonical.{keyClass}
 use Rattle.elements.specs.Class.{isBlock}
 use Rattle.validate.specs.Walking.{valuesOf}
-use Rattle.validate.proofs.ValueSteps.{takes-then, takes-not}
+use Rattle.validate.proofs.ValueSteps.{takes-then, takes-not, no-values}
 use borrow.Author.Needs.{needs}
 use Rattle.validate.proofs.values.values.Statement.{statement}
 use Rattle.validate.proofs.values.values.Tie as tie
+
+value-levels-requires : tie.Need-value-levels-requires
+value-levels-requires c κs = search needs
+
+returns : tie.Need-returns
+returns c = no-values _ _ _ _ _ (sym (c .before .value-levels .ensures) ∙ c .if1 .taken)
 
 key-class-requires : tie.Need-key-class-requires
 key-class-requires c κs = search needs
@@ -19,11 +26,11 @@ string-requires c κs = search needs
 
 take-value-requires : tie.Need-take-value-requires
 unfolding keyClass
-take-value-requires c κs = rw (c .before .key-class .ensures) (cond-case (λ (n : ℕ). (26 ≤ n) × (n ≤ 28)) (isBlock (c .before .before .before .before .args .kind)) (λ e. omega arith) (λ e. omega arith))
+take-value-requires c κs = rw (c .before .key-class .ensures) (cond-case (λ (n : ℕ). (26 ≤ n) × (n ≤ 28)) (isBlock (c .before .before .before .before .before .before .args .kind)) (λ e. omega arith) (λ e. omega arith))
 
-returns : tie.Need-returns
+returns-2 : tie.Need-returns-2
 unfolding valuesOf
-returns c = takes-not (rw (c .before .before .before .before .key-class .ensures, c .before .before .before .string .ensures) at (c .before .before .take-value .ensures)) (not-true _ (c .if1 .taken))
+returns-2 c = takes-not (rw (c .before .before .before .before .key-class .ensures, c .before .before .before .string .ensures) at (c .before .before .take-value .ensures)) (not-true _ (c .if2 .taken))
 
 word-requires : tie.Need-word-requires
 word-requires c κs = search needs
@@ -34,12 +41,12 @@ word-requires-2 c κs = search needs
 take-size-requires : tie.Need-take-size-requires
 take-size-requires c κs = search needs
 
-returns-2 : tie.Need-returns-2
+returns-3 : tie.Need-returns-3
 unfolding valuesOf
-returns-2 c =
+returns-3 c =
     let key = rw (c .before .before .before .before .before .before .before .before .before .key-class .ensures, c .before .before .before .before .before .before .before .before .string .ensures) at (c .before .before .before .before .before .before .before .take-value .ensures) in
     let size = rw (c .before .before .before .before .word .ensures, c .before .before .before .word2 .ensures) at (c .before .before .take-size .ensures) in
-    takes-then key (not-false _ (c .before .before .before .before .before .if1 .left)) (takes-not size (not-true _ (c .if2 .taken)))
+    takes-then key (not-false _ (c .before .before .before .before .before .if2 .left)) (takes-not size (not-true _ (c .if3 .taken)))
 
 string-requires-2 : tie.Need-string-requires-2
 string-requires-2 c κs = search needs
@@ -47,26 +54,28 @@ string-requires-2 c κs = search needs
 take-value-requires-2 : tie.Need-take-value-requires-2
 take-value-requires-2 c κs = search needs
 
-returns-3 : tie.Need-returns-3
+returns-4 : tie.Need-returns-4
 unfolding valuesOf
-returns-3 c =
+returns-4 c =
     let key = rw (c .before .before .before .before .before .before .before .before .before .before .before .key-class .ensures, c .before .before .before .before .before .before .before .before .before .before .string .ensures) at (c .before .before .before .before .before .before .before .before .before .take-value .ensures) in
     let size = rw (c .before .before .before .before .before .before .word .ensures, c .before .before .before .before .before .word2 .ensures) at (c .before .before .before .before .take-size .ensures) in
     let type = rw (c .before .string2 .ensures) at (c .take-value2 .ensures) in
-    takes-then key (not-false _ (c .before .before .before .before .before .before .before .if1 .left)) (takes-then size (not-false _ (c .before .before .if2 .left)) type)
+    takes-then key (not-false _ (c .before .before .before .before .before .before .before .if2 .left)) (takes-then size (not-false _ (c .before .before .if3 .left)) type)
 
 pub values-spec : {M : Type 1} → statement M
 values-spec =
     tie.close
     (tie.spec
+    value-levels-requires
+    returns
     key-class-requires
     string-requires
     take-value-requires
-    returns
+    returns-2
     word-requires
     word-requires-2
     take-size-requires
-    returns-2
+    returns-3
     string-requires-2
     take-value-requires-2
-    returns-3)
+    returns-4)
