@@ -148,8 +148,8 @@ fn first_seen(text: &[u8], place: usize) -> Seen
     list_seen(text, place)
 }
 
-// What is seen from a place on.
-pub fn look(text: &[u8], place: usize) -> Seen
+// What is seen from a place on, whatever stands there.
+fn look_on(text: &[u8], place: usize) -> Seen
     ensures { λ r. ⌜ (r .sort ≡ seen place (drop place (now (text .entry))) .sort)
         × (r .place ≡ seen place (drop place (now (text .entry))) .place)
         × (r .class ≡ seen place (drop place (now (text .entry))) .class)
@@ -157,4 +157,22 @@ pub fn look(text: &[u8], place: usize) -> Seen
         × (r .length ≡ seen place (drop place (now (text .entry))) .length) ⌝ }
 {
     first_seen(text, skip_blanks(text, place))
+}
+
+// What is seen from a place on. Where the run ends without white space, as most do, that is told at once: a function this small
+// is inlined.
+pub fn look(text: &[u8], place: usize) -> Seen
+    ensures { λ r. ⌜ (r .sort ≡ seen place (drop place (now (text .entry))) .sort)
+        × (r .place ≡ seen place (drop place (now (text .entry))) .place)
+        × (r .class ≡ seen place (drop place (now (text .entry))) .class)
+        × (r .next ≡ seen place (drop place (now (text .entry))) .next)
+        × (r .length ≡ seen place (drop place (now (text .entry))) .length) ⌝ }
+{
+    if text.len() <= place {
+        return nothing_seen(place);
+    }
+    if class::ROUND_END <= class::byte_class(text[place]) {
+        return nothing_seen(place);
+    }
+    look_on(text, place)
 }

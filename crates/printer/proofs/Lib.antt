@@ -5,8 +5,10 @@ pub mod Elements
 pub mod Names
 pub mod Pieces
 pub mod Raw
+pub mod RawTail
 pub mod Short
 pub mod Siblings
 pub mod Standing
+pub mod Valueless
 pub mod Written
 pub mod Answers

@@ -65,6 +65,13 @@ module _ (s : List ℕ) (from : ℕ) where
             (raw-both (take (i - from) (drop from s)) (take n (drop i s)) (a .raw) b);
       }
 
+  pub raw-join : (i to : ℕ) → RawTo s from i → RawTo s i to → RawTo s from to
+  raw-join i to a b =
+      let low : i ≤ to = b .above in
+      let high : to ≤ length s = b .within in
+      let size : i + (to - i) ≡ to = omega arith in
+      rw size at (raw-on i (to - i) a (omega arith) (b .raw))
+
   -- Two blocks of eight, by their tests.
   pub raw-two : (i : ℕ) {p q : Bool} → RawTo s from i → i + 16 ≤ length s → (p ≡ true → Raw (take 8 (drop i s)))
       → (q ≡ true → Raw (take 8 (drop (i + 8) s))) → p && q ≡ true → RawTo s from (i + 16)

@@ -19,20 +19,16 @@ ghost use Rattle.printer.specs.Inside.{valueInside, sizeInside};
 const TARGET: usize = Keyword::TARGET.number as usize;
 
 // A sum, where it fits a word.
-pub fn plus(a: usize, n: usize) -> usize
+fn plus(a: usize, n: usize) -> usize
     ensures { λ r. ⌜ (r ≤ 4294967295) × (a + n ≤ 4294967295 → r ≡ a + n) ⌝ }
 {
-    if 4294967295 < a {
-        return 0;
-    }
     if 4294967295 < n {
         return 0;
     }
-    let sum = a + n;
-    if 4294967295 < sum {
+    if 4294967295 - n < a {
         return 0;
     }
-    sum
+    a + n
 }
 
 // A store, where there is such a place.
@@ -225,12 +221,32 @@ fn raw_blocks(bytes: &[u8], from: usize) -> usize
     i
 }
 
+// Whether all from an index on do, where they are sixteen at most: by a test of the eight there and one of the last eight, which may overlap.
+// So bytes are tested one by one only in a string of fewer than eight, or where one of them does not stand for itself.
+fn raw_rest(bytes: &[u8], from: usize) -> bool
+    requires { ⌜ from ≤ length (now bytes) ⌝ }
+    ensures { λ r. ⌜ (r ≡ true → RawTo (now (bytes .entry)) from (length (now (bytes .entry)))) ⌝ }
+{
+    let end = bytes.len();
+    if end < 8 {
+        return false;
+    }
+    if 16 < end - from {
+        return false;
+    }
+    let last = end - 8;
+    raw_8(bytes, lesser(from, last)) & raw_8(bytes, last)
+}
+
 // Past as many bytes as stand for themselves.
 fn raw_end(bytes: &[u8], from: usize) -> usize
     requires { ⌜ from ≤ length (now bytes) ⌝ }
     ensures { λ r. ⌜ RawTo (now (bytes .entry)) from r ⌝ }
 {
     let mut i = raw_blocks(bytes, from);
+    if raw_rest(bytes, i) {
+        return bytes.len();
+    }
     while i < bytes.len() {
         if !raw(bytes[i]) {
             return i;

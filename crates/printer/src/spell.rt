@@ -2,7 +2,6 @@
 // On any words the functions are safe and end; what they write is said where a document's nodes stand in the table.
 // Each writes as much as there is room for and answers how much it would need, so that an empty output measures.
 use super::put::lesser;
-use super::put::plus;
 use super::put::put;
 use super::put::put_name;
 use super::put::put_quoted;
@@ -13,13 +12,17 @@ use kind::Kind;
 use table::END;
 use table::HEIGHT;
 use table::KEY;
+use table::KEY_LENGTH;
 use table::KIND;
+use table::MISSING;
 use table::TEXT;
 use table::TYPE;
+use table::TYPE_LENGTH;
 use table::WIDTH;
 use table::string;
 use table::word;
 ghost use mathlib.Core.Path.{_≡_};
+ghost use mathlib.Core.Bool.{true};
 ghost use mathlib.Core.List.{List};
 ghost use Prim.Native.Nat.{ℕ, _+_, _≤_, _<_};
 ghost use lib.ListN.{length};
@@ -31,7 +34,7 @@ ghost use Rattle.document.specs.Canonical.{keyClass, nodeFirst, canonical};
 ghost use Rattle.table.specs.Stored.{wordAt, Stored, StoredAll};
 ghost use Rattle.printer.specs.Adds.{Adds};
 ghost use Rattle.table.specs.Stored.{stringAt};
-ghost use Rattle.printer.specs.Inside.{insideAll, valuesInside, firstOf};
+ghost use Rattle.printer.specs.Inside.{Valueless, insideAll, valuesInside, firstOf};
 
 // A block has an id, any other element a target.
 fn key_class(kind: usize) -> usize
@@ -62,12 +65,24 @@ fn is_titled(kind: usize) -> bool
     kind == Kind::TABLE.number as usize
 }
 
+// Whether node `i` has neither key nor size nor type, as most elements.
+fn lacks_values(nodes: &[u32], i: usize) -> bool
+    ensures { λ r. ⌜ (r ≡ true → Valueless (now (nodes .entry)) i) ⌝ }
+{
+    (word(nodes, i, KEY_LENGTH) == 0)
+        & (word(nodes, i, TYPE_LENGTH) == 0)
+        & (word(nodes, i, WIDTH) == MISSING)
+}
+
 // The values of node `i`.
 fn values(nodes: &[u32], pool: &[u8], i: usize, out: &mut [u8], at: usize) -> usize
     ensures { λ r. ⌜ Adds (valuesInside (wordAt (now (nodes .entry)) i 0) (stringAt (now (nodes .entry)) (now (pool .entry)) i 3)
         (stringAt (now (nodes .entry)) (now (pool .entry)) i 5) (wordAt (now (nodes .entry)) i 9) (wordAt (now (nodes .entry)) i 10))
         at (now (out .entry)) r (now (out .exit)) ⌝ }
 {
+    if lacks_values(nodes, i) {
+        return at;
+    }
     let class = key_class(word(nodes, i, KIND));
     let k = put_value(out, at, class, string(nodes, i, KEY, pool));
     let k = put_size(out, k, word(nodes, i, WIDTH), word(nodes, i, HEIGHT));
@@ -104,6 +119,7 @@ fn first_end(nodes: &[u32], i: usize, end: usize) -> usize
 }
 
 // The nodes with numbers from `from` to before `end` that stand side by side, a space before each.
+// Neither what `put` answers nor what `spell` does passes 4,294,967,295, so their sum needs no test: the next `put` makes it.
 fn children(nodes: &[u32], pool: &[u8], from: usize, end: usize, out: &mut [u8], at: usize) -> usize
     ensures { λ r. ⌜ ((ns : Nodes) (parent p : ℕ) → StoredAll (now (nodes .entry)) (now (pool .entry)) from parent p ns → end ≡ from + countAll ns
         → Adds (insideAll ns) at (now (out .entry)) r (now (out .exit))) ⌝ }
@@ -121,7 +137,7 @@ fn children(nodes: &[u32], pool: &[u8], from: usize, end: usize, out: &mut [u8],
         k = put(out, k, b' ');
         let start = lesser(k, out.len());
         let size = spell(nodes, pool, i, next, &mut out[start..]);
-        k = plus(k, size);
+        k += size;
         i = next;
     }
     k

@@ -8,7 +8,7 @@ use native.Mathlib.Omega.{arith}
 use borrow.Author.Tests.{lt-ltb, le-ltb, ltb-false, le-leb}
 use Rattle.laws.proofs.Booleans.{true-T}
 use lib.Dec.{ltb}
-use lib.ListN.{length, length-append, take, drop, getD, List·getD-append, List·getD-eq-default}
+use lib.ListN.{length, length-append, take, drop, getD, replicate, length-replicate, List·getD-append, List·getD-eq-default}
 use lib.Seq.{sets, sets-eq, take-at}
 use Rattle.syntax.specs.Expression.{Expr, Exprs, none, and, depthAll}
 use Rattle.document.specs.Document.{Node, says, Document}
@@ -37,9 +37,12 @@ use Rattle.reader.specs.Walked.{readWalked}
 use Rattle.reader.specs.Checked.{checkPlace, Held}
 use Rattle.reader.specs.Groups.{groupNumber, groupPlace, roomNumber}
 use Rattle.reader.specs.Read.{Answers, Reads}
+use Rattle.reader.specs.Sizes.{nodesOf}
+use Rattle.reader.specs.Tape.{taped, Located}
 use Rattle.reader.specs.Filling.{Fits32}
-use Rattle.reader.proofs.Roots.{stands-fit}
-use Rattle.reader.proofs.Fits.{imperative-fits}
+use Rattle.reader.proofs.Counts.{nodes-places}
+use Rattle.reader.proofs.Fits.{read-fits}
+use Rattle.reader.proofs.Located.{form-located}
 use Rattle.reader.proofs.Within.{Placed}
 use Rattle.reader.proofs.Bounds.{group-place, place-list-within, read-placed, walk-within}
 use Rattle.reader.proofs.Outcomes.{Passed, Judged, group-refused, group-passed, judged-refused, judged-read}
@@ -58,6 +61,15 @@ module _ (words places bytes n p : ℕ) where
   pub room-enough : n ≤ min 4096 (min (words / recordLength) places) → p ≤ bytes → 0 ≡ roomNumber words places bytes n p
   unfolding roomNumber
   room-enough h g = rw (le-ltb (min 4096 (min (words / recordLength) places)) n h, le-ltb bytes p g)
+
+  -- Where there is room, the nodes are few.
+  pub room-few : roomNumber words places bytes n p ≡ 0 → n ≤ 4096
+  unfolding roomNumber
+  room-few = go (ltb (min 4096 (min (words / recordLength) places)) n) refl
+    where
+      go : (a : Bool) → ltb (min 4096 (min (words / recordLength) places)) n ≡ a → _≡_ {A = ℕ} (cond a 13 (cond (ltb bytes p) 14 0)) 0 → n ≤ 4096
+      go true e z = absurd (omega arith)
+      go false e z = omega (arith, ltb-false (min 4096 (min (words / recordLength) places)) n e)
 
 -- ---- the ways through `checked`
 
@@ -186,12 +198,54 @@ module _ (s : Spelling) (text : List ℕ) (n p : ℕ) (group : (n ≡ groupNumbe
   pub group-fits : p ≤ 65536
   group-fits = omega (arith, group-place (mostLevels s) text, group .1)
 
+  pub group-short : n ≡ 0 → length text ≤ 65536
+  group-short z = group-passed s text (record { nodes = []; places = []; pool = [] }) (sym (group .0) ∙ z) .short
+
   pub walk-fits : n ≡ 0 → (w : Walked) → Judges s text w → (w .place ≤ 65536) × (w .nodes ≤ 65536) × (w .pool ≤ 65536)
   walk-fits z w judges =
       let x : Passed s text (record { nodes = []; places = []; pool = [] }) = group-passed s text _ (sym (group .0) ∙ z) in
       let short : length text ≤ 65536 = x .short in
       let (a, b, c) = walk-within s text (x .es) (x .stands) w (judges (x .es) (x .stands) (x .shallow)) in
       (omega arith, omega arith, omega arith)
+
+-- The tape that a read lends.
+abbrev pub blankTape : List ℕ
+blankTape = replicate 32768 0
+
+long : length blankTape ≡ 32768
+long = length-replicate {A = ℕ} 32768 0
+
+-- What the judge of a spelling leaves of the tape t.
+abbrev pub Tapes : Spelling → List ℕ → ℕ → List ℕ → List ℕ → Type 0
+Tapes s text n t tape =
+    (es : Exprs) (e : Expr) → NestedForm s es e → Stands text 0 es (length text) → depthAll es ≤ mostLevels s → n ≡ 0 → length t ≡ 32768
+    → tape ≡ taped t 0 4294967295 e
+
+pub nested-tapes : (text : List ℕ) (n : ℕ) (t tape : List ℕ)
+    → ((e : Expr) → Stands text 0 (and e none) (length text) → n ≡ 0 → length t ≡ 32768 → tape ≡ taped t 0 4294967295 e) → Tapes nested text n t tape
+nested-tapes text n t tape h es e as-it-stands st deep z l = h e st z l
+
+pub imperative-tapes : (text : List ℕ) (n : ℕ) (t tape : List ℕ)
+    → ((e : Expr) (es : Exprs) → Stands text 0 (and e es) (length text) → depthAll (and e es) ≤ 59 → n ≡ 0 → length t ≡ 32768
+    → tape ≡ taped t 0 4294967295 (regroup e es)) → Tapes imperative text n t tape
+unfolding mostLevels
+imperative-tapes text n t tape h es e (regrouped x xs) st deep z l = h x xs st deep z l
+
+-- What the fill of this many nodes from a tape ensures.
+abbrev Filled : Memory → Memory → Expr → Type 0
+Filled m exit e =
+    (exit .nodes ≡ sets (m .nodes) 0 (tableOf (says (treeOf e))))
+    × (exit .places ≡ sets (m .places) 0 (places e))
+    × (exit .pool ≡ sets (m .pool) 0 (pool (says (treeOf e))))
+
+filled-written : (m exit : Memory) (e : Expr) → Filled m exit e → exit ≡ written m (places e) (says (treeOf e))
+unfolding written
+filled-written m exit e (a, b, c) = rw (← a, ← b, ← c)
+
+abbrev pub Fills : List ℕ → List ℕ → ℕ → Memory → Memory → Type 0
+Fills text tape n m exit =
+    (e : Expr) (t : List ℕ) → Located text e → judgeRoot e ≡ fine → length t ≡ 32768 → tape ≡ taped t 0 4294967295 e → n ≡ nodesOf e → Fits32 0 (and e none)
+    → Filled m exit e
 
 -- ---- the ways through a read
 
@@ -243,12 +297,6 @@ module _ (s : Spelling) (text : List ℕ) (m : Memory) where
           reads-of (answerAt text number place nodes bytes) exit r
           (goes-on ∙ q ∙ checked-answer text m (places e) d few fit (root-places e ok) ∙ rw (check-is .0, check-is .1, nodes-are, bytes-are, exit-is))
 
-  -- What the fill of this spelling ensures.
-  abbrev pub Fills : Memory → Type 0
-  Fills exit =
-      (es : Exprs) (e : Expr) → Stands text 0 es (length text) → NestedForm s es e → judgeRoot e ≡ fine → length text ≤ 65536
-      → exit ≡ written m (places e) (says (treeOf e))
-
   module _ (n p : ℕ) (group : (n ≡ groupNumber (mostLevels s) text) × (p ≡ groupPlace (mostLevels s) text)) where
     -- 1 to 6.
     pub group-reads : (n ≡ 0 → ⊥) → (r : Answer) → Answers (answerAt text n p 0 0) r → Reads s text m r m
@@ -278,11 +326,17 @@ module _ (s : Spelling) (text : List ℕ) (m : Memory) where
         full-reads =
             full-after (found .expr) (found .fine-root) (found .document) (found .levels) (found .goes-on) (w .nodes) (w .pool) (found .nodes-are) (found .bytes-are) f room
 
-        module _ (y : f ≡ 0) (exit : Memory) (fills : Fills exit) (number place : ℕ)
+        module _ (y : f ≡ 0) (exit : Memory) (tape : List ℕ) (tapes : Tapes s text (w .number) blankTape tape)
+            (fills : Fills text tape (w .nodes) m exit) (number place : ℕ)
             (checks : (d : Node) → Held (exit .nodes) (w .nodes) (exit .pool) (w .pool) d
             → (number ≡ checkNumber (check d)) × (place ≡ checkPlace (exit .places) (check d))) where
           exit-is : exit ≡ written m (places (found .expr)) (says (treeOf (found .expr)))
-          exit-is = fills (passed .es) (found .expr) (passed .stands) (found .form) (found .fine-root) (passed .short)
+          exit-is =
+              filled-written m exit (found .expr)
+              (fills (found .expr) blankTape (form-located s text (passed .es) (found .expr) (found .form) (passed .stands) (found .fine-root)) (found .fine-root) long
+              (tapes (passed .es) (found .expr) (found .form) (passed .stands) (passed .shallow) z′ long)
+              (found .nodes-are ∙ sym (root-places (found .expr) (found .fine-root)) ∙ nodes-places (found .expr))
+              (read-fits s text (passed .es) (passed .stands) (passed .short) (found .expr) (found .reads)))
 
           few-bytes : w .pool ≤ 65536
           few-bytes = walk-fits s text n p group z w judges .2
@@ -301,26 +355,3 @@ module _ (s : Spelling) (text : List ℕ) (m : Memory) where
           filled-reads =
               filled-after (found .expr) (found .fine-root) (found .document) (found .levels) (found .goes-on) (w .nodes) (w .pool) (found .nodes-are) (found .bytes-are) f room
               y exit exit-is number place few-bytes checks
-
--- ---- the fill of each spelling
-
-abbrev Filled : Memory → Memory → Expr → Type 0
-Filled m exit e =
-    (exit .nodes ≡ sets (m .nodes) 0 (tableOf (says (treeOf e))))
-    × (exit .places ≡ sets (m .places) 0 (places e))
-    × (exit .pool ≡ sets (m .pool) 0 (pool (says (treeOf e))))
-
-filled-written : (m exit : Memory) (e : Expr) → Filled m exit e → exit ≡ written m (places e) (says (treeOf e))
-unfolding written
-filled-written m exit e (a, b, c) = rw (← a, ← b, ← c)
-
-pub nested-fills : (text : List ℕ) (m exit : Memory)
-    → ((e : Expr) → Stands text 0 (and e none) (length text) → judgeRoot e ≡ fine → length text ≤ 65536 → Fits32 0 (and e none) → Filled m exit e)
-    → Fills nested text m exit
-nested-fills text m exit h es e st as-it-stands ok short = filled-written m exit e (h e st ok short (stands-fit text 0 (length text) 0 (and e none) st (omega arith) short))
-
-pub imperative-fills : (text : List ℕ) (m exit : Memory)
-    → ((e : Expr) (es : Exprs) → Stands text 0 (and e es) (length text) → judgeRoot (regroup e es) ≡ fine → length text ≤ 65536 → Fits32 0 (and (regroup e es) none)
-    → Filled m exit (regroup e es))
-    → Fills imperative text m exit
-imperative-fills text m exit h es e st (regrouped x xs) ok short = filled-written m exit (regroup x xs) (h x xs st ok short (imperative-fits text x xs st ok short))

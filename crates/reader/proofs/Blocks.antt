@@ -1,5 +1,5 @@
 -- What an expression counts as in a command and in a block's content. Assumes nothing.
-use Prim.Native.Nat.{ℕ, _≤_, _<_}
+use Prim.Native.Nat.{ℕ, _+_, _≤_, _<_}
 use mathlib.Core.Path.{_≡_, refl, sym, _∙_}
 use mathlib.Core.Bool.{true, false, not, cond, _&&_, _||_}
 use mathlib.Core.List.{List}
@@ -18,6 +18,7 @@ use Rattle.document.proofs.Blocks.{block-no-parameter}
 use Rattle.document.proofs.Regroup.{block-class}
 use Rattle.reader.specs.Stands.{Stands}
 use Rattle.reader.specs.Sizes.{nodesOf, bytesOf}
+use Rattle.reader.specs.Tape.{entered, taped}
 use Rattle.reader.specs.Takes.{Takes, at-command, expression, a-block}
 use Rattle.reader.specs.Blocks.{commandClass, looseClass, leadsCommand, endsAt}
 use Rattle.reader.proofs.Looks.{SeenAs, saw-end, saw-symbol, saw-string, saw-list}
@@ -150,9 +151,10 @@ pub record AtomSeen (s : List ℕ) (r : Seen) (es : Exprs) (e : ℕ) : Type 0 wh
   pub judged : (k : ℕ) → judge k one ≡ fine
   pub nodes : nodesOf one ≡ 1
   pub bytes : bytesOf one ≡ r .length
+  pub on-tape : (t : List ℕ) (n node : ℕ) → taped t n node one ≡ entered t n (r .place) Class.text node (n + 1)
 
 pub atom-seen : {s : List ℕ} {r : Seen} {es : Exprs} {e : ℕ} → SeenAs s r es e → (r .sort ≡ 0 → ⊥) → (r .sort ≡ 3 → ⊥) → AtomSeen s r es e
-unfolding exprClass isCommand loose isBlockParameter Class.isBlock judge nodesOf bytesOf
+unfolding exprClass isCommand loose isBlockParameter Class.isBlock judge nodesOf bytesOf taped
 atom-seen (saw-end h) z a = absurd (z h)
 atom-seen {s} {r} (saw-symbol h c l f t) z a =
     record {
@@ -167,6 +169,7 @@ atom-seen {s} {r} (saw-symbol h c l f t) z a =
       judged = λ k. refl;
       nodes = refl;
       bytes = sym l;
+      on-tape = λ t n node. refl;
     }
 atom-seen {s} {r} (saw-string h c l f t) z a =
     record {
@@ -181,5 +184,6 @@ atom-seen {s} {r} (saw-string h c l f t) z a =
       judged = λ k. refl;
       nodes = refl;
       bytes = sym l;
+      on-tape = λ t n node. refl;
     }
 atom-seen (saw-list x h c f t d b u) z a = absurd (a h)

@@ -199,7 +199,3 @@ stands-weight {s} (a-symbol {i = i} h st) =
 stands-weight {s} (a-string {i = i} h g st) =
     let r : StringHere s i = string-here s i h g in omega (arith, stands-weight st)
 stands-weight (a-list h st g st′) = omega (arith, stands-weight st, stands-weight st′)
-
--- Each expression takes at least as many bytes as it brings nodes, and as it brings pool bytes.
-pub stands-counts : (s : List ℕ) (i e : ℕ) (es : Exprs) → Stands s i es e → (i + nodesIn es ≤ e) × (i + bytesIn es ≤ e)
-stands-counts s i e es st = let (n, b) = all-weighed es in (omega (arith, stands-weight st), omega (arith, stands-weight st))

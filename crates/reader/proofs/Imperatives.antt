@@ -18,6 +18,7 @@ use Rattle.document.proofs.Depth.{depth-regrouped}
 use Rattle.reader.specs.Stands.{Stands}
 use Rattle.reader.specs.Sizes.{nodesOf, bytesOf}
 use Rattle.reader.specs.Walked.{walkedTo, Bounded, readWalked}
+use Rattle.reader.specs.Tape.{entered, left, taped}
 use Rattle.reader.specs.Takes.{Takes}
 use Rattle.reader.specs.Turn.{Opened}
 use Rattle.reader.specs.Blocks.{InCommand}
@@ -26,11 +27,14 @@ use Rattle.reader.proofs.Looks.{SeenAs, saw-end, saw-symbol, saw-string
 use Rattle.reader.proofs.Turns.{Looked, seen-forward, open-list}
 use Rattle.reader.proofs.Takes.{takes-contents}
 use Rattle.reader.proofs.Blocks.{FirstSeen, first-seen, block-place}
-use Rattle.reader.proofs.BlockLoops.{Outcome, passed, stopped, outcome, block-same, listed}
+use Rattle.reader.proofs.BlockLoops.{Outcome, passed, stopped, outcome, block-same, block-tape, listed}
 
--- w is the answer of a text that was scanned.
-abbrev pub Judges : List ℕ → Walked → Type 0
-Judges s w = (es : Exprs) → Stands s 0 es (length s) → depthAll es ≤ 59 → w ≡ readWalked (oneExpression imperative (length s) es)
+-- w is the answer of a text that was scanned, and z the tape t with its document.
+abbrev pub Judges : List ℕ → List ℕ → List ℕ → Walked → Type 0
+Judges s t z w =
+    ((es : Exprs) → Stands s 0 es (length s) → depthAll es ≤ 59 → w ≡ readWalked (oneExpression imperative (length s) es))
+    × ((e : Expr) (es : Exprs) → Stands s 0 (and e es) (length s) → depthAll (and e es) ≤ 59 → w .number ≡ 0 → length t ≡ 32768
+    → z ≡ taped t 0 4294967295 (regroup e es))
 
 -- What a block takes is the content that regrouping gives the document.
 regrouped : {es content rest : Exprs} (x : Expr) → Takes 4 es content rest → regroup x es ≡ block x content
@@ -72,7 +76,8 @@ document-opened (saw-string h c l f t) z d = absurd (omega (arith, c, d))
 document-opened (saw-list x h c f t g b u) z d = open-list (saw-list x h c f t g b u) h (λ y. omega (arith, y, d))
 
 -- A document's block: the answer is that of its nested form.
-module _ {s : List ℕ} {q j e : ℕ} {es : Exprs} {w : Walked} (o : Opened s q Class.document j es e) (answer : InCommand s q Class.document j 0 1 0 w) where
+module _ {s t₁ t₂ : List ℕ} {q j e : ℕ} {es : Exprs} {w : Walked} (o : Opened s q Class.document j es e)
+    (answer : InCommand s q Class.document 0 j 0 1 0 t₁ t₂ w) where
   abbrev nested : Expr
   nested = regroup (listed o) (o .others)
 
@@ -81,6 +86,15 @@ module _ {s : List ℕ} {q j e : ℕ} {es : Exprs} {w : Walked} (o : Opened s q 
   document-answer =
       let a = answer .answers (o .rest) (o .end) (o .bracket) (o .others) e (o .follows) (o .closed) (o .goes-on) in
       rw (regrouped (listed o) (a .takes)) (block-same q 1 0 0 0 (w .next) (o .lead) _ (o .of-class) refl (a .same))
+
+  -- Its node is entered before the block is walked, and left after it.
+  document-tape : (t z : List ℕ) → Bounded s j w → 0 < j → (length t ≡ 32768 → t₁ ≡ entered t 0 q 1 4294967295 0)
+      → (w .number ≡ 0 → length t₂ ≡ 32768 → z ≡ left t₂ 0 (w .nodes)) → w .number ≡ 0 → length t ≡ 32768 → z ≡ taped t 0 4294967295 nested
+  unfolding block Class.isElement Class.isKind Class.significance
+  document-tape t z bounded some before after y full =
+      let a = answer .answers (o .rest) (o .end) (o .bracket) (o .others) e (o .follows) (o .closed) (o .goes-on) in
+      rw (regrouped (listed o) (a .takes))
+      (block-tape t q 1 0 4294967295 0 (w .next) (o .lead) _ (o .of-class) refl bounded some (a .same) before (a .tapes y) (after y) y full)
 
   root : judgeRoot nested ≡ judge 0 nested
   unfolding judgeRoot regroup exprClass listClass
@@ -100,26 +114,53 @@ module _ {s : List ℕ} {q j e : ℕ} {es : Exprs} {w : Walked} (o : Opened s q 
       (fine-answer n (listed o) (o .others) (root ∙ d) (rw (o .made) at h))
   document-passed n (stopped f p d x g) y h = absurd (x y)
 
-module _ (s : List ℕ) {sort q c j l : ℕ} (looked : Looked s 0 sort q c j l) where
-  pub nothing-seen : {w : Walked} → sort ≡ 0 → w ≡ walkedTo 0 0 0 (fault 7 (length s)) → Judges s w
-  nothing-seen z g es t d = g ∙ none-judged (length s) (look-stands s 0 (length s) es t) (sym (looked .0) ∙ z)
+-- The document of the text is what its first expression and the others are.
+same-regrouped : {x y : Expr} {es others : Exprs} → and y es ≡ and x others → regroup x others ≡ regroup y es
+same-regrouped {x} {y} {es} {others} e = let a : x ≡ y = cc in let b : others ≡ es = cc in rw (a, b)
+
+module _ (s t : List ℕ) {sort q c j l : ℕ} (looked : Looked s 0 sort q c j l) where
+  pub nothing-seen : {z : List ℕ} {w : Walked} → sort ≡ 0 → w ≡ walkedTo 0 0 0 (fault 7 (length s)) → Judges s t z w
+  unfolding walkedTo
+  nothing-seen z g = (
+    λ es u d. g ∙ none-judged (length s) (look-stands s 0 (length s) es u) (sym (looked .0) ∙ z),
+    λ e es u d y full. absurd (omega (arith, y, ap (λ (w : Walked). w .number) g)),
+  )
 
   module _ (some : sort ≡ 0 → ⊥) where
-    pub no-document : {w : Walked} → (c ≡ Class.document → ⊥) → w ≡ walkedTo 0 0 0 (fault 8 q) → Judges s w
-    no-document h g es t d =
-        g ∙ rw (looked .1) (other-judged (length s) (first-seen (look-stands s 0 (length s) es t) (λ z. some (looked .0 ∙ z))) (rw (looked .2) at h))
+    pub no-document : {z : List ℕ} {w : Walked} → (c ≡ Class.document → ⊥) → w ≡ walkedTo 0 0 0 (fault 8 q) → Judges s t z w
+    unfolding walkedTo
+    no-document h g = (
+      λ es u d.
+          g ∙ rw (looked .1) (other-judged (length s) (first-seen (look-stands s 0 (length s) es u) (λ z. some (looked .0 ∙ z)))
+          (rw (looked .2) at h)),
+      λ e es u d y full. absurd (omega (arith, y, ap (λ (w : Walked). w .number) g)),
+    )
 
-    pub nothing-passed : {w : Walked} → j < 1 → Judges s w
-    nothing-passed h es t d = absurd (omega (arith, looked .3, seen-forward (look-stands s 0 (length s) es t) (λ z. some (looked .0 ∙ z))))
+    forward-some : {es : Exprs} → Stands s 0 es (length s) → j < 1 → ⊥
+    forward-some {es} u h = omega (arith, looked .3, seen-forward (look-stands s 0 (length s) es u) (λ z. some (looked .0 ∙ z)))
+
+    pub nothing-passed : {z : List ℕ} {w : Walked} → j < 1 → Judges s t z w
+    nothing-passed h = (λ es u d. absurd (forward-some u h), λ e es u d y full. absurd (forward-some u h))
 
     -- A document is seen, and w is the answer of its block.
-    module _ {w : Walked} (h : c ≡ Class.document) (forward : 0 < j) (bounded : Bounded s j w) (answer : InCommand s q Class.document j 0 1 0 w) where
+    module _ {t₁ t₂ : List ℕ} {w : Walked} (h : c ≡ Class.document) (forward : 0 < j) (bounded : Bounded s j w)
+        (answer : InCommand s q Class.document 0 j 0 1 0 t₁ t₂ w) where
       opened : {es : Exprs} → Stands s 0 es (length s) → Opened s q c j es (length s)
-      opened {es} t =
-          rw (looked .1, looked .2, looked .3) (document-opened (look-stands s 0 (length s) es t) (λ z. some (looked .0 ∙ z)) (sym (looked .2) ∙ h))
+      opened {es} u =
+          rw (looked .1, looked .2, looked .3) (document-opened (look-stands s 0 (length s) es u) (λ z. some (looked .0 ∙ z)) (sym (looked .2) ∙ h))
 
-      pub document-fault : (w .number ≡ 0 → ⊥) → Judges s w
-      document-fault y es t d = let o = rw h at (opened t) in document-stopped o answer (length s) (by-outcome o answer bounded forward) y
+      pub document-fault : {z : List ℕ} → (w .number ≡ 0 → ⊥) → Judges s t z w
+      document-fault y = (
+        λ es u d. let o = rw h at (opened u) in document-stopped o answer (length s) (by-outcome o answer bounded forward) y,
+        λ e es u d x full. absurd (y x),
+      )
 
-      pub document-fine : w .number ≡ 0 → Judges s (record { number = 0; place = 0; next = 0; nodes = w .nodes; pool = w .pool })
-      document-fine y es t d = let o = rw h at (opened t) in document-passed o answer (length s) (by-outcome o answer bounded forward) y d
+      pub document-fine : {z : List ℕ} → w .number ≡ 0 → (length t ≡ 32768 → t₁ ≡ entered t 0 q 1 4294967295 0)
+          → (w .number ≡ 0 → length t₂ ≡ 32768 → z ≡ left t₂ 0 (w .nodes))
+          → Judges s t z (record { number = 0; place = 0; next = 0; nodes = w .nodes; pool = w .pool })
+      document-fine {z} y before after = (
+        λ es u d. let o = rw h at (opened u) in document-passed o answer (length s) (by-outcome o answer bounded forward) y d,
+        λ e es u d x full.
+            let o = rw h at (opened u) in
+            document-tape o answer t z bounded forward before after y full ∙ ap (taped t 0 4294967295) (same-regrouped (o .made)),
+      )

@@ -67,6 +67,6 @@ pub opens-item : {s : List ℕ} {k i st place c j st′ : ℕ} → IsList k → 
     → (c ≡ 18) × Bare (stateOf k st′)
 opens-item {k} {st} {c} {st′} l b o = item-taken k st c st′ l b (o .taken)
 
-pub still-bare : {s : List ℕ} {at k i st n p j st′ n′ p′ : ℕ} → IsList k → Bare (stateOf k st) → Passes s at k i st n p j st′ n′ p′
-    → Bare (stateOf k st′)
+pub still-bare : {s t t′ : List ℕ} {at k i st n p node j st′ n′ p′ : ℕ} → IsList k → Bare (stateOf k st)
+    → Passes s at k i st n p node t j st′ n′ p′ t′ → Bare (stateOf k st′)
 still-bare {k} {st} {st′} l b o = item-taken k st (o .class) st′ l b (o .taken) .1

@@ -18,16 +18,6 @@ pub mod Stores
 pub mod Picked
 pub mod FilledValues
 pub mod Writes
-pub mod Passing
-pub mod Found
-pub mod Parameters
-pub mod Numbers
-pub mod Measured
-pub mod Nodes
-pub mod Roots
-pub mod Joins
-pub mod FineBlocks
-pub mod Pieces
 pub mod Wholes
 pub mod Fits
 pub mod Within
@@ -36,3 +26,9 @@ pub mod Bounds
 pub mod Answered
 pub mod Demand
 pub mod Pools
+pub mod Rows
+pub mod Tapes
+pub mod TapeWords
+pub mod Noted
+pub mod Flat
+pub mod Located

@@ -1,11 +1,11 @@
 -- The value of a size: its two numbers, as they are seen. Assumes nothing.
-use Prim.Native.Nat.{ℕ, _+_, _≤_, _<_}
+use Prim.Native.Nat.{ℕ, _+_, _*_, _≤_, _<_}
 use mathlib.Core.Path.{_≡_, refl, sym, _∙_}
 use mathlib.Core.Bool.{true, false}
 use mathlib.Core.List.{List, [], _∷_}
 use native.Mathlib.Omega.{arith}
 use lib.Dec.{eqb, leb}
-use lib.ListN.{length, take, drop}
+use lib.ListN.{length, take, drop, set, length-set}
 use lib.Seq.{drop-drop}
 use borrow.Author.Tests.{ne-eqb, le-leb, lt-leb}
 use Rattle.laws.proofs.Booleans.{and-false}
@@ -14,16 +14,18 @@ use Rattle.syntax.specs.Expression.{Expr, symbol, list, Exprs, none, and}
 use Rattle.lexer.specs.Token.{Seen, blanks, seenEnd, seenBy, seenFirst, seen, atomValue}
 use Rattle.lexer.proofs.Blanks.{run-part}
 use Rattle.document.specs.Value.{isSize, isDecimal, nonEmpty}
-use Rattle.document.specs.Document.{keepsRules}
+use Rattle.document.specs.Document.{keepsRules, widthOr, heightOr}
 use Rattle.document.specs.Meaning.{numberOf, symbolBytes, sizeTree, judgeValue, fault}
 use Rattle.reader.specs.Stands.{Stands}
 use Rattle.reader.specs.Walked.{walkedTo, Bounded}
-use Rattle.reader.specs.Held.{Begins, Unfit, Reads}
+use Rattle.reader.specs.Tape.{noted}
+use Rattle.reader.specs.Held.{Begins, Unfit, Reads, Notes}
 use Rattle.reader.specs.declared.walk.Walked.{Walked}
 use Rattle.reader.specs.declared.value.Number.{Number}
 use Rattle.reader.proofs.Looks.{SeenAs, saw-end, saw-symbol, saw-string, saw-list, look-stands, seen-bounds}
 use Rattle.reader.proofs.Turns.{Looked, seen-within}
-use Rattle.reader.proofs.Values.{stuck, seen-ends, seen-more, refused-within, refused-as}
+use Rattle.reader.proofs.Tapes.{two-stores}
+use Rattle.reader.proofs.Values.{stuck, seen-ends, seen-more, refused-within, refused-as, refused-notes}
 
 -- ---- the bytes of a symbol
 
@@ -132,45 +134,67 @@ unfit-third : (k : ℕ) (e e′ e″ : Expr) (es : Exprs) → keepsRules k (size
 unfolding keepsRules sizeTree isSize
 unfit-third k e e′ e″ es = refl
 
--- Whatever stands from place i on, r is the answer of a size in an element of kind k.
-abbrev pub SizeAnswers : List ℕ → ℕ → ℕ → ℕ → ℕ → ℕ → Walked → Type 0
-SizeAnswers s at i k n p r = Bounded s i r × ((es : Exprs) (m : ℕ) → Stands s i es m → r ≡ walkedTo m n p (judgeValue k at (sizeTree es)))
+-- The two numbers are noted.
+size-notes : (t m z : List ℕ) (node a b : ℕ) (e e′ : Expr) → numberOf e ≡ a → numberOf e′ ≡ b → length t ≡ 32768
+    → (length t ≡ 32768 → m ≡ set t (8 * node + 6) a) → (length m ≡ 32768 → z ≡ set m (8 * node + 7) b) → z ≡ noted t node 29 (and e (and e′ none))
+unfolding noted sizeTree widthOr heightOr
+size-notes t m z node a b e e′ f g full p q =
+    let long : length m ≡ 32768 = rw (p full, length-set) full in
+    rw (f, g) (two-stores t m z (8 * node + 6) (8 * node + 6) (8 * node + 7) a b (p full) (q long) refl (omega arith))
 
-module _ {s : List ℕ} {i : ℕ} (at k n p : ℕ) where
-  size-bad : ((es : Exprs) (m : ℕ) → Stands s i es m → keepsRules k (sizeTree es) ≡ false) → SizeAnswers s at i k n p (walkedTo 0 0 0 (fault 10 at))
+-- Whatever stands from place i on, r is the answer of a size in an element of kind k, and z the tape t with the size.
+abbrev pub SizeAnswers : List ℕ → ℕ → ℕ → ℕ → ℕ → ℕ → ℕ → List ℕ → Walked → List ℕ → Type 0
+SizeAnswers s at i k n p node t r z =
+    Bounded s i r × (((es : Exprs) (m : ℕ) → Stands s i es m → r ≡ walkedTo m n p (judgeValue k at (sizeTree es))) × Notes s i 29 node t r z)
+
+module _ {s : List ℕ} {i node : ℕ} {t z : List ℕ} (at k n p : ℕ) where
+  size-bad : ((es : Exprs) (m : ℕ) → Stands s i es m → keepsRules k (sizeTree es) ≡ false)
+      → SizeAnswers s at i k n p node t (walkedTo 0 0 0 (fault 10 at)) z
   unfolding judgeValue
-  size-bad h = (refused-within s i at, λ es m t. rw (h es m t) (refused-as at m n p))
+  size-bad h = (refused-within s i at, (λ es m u. rw (h es m u) (refused-as at m n p), refused-notes s i 29 node at t z))
 
   module _ {w : Number} (width : Reads s i w) where
-    pub size-unfit : 65535 < w .number → SizeAnswers s at i k n p (walkedTo 0 0 0 (fault 10 at))
+    pub size-unfit : 65535 < w .number → SizeAnswers s at i k n p node t (walkedTo 0 0 0 (fault 10 at)) z
     size-unfit f = size-bad (λ es m t. unfit-width k es (width .unfit f es m t))
 
     module _ (f : w .number ≤ 65535) {h : Number} (height : Reads s (w .next) h) where
-      pub size-unfit-height : 65535 < h .number → SizeAnswers s at i k n p (walkedTo 0 0 0 (fault 10 at))
+      pub size-unfit-height : 65535 < h .number → SizeAnswers s at i k n p node t (walkedTo 0 0 0 (fault 10 at)) z
       size-unfit-height g =
           size-bad (λ es m t.
           let x = width .begins f es m t in
           rw (x .made) (unfit-height k (x .first) (x .others) (height .unfit g (x .others) m (x .stands))))
 
       module _ (g : h .number ≤ 65535) {sort q c j l : ℕ} (last : Looked s (h .next) sort q c j l) where
-        pub size-unfit-third : (sort ≡ 0 → ⊥) → SizeAnswers s at i k n p (walkedTo 0 0 0 (fault 10 at))
-        size-unfit-third z =
-            size-bad (λ es m t.
-            let x = width .begins f es m t in
-            let y = height .begins g (x .others) m (x .stands) in
-            let (e, others, made) = seen-more (look-stands s (h .next) m (y .others) (y .stands)) (λ e. z (last .0 ∙ e)) in
-            rw (x .made, y .made, made) (unfit-third k (x .first) (y .first) e others))
+        pub size-unfit-third : (sort ≡ 0 → ⊥) → SizeAnswers s at i k n p node t (walkedTo 0 0 0 (fault 10 at)) z
+        size-unfit-third y =
+            size-bad (λ es m u.
+            let x = width .begins f es m u in
+            let v = height .begins g (x .others) m (x .stands) in
+            let (e, others, made) = seen-more (look-stands s (h .next) m (v .others) (v .stands)) (λ e. y (last .0 ∙ e)) in
+            rw (x .made, v .made, made) (unfit-third k (x .first) (v .first) e others))
 
-        pub size-good : sort ≡ 0 → n ≤ i → p ≤ i → SizeAnswers s at i k n p (record { number = 0; place = 0; next = q; nodes = n; pool = p })
+        pub size-good : sort ≡ 0 → n ≤ i → p ≤ i → {t′ : List ℕ} → (length t ≡ 32768 → t′ ≡ set t (8 * node + 6) (w .number))
+            → (length t′ ≡ 32768 → z ≡ set t′ (8 * node + 7) (h .number))
+            → SizeAnswers s at i k n p node t (record { number = 0; place = 0; next = q; nodes = n; pool = p }) z
         unfolding walkedTo judgeValue
-        size-good z nodes pool =
+        size-good y nodes pool {t′} stored stored′ =
             let a = width .within f in
             let b = height .within g in
             let d = seen-bounds s (h .next) (b .1) in (
               record { bounds = λ e. omega (arith, a, b, d .place-from, d .place-within, last .1) },
-              λ es m t.
-                  let x = width .begins f es m t in
-                  let y = height .begins g (x .others) m (x .stands) in
-                  let (made, ends) = seen-ends (look-stands s (h .next) m (y .others) (y .stands)) (sym (last .0) ∙ z) in
-                  rw (x .made, y .made, made, small-size k (x .first) (y .first) (omega (arith, x .is)) (omega (arith, y .is)), last .1, ends),
+              (
+                λ es m u.
+                    let x = width .begins f es m u in
+                    let v = height .begins g (x .others) m (x .stands) in
+                    let (made, ends) = seen-ends (look-stands s (h .next) m (v .others) (v .stands)) (sym (last .0) ∙ y) in
+                    rw (x .made, v .made, made, small-size k (x .first) (v .first) (omega (arith, x .is)) (omega (arith, v .is)), last .1, ends),
+                record {
+                  notes = λ es m u e full.
+                      let x = width .begins f es m u in
+                      let v = height .begins g (x .others) m (x .stands) in
+                      let (made, ends) = seen-ends (look-stands s (h .next) m (v .others) (v .stands)) (sym (last .0) ∙ y) in
+                      rw (x .made, v .made, made) (size-notes t t′ z node (w .number) (h .number) (x .first) (v .first) (x .is)
+                      (v .is) full stored stored′);
+                },
+              ),
             )

@@ -15,13 +15,16 @@ use Rattle.document.specs.Spelling.{nested, leadClass, listClass, exprClass}
 use Rattle.document.specs.Meaning.{Verdict, fine, fault, finish, run, judge, judgeRoot}
 use Rattle.document.specs.Answer.{judged, tooDeep, oneExpression}
 use Rattle.reader.specs.Stands.{Has, Stands}
-use Rattle.reader.specs.Turn.{Opened, pastBracket}
+use Rattle.reader.specs.Turn.{Opened, Finishes, pastBracket}
 use Rattle.reader.specs.Second.{firstPlace, secondPlace, FirstJudged}
 use Rattle.reader.specs.Sizes.{nodesOf, nodesIn, bytesOf, bytesIn}
 use Rattle.reader.specs.Walked.{walkedTo, Bounded, readWalked}
+use Rattle.reader.specs.Tape.{entered, left, taped}
 use Rattle.reader.specs.declared.walk.Walked.{Walked}
 use Rattle.reader.proofs.Looks.{seen-bounds, SeenAs, saw-end, saw-symbol, saw-string, saw-list, look-stands, stands-within}
 use Rattle.reader.proofs.Turns.{Looked}
+use Rattle.reader.proofs.Tapes.{element-tape, taped-element}
+use Rattle.reader.proofs.Loops.{past-none, nodes-counted}
 use Rattle.reader.proofs.BlockLoops.{past-by}
 
 -- ---- what was seen, by its number
@@ -267,7 +270,8 @@ module _ {s : List ℕ} {sort q c j l : ℕ} (looked : Looked s 0 sort q c j l) 
       next (f .others) (past (f .first) (f .others) (length s) (rw (f .made) at t)) ∙ second-of-some (length s) (f .first) (f .made)
 
 -- The same after a first expression with no fault.
-pub second-after : {s : List ℕ} {r : ℕ} (w : Walked) → w .number ≡ 0 → ((es : Exprs) → Stands s (w .next) es (length s) → r ≡ firstPlace (length s) es)
+pub second-after : {s : List ℕ} {r : ℕ} (w : Walked) → w .number ≡ 0
+    → ((es : Exprs) → Stands s (w .next) es (length s) → r ≡ firstPlace (length s) es)
     → (es : Exprs) → FirstJudged s es w → r ≡ secondPlace (length s) es
 unfolding walkedTo
 second-after w z next none f = absurd (omega (arith, z, ap (λ (w : Walked). w .number) f))
@@ -303,7 +307,8 @@ settled x fine m n p e f g = rw (e, f, g)
 settled x (fault k q) m n p e f g = rw e
 
 -- There is no second expression.
-answer-one : (s : List ℕ) (w : Walked) {other : ℕ} (es : Exprs) → Below (length s) es → other ≡ secondPlace (length s) es → length s ≤ other → FirstJudged s es w
+answer-one : (s : List ℕ) (w : Walked) {other : ℕ} (es : Exprs) → Below (length s) es → other ≡ secondPlace (length s) es → length s ≤ other
+    → FirstJudged s es w
     → record { number = w .number; place = w .place; next = 0; nodes = w .nodes; pool = w .pool } ≡ readWalked (oneExpression nested (length s) es)
 unfolding oneExpression firstPlace secondPlace walkedTo readWalked Below
 answer-one s w none b e h f = rw f
@@ -327,6 +332,10 @@ judge-no-document : (x : Expr) → (exprClass x ≡ 1 → ⊥) → judgeRoot x �
 unfolding judgeRoot
 judge-no-document x c = rw (ne-eqb (exprClass x) 1 c)
 
+pub refused-number : (f q : ℕ) {w : Walked} → w ≡ walkedTo 0 0 0 (fault f q) → 0 < f → w .number ≡ 0 → ⊥
+unfolding walkedTo
+refused-number f q e h y = omega (arith, y, ap (λ (w : Walked). w .number) e)
+
 -- The ways out of the judging of the first expression.
 module _ {s : List ℕ} {sort q c j l : ℕ} (looked : Looked s 0 sort q c j l) where
   pub first-none : sort ≡ 0 → (es : Exprs) → Stands s 0 es (length s) → FirstJudged s es (walkedTo 0 0 0 (fault 7 (length s)))
@@ -342,23 +351,40 @@ module _ {s : List ℕ} {sort q c j l : ℕ} (looked : Looked s 0 sort q c j l) 
     pub first-stuck : (w : Walked) → j ≡ 0 → (es : Exprs) → Stands s 0 es (length s) → FirstJudged s es w
     first-stuck w h es t = absurd (omega (arith, looked-first looked t some .1))
 
-    -- w is the walk's answer, and r that past the closing bracket.
-    pub first-root : c ≡ 1 → {w r : Walked} → 0 < j → Bounded s j w
-        → ((es : Exprs) (e : ℕ) → Stands s j es e → w ≡ walkedTo e (1 + nodesIn es) (0 + bytesIn es) (finish q 1 (run q 1 (start 1) es)))
-        → r ≡ pastBracket (length s) w → (es : Exprs) → Stands s 0 es (length s) → FirstJudged s es r
-    first-root d {w} {r} h bounded walked past es t =
-        let o = looked-document looked t some d in
-        let root : leadClass (o .lead) ≡ 1 = o .of-class ∙ d in
-        let e = past-by bounded past (o .end) (1 + nodesIn (o .rest)) (0 + bytesIn (o .rest)) _ (walked (o .rest) (o .end) (o .follows)) (o .closed .inside) h in
-        rw (o .made) (
-          rw (judge-document q (o .lead) (o .rest) root, document-nodes q (o .lead) (o .rest) root, document-bytes q (o .lead) (o .rest) root) (e .0),
-          λ z. rw (e .1 z) (o .goes-on),
-        )
+    -- w is the walk's answer, and r that past the closing bracket. The root's node is entered before the walk, and left after it.
+    module _ (t₁ t₂ : List ℕ) (d : c ≡ 1) {w r : Walked} (h : 0 < j) (walked : Bounded s j w × Finishes s q 1 j 1 0 0 t₁ t₂ w)
+        (past : r ≡ pastBracket (length s) w) where
+      pub first-root : (es : Exprs) → Stands s 0 es (length s) → FirstJudged s es r
+      first-root es t =
+          let o = looked-document looked t some d in
+          let root : leadClass (o .lead) ≡ 1 = o .of-class ∙ d in
+          let e = past-by (walked .0) past (o .end) (1 + nodesIn (o .rest)) (0 + bytesIn (o .rest)) _ (walked .1 .0 (o .rest) (o .end) (o .follows))
+          (o .closed .inside) h in
+          rw (o .made) (
+            rw (judge-document q (o .lead) (o .rest) root, document-nodes q (o .lead) (o .rest) root, document-bytes q (o .lead) (o .rest) root)
+                (e .0),
+            λ z. rw (e .1 z) (o .goes-on),
+          )
+
+      pub first-tape : (t : List ℕ) {z : List ℕ} → (length t ≡ 32768 → t₁ ≡ entered t 0 q 1 4294967295 0)
+          → (w .number ≡ 0 → length t₂ ≡ 32768 → z ≡ left t₂ 0 (w .nodes))
+          → (x : Expr) (es : Exprs) → Stands s 0 (and x es) (length s) → r .number ≡ 0 → length t ≡ 32768 → z ≡ taped t 0 4294967295 x
+      unfolding Class.isElement Class.isKind
+      first-tape t {z} before after x es u y full =
+          let o = looked-document looked u some d in
+          let fine-walk : w .number ≡ 0 = past-none (length s) w r past y .0 in
+          let counted = nodes-counted (o .end) (1 + nodesIn (o .rest)) (0 + bytesIn (o .rest)) _ (walked .0) h
+          (walked .1 .0 (o .rest) (o .end) (o .follows)) fine-walk in
+          let same : list q (and (o .lead) (o .rest)) ≡ x = cc (o .made) in
+          element-tape t t₁ t₂ z 0 4294967295 q 1 (w .nodes) (o .rest) before (walked .1 .1 (o .rest) (o .end) (o .follows) fine-walk)
+          (after fine-walk) counted full
+          ∙ sym (taped-element t 0 4294967295 q 1 (o .lead) (o .rest) (o .of-class ∙ d) refl) ∙ ap (taped t 0 4294967295) same
 
 -- The ways out of the judging of a text, where `other` is the place of the second expression.
 module _ {s : List ℕ} {other : ℕ} (w : Walked) (first : (es : Exprs) → Stands s 0 es (length s) → FirstJudged s es w)
     (second : (es : Exprs) → Stands s 0 es (length s) → FirstJudged s es w → other ≡ secondPlace (length s) es) where
-  pub judge-two : other < length s → (es : Exprs) → Stands s 0 es (length s) → walkedTo 0 0 0 (fault 7 other) ≡ readWalked (oneExpression nested (length s) es)
+  pub judge-two : other < length s → (es : Exprs) → Stands s 0 es (length s)
+      → walkedTo 0 0 0 (fault 7 other) ≡ readWalked (oneExpression nested (length s) es)
   judge-two h es t = answer-two (length s) es (second es t (first es t)) h
 
   pub judge-one : length s ≤ other → (es : Exprs) → Stands s 0 es (length s)

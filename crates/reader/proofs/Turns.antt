@@ -22,6 +22,7 @@ use Rattle.document.proofs.Classes.{allLead, leads, Leading, start-leading, nex
 use Rattle.document.proofs.Steps.{begunOf, stepped as step-says}
 use Rattle.reader.specs.Sizes.{nodesOf, nodesIn, bytesOf, bytesIn}
 use Rattle.reader.specs.Walked.{walkedTo, Bounded}
+use Rattle.reader.specs.Tape.{entered, taped, tapedAll}
 use Rattle.reader.specs.Turn.{whole, Answers, Left, Opened, Opens, Takes, Passes}
 use Rattle.reader.proofs.Looks.{seen-bounds, SeenAs, saw-end, saw-symbol, saw-string, saw-list, look-stands}
 
@@ -122,15 +123,35 @@ module _ {s : List ℕ} {r : Seen} where
   seen-forward (saw-string h c l f t) z = f
   seen-forward (saw-list x h c f t d b u) z = f
 
-  pass-atom : (at k st n p st′ : ℕ) {es : Exprs} {e : ℕ} → SeenAs s r es e → (r .sort ≡ 0 → ⊥) → (r .sort ≡ 3 → ⊥) → Takes k st (r .class) st′
-      → Left s at k st n p (r .next) st′ (n + 1) (p + r .length) es e
-  unfolding exprClass nodesOf bytesOf judge
-  pass-atom at k st n p st′ (saw-end h) z a b = absurd (z h)
-  pass-atom at k st n p st′ (saw-symbol {es} {e} h c l f t) z a b =
-      record { others = es; stands = t; same = rw l (run-fine at k st n p e (symbol (r .place) _) es st′ (rw c at b) refl) }
-  pass-atom at k st n p st′ (saw-string {es} {e} h c l f t) z a b =
-      record { others = es; stands = t; same = rw l (run-fine at k st n p e (quoted (r .place) _) es st′ (rw c at b) refl) }
-  pass-atom at k st n p st′ (saw-list x h c f t d b u) z a g = absurd (a h)
+  pass-atom : (at k st n p node : ℕ) (t : List ℕ) (st′ : ℕ) (t′ : List ℕ) {es : Exprs} {e : ℕ} → SeenAs s r es e → (r .sort ≡ 0 → ⊥)
+      → (r .sort ≡ 3 → ⊥)
+      → Takes k st (r .class) st′ → (length t ≡ 32768 → t′ ≡ entered t n (r .place) Class.text node (n + 1))
+      → Left s at k st n p node t (r .next) st′ (n + 1) (p + r .length) t′ es e
+  unfolding exprClass nodesOf bytesOf judge taped
+  pass-atom at k st n p node t st′ t′ (saw-end h) z a b y = absurd (z h)
+  pass-atom at k st n p node t st′ t′ (saw-symbol {es} {e} h c l f u) z a b y =
+      record {
+        others = es;
+        stands = u;
+        same = rw l (run-fine at k st n p e (symbol (r .place) _) es st′ (rw c at b) refl);
+        kept = λ full. rw (y full);
+      }
+  pass-atom at k st n p node t st′ t′ (saw-string {es} {e} h c l f u) z a b y =
+      record {
+        others = es;
+        stands = u;
+        same = rw l (run-fine at k st n p e (quoted (r .place) _) es st′ (rw c at b) refl);
+        kept = λ full. rw (y full);
+      }
+  pass-atom at k st n p node t st′ t′ (saw-list x h c f u d b v) z a g y = absurd (a h)
+
+  -- Nothing stands where nothing is seen, and the tape is as it was.
+  tapes-end : (n node : ℕ) (t : List ℕ) {es : Exprs} {e : ℕ} → SeenAs s r es e → r .sort ≡ 0 → t ≡ tapedAll t n node es
+  unfolding tapedAll
+  tapes-end n node t (saw-end h) z = refl
+  tapes-end n node t (saw-symbol h c l f u) z = let o : _≡_ {A = ℕ} 0 1 = cc in absurd (omega arith)
+  tapes-end n node t (saw-string h c l f u) z = let o : _≡_ {A = ℕ} 0 1 = cc in absurd (omega arith)
+  tapes-end n node t (saw-list x h c f u d b v) z = let o : _≡_ {A = ℕ} 0 1 = cc in absurd (omega arith)
 
   pub open-list : {es : Exprs} {e : ℕ} → SeenAs s r es e → r .sort ≡ 3 → (r .class ≡ 0 → ⊥) → Opened s (r .place) (r .class) (r .next) es e
   open-list (saw-end h) z a = let w : _≡_ {A = ℕ} 0 1 = cc in absurd (omega arith)
@@ -161,67 +182,77 @@ seen-within s i looked within some h =
 
 -- The ways through a turn.
 module _ {s : List ℕ} {k i st sort q c j l : ℕ} (looked : Looked s i sort q c j l) (within : i ≤ length s) where
-  pub turn-end : {at n p : ℕ} → n ≤ i → p ≤ i → sort ≡ 0
+  pub turn-end : {at n p node : ℕ} {t : List ℕ} → n ≤ i → p ≤ i → sort ≡ 0
       → Bounded s i (walkedTo q n p (cond (ended k (stateOf k st)) fine (fault 9 at)))
-      × Answers s at k i st n p (walkedTo q n p (cond (ended k (stateOf k st)) fine (fault 9 at)))
+      × Answers s at k i st n p node t t (walkedTo q n p (cond (ended k (stateOf k st)) fine (fault 9 at)))
   unfolding walkedTo
-  turn-end {at} {n} {p} nodes pool z =
+  turn-end {at} {n} {p} {node} {t} nodes pool z =
       let b = seen-bounds s i within in (
         cond-case (λ (v : Verdict). Bounded s i (walkedTo q n p v)) (ended k (stateOf k st))
             (λ e. record { bounds = λ e. omega (arith, b .place-from, b .place-within, looked .1) })
             (λ e. record { bounds = λ e. omega (arith, e) }),
-        record { answers = λ es e t. rw (looked .1) (answer-end at k st n p (look-stands s i e es t) (sym (looked .0) ∙ z)) },
+        record {
+          answers = λ es e u. rw (looked .1) (answer-end at k st n p (look-stands s i e es u) (sym (looked .0) ∙ z));
+          tapes = λ es e u y full. tapes-end n node t (look-stands s i e es u) (sym (looked .0) ∙ z);
+        },
       )
 
   -- Nothing is passed: not where expressions stand.
-  pub turn-stuck : {at n p : ℕ} → (sort ≡ 0 → ⊥) → j ≤ i
-      → Bounded s i (walkedTo 0 0 0 (fault 8 q)) × Answers s at k i st n p (walkedTo 0 0 0 (fault 8 q))
+  pub turn-stuck : {at n p node : ℕ} {t z : List ℕ} → (sort ≡ 0 → ⊥) → j ≤ i
+      → Bounded s i (walkedTo 0 0 0 (fault 8 q)) × Answers s at k i st n p node t z (walkedTo 0 0 0 (fault 8 q))
   unfolding walkedTo
-  turn-stuck z h = (
+  turn-stuck some h = (
     record { bounds = λ e. omega (arith, e) },
     record {
-      answers = λ es e t.
-          absurd (omega (arith, seen-bounds s i within .place-from, looked .3, seen-forward (look-stands s i e es t) (λ e. z (looked .0 ∙ e))));
+      answers = λ es e u.
+          absurd (omega (arith, seen-bounds s i within .place-from, looked .3, seen-forward (look-stands s i e es u) (λ e. some (looked .0 ∙ e))));
+      tapes = λ es e u y full. absurd (omega (arith, y));
     },
   )
 
   -- A step was tried.
   module _ (f st′ : ℕ) (step : stepOf k f st′ ≡ stepped k (stateOf k st) c) (some : sort ≡ 0 → ⊥) where
-    pub turn-fault : {at n p : ℕ} → (f ≡ 0 → ⊥)
-        → Bounded s i (walkedTo 0 0 0 (fault f (cond (eqb f 9) at q))) × Answers s at k i st n p (walkedTo 0 0 0 (fault f (cond (eqb f 9) at q)))
+    pub turn-fault : {at n p node : ℕ} {t z : List ℕ} → (f ≡ 0 → ⊥)
+        → Bounded s i (walkedTo 0 0 0 (fault f (cond (eqb f 9) at q)))
+        × Answers s at k i st n p node t z (walkedTo 0 0 0 (fault f (cond (eqb f 9) at q)))
     unfolding walkedTo
     turn-fault {at} {n} {p} h = (
       record { bounds = λ e. absurd (h e) },
       record {
-        answers = λ es e t.
-            rw (looked .1) (answer-fault at k st n p f (look-stands s i e es t) (λ e. some (looked .0 ∙ e)) (rw (looked .2) at (step-bad k f st′ _ h step)));
+        answers = λ es e u.
+            rw (looked .1) (answer-fault at k st n p f (look-stands s i e es u) (λ e. some (looked .0 ∙ e))
+            (rw (looked .2) at (step-bad k f st′ _ h step)));
+        tapes = λ es e u y full. absurd (h y);
       },
     )
 
-    pub turn-atom : {at n p : ℕ} → n ≤ i → p ≤ i → f ≡ 0 → i < j → (sort ≡ 3 → ⊥)
-        → ((i < j) × (j ≤ length s) × (n + 1 ≤ j) × (p + l ≤ j)) × Passes s at k i st n p j st′ (n + 1) (p + l)
-    turn-atom {at} {n} {p} nodes pool h v a =
+    pub turn-atom : {at n p node : ℕ} {t t′ : List ℕ} → n ≤ i → p ≤ i → f ≡ 0 → i < j → (sort ≡ 3 → ⊥)
+        → (length t ≡ 32768 → t′ ≡ entered t n q Class.text node (n + 1))
+        → ((i < j) × (j ≤ length s) × (n + 1 ≤ j) × (p + l ≤ j)) × Passes s at k i st n p node t j st′ (n + 1) (p + l) t′
+    turn-atom {at} {n} {p} {node} {t} {t′} nodes pool h v a stored =
         let taken = step-goes k f st′ _ h step in (
           omega (arith, seen-within s i looked within some v),
           record {
             class = c;
             taken = taken;
             goes = record {
-              left = λ es e t.
+              left = λ es e u.
                   rw (looked .3, looked .4)
-                  (pass-atom at k st n p st′ (look-stands s i e es t) (λ e. some (looked .0 ∙ e)) (λ e. a (looked .0 ∙ e)) (rw (looked .2) at taken));
+                  (pass-atom at k st n p node t st′ t′ (look-stands s i e es u) (λ e. some (looked .0 ∙ e)) (λ e. a (looked .0 ∙ e))
+                  (rw (looked .2) at taken)
+                  (rw (looked .1) at stored));
             };
           },
         )
 
-    pub turn-list : f ≡ 0 → i < j → sort ≡ 3 → ((i < j) × (j ≤ length s)) × Opens s k i st q c j st′
+    pub turn-list : f ≡ 0 → i < j → sort ≡ 3 → ((i < j) × (j ≤ length s) × (q ≤ length s)) × Opens s k i st q c j st′
     turn-list h v a =
         let taken = step-goes k f st′ _ h step in (
-          omega (arith, seen-within s i looked within some v),
+          omega (arith, seen-within s i looked within some v, seen-bounds s i within .place-within, looked .1),
           record {
             taken = taken;
-            opened = λ es e t.
+            opened = λ es e u.
                 rw (looked .1, looked .2, looked .3)
-                (open-list (look-stands s i e es t) (sym (looked .0) ∙ a) (λ e. none-taken k st st′ (rw (looked .2 ∙ e) at taken)));
+                (open-list (look-stands s i e es u) (sym (looked .0) ∙ a) (λ e. none-taken k st st′ (rw (looked .2 ∙ e) at taken)));
           },
         )

@@ -1,17 +1,17 @@
 -- The value of an id, a target or a type: what is seen of it, and what makes it one. Assumes nothing.
-use Prim.Native.Nat.{ℕ, _+_, _≤_, _<_}
+use Prim.Native.Nat.{ℕ, _+_, _*_, _≤_, _<_}
 use mathlib.Core.Path.{_≡_, refl, sym, _∙_}
 use mathlib.Core.Bool.{Bool, true, false, cond, not, _&&_}
 use mathlib.Core.List.{List, [], _∷_}
 use native.Mathlib.Omega.{arith}
 use lib.Dec.{eqb}
-use lib.ListN.{length, drop, length-append}
+use lib.ListN.{length, drop, set, length-append}
 use native.Mathlib.Nat.{add-zero}
 use borrow.Author.Tests.{ne-eqb, eqb-true, eqb-false, not-true, not-false}
-use Rattle.laws.proofs.Booleans.{bool-case, and-true, and-false}
+use Rattle.laws.proofs.Booleans.{cond-case, bool-case, and-true, and-false}
 use Rattle.elements.specs.Class as Class
 use Rattle.elements.specs.Characters.{typeCharacter, idCharacter, uriCharacter, characterOf}
-use Rattle.syntax.specs.Expression.{Expr, symbol, quoted, list, Exprs, none, and}
+use Rattle.syntax.specs.Expression.{Expr, symbol, quoted, list, Exprs, none, and, place}
 use Rattle.syntax.specs.Syntax.{pieceValue, piecesValue}
 use Rattle.syntax.specs.Scan.{Quoted, closed, unclosed, bad-escape, quotedFrom}
 use Rattle.lexer.specs.Token.{Seen, stringEnd, stringAt, atomValue, fits}
@@ -22,7 +22,8 @@ use Rattle.document.specs.Meaning.{onlyOne, textBytes, symbolBytes, sizeTree, v
 use Rattle.reader.specs.Stands.{Stands, ended, after-blank, after-line-end, a-symbol, a-string, a-list}
 use Rattle.reader.specs.Sizes.{valueSize}
 use Rattle.reader.specs.Walked.{walkedTo, Bounded}
-use Rattle.reader.specs.Held.{holdsSort, heldBytes, Alone, Holds}
+use Rattle.reader.specs.Tape.{firstPlace, noted}
+use Rattle.reader.specs.Held.{holdsSort, heldBytes, Alone, Holds, Notes}
 use Rattle.reader.specs.declared.walk.Walked.{Walked}
 use Rattle.reader.specs.declared.value.One.{One}
 use Rattle.reader.proofs.Fronts.{symbol-here, string-here}
@@ -149,11 +150,12 @@ holds-some c n f h =
 holds-atom : (c n : ℕ) → holdsSort c n ≡ true → (n ≡ 0 → ⊥) × (n ≡ 3 → ⊥)
 holds-atom c n f = (λ e. omega (arith, holds-some c n f (omega arith)), λ e. omega (arith, holds-some c n f (omega arith)))
 
--- What stands first counts: its bytes v, and the others from place j on.
-record First (s : List ℕ) (c j : ℕ) (v : List ℕ) (es : Exprs) (m : ℕ) : Type 0 where
+-- What stands first, at place q, counts: its bytes v, and the others from place j on.
+record First (s : List ℕ) (c q j : ℕ) (v : List ℕ) (es : Exprs) (m : ℕ) : Type 0 where
   first : Expr
   others : Exprs
   made : es ≡ and first others
+  placed : place first ≡ q
   bytes : heldOf c first ≡ v
   some : 0 < length v
   stands : Stands s j others m
@@ -169,14 +171,25 @@ module _ {s : List ℕ} {r : Seen} where
   held-not c (saw-list {inner} {es} x h k p t d b u) f = held-nothing c (list (r .place) inner) es (same-cond (eqb c Class.type) [])
 
   held-first : (c : ℕ) {es : Exprs} {m : ℕ} → Some es → SeenAs s r es m → holdsSort c (r .sort) ≡ true
-      → First s c (r .next) (atomValue (drop (r .place) s)) es m × (r .length ≡ length (atomValue (drop (r .place) s)))
-  unfolding Some symbolBytes textBytes
+      → First s c (r .place) (r .next) (atomValue (drop (r .place) s)) es m × (r .length ≡ length (atomValue (drop (r .place) s)))
+  unfolding Some symbolBytes textBytes place
   held-first c n (saw-end h) f = absurd (holds-atom c (r .sort) f .0 h)
-  held-first c n (saw-symbol {es} h k l p t) f =
-      (record { first = symbol (r .place) _; others = es; made = refl; bytes = same-cond (eqb c Class.type) _; some = n; stands = t }, l)
+  held-first c n (saw-symbol {es} h k l p t) f = (
+    record {
+      first = symbol (r .place) _;
+      others = es;
+      made = refl;
+      placed = refl;
+      bytes = same-cond
+          (eqb c Class.type) _;
+      some = n;
+      stands = t;
+    },
+    l,
+  )
   held-first c n (saw-string {es} h k l p t) f =
       let untyped : eqb c Class.type ≡ false = not-true (eqb c Class.type) (sym (holds-string c) ∙ rw h at f) in
-      (record { first = quoted (r .place) _; others = es; made = refl; bytes = rw untyped; some = n; stands = t }, l)
+      (record { first = quoted (r .place) _; others = es; made = refl; placed = refl; bytes = rw untyped; some = n; stands = t }, l)
   held-first c n (saw-list x h k p t d b u) f = absurd (holds-atom c (r .sort) f .1 h)
 
   -- The run ends here, or something more stands here.
@@ -217,31 +230,42 @@ module _ {s : List ℕ} {i sort q k j l : ℕ} (c : ℕ) (looked : Looked s i so
           alone = λ e. let z : _≡_ {A = ℕ} 0 1 = cc in absurd (omega arith);
         }
 
-    first-of : (es : Exprs) (m : ℕ) → Stands s i es m → First s c j (atomValue (drop q s)) es m × (l ≡ length (atomValue (drop q s)))
+    first-of : (es : Exprs) (m : ℕ) → Stands s i es m → First s c q j (atomValue (drop q s)) es m × (l ≡ length (atomValue (drop q s)))
     first-of es m t = rw (looked .1, looked .3, looked .4) (held-first c (first-some t) (look-stands s i m es t) (rw (← (looked .0)) f))
 
     -- After it `sort′` is seen at `q′`.
     pub only-one : {sort′ q′ k′ j′ l′ : ℕ} → i < j → Looked s j sort′ q′ k′ j′ l′
         → Holds s i c (record { good = eqb sort′ 0; place = q; length = l; end = q′ })
+    unfolding firstPlace
     only-one {sort′} {q′} h last =
         let (fits, long) = seen-within s i looked within (holds-atom c sort f .0) h in
         let after = seen-bounds s j fits in
         record {
-          within = λ e. (omega (arith, after .place-from, last .1), omega (arith, after .place-within, last .1));
+          within = λ e. (
+            omega (arith, after .place-from, last .1),
+            omega (arith, after .place-within, last .1),
+            omega (arith, seen-bounds s i within .place-within, looked .1),
+          );
           nothing = λ e es m t. let (x, more) = first-of es m t in nothing′ e m x;
           alone = λ e es m t. let (x, more) = first-of es m t in alone′ (eqb-true sort′ 0 e) m x more;
         }
       where
-        nothing′ : eqb sort′ 0 ≡ false → {es : Exprs} (m : ℕ) → First s c j (atomValue (drop q s)) es m → heldBytes c es ≡ []
+        nothing′ : eqb sort′ 0 ≡ false → {es : Exprs} (m : ℕ) → First s c q j (atomValue (drop q s)) es m → heldBytes c es ≡ []
         nothing′ e m x =
             let (e′, es′, made) = seen-more (look-stands s j m (x .others) (x .stands)) (λ z. eqb-false sort′ 0 e (last .0 ∙ z)) in
             rw (x .made, made) (held-two c (x .first) e′ es′)
 
-        alone′ : sort′ ≡ 0 → {es : Exprs} (m : ℕ) → First s c j (atomValue (drop q s)) es m → l ≡ length (atomValue (drop q s))
-            → Alone c es m (atomValue (drop q s)) l q′
+        alone′ : sort′ ≡ 0 → {es : Exprs} (m : ℕ) → First s c q j (atomValue (drop q s)) es m → l ≡ length (atomValue (drop q s))
+            → Alone c es m q (atomValue (drop q s)) l q′
         alone′ e m x long =
             let (made, ends) = seen-ends (look-stands s j m (x .others) (x .stands)) (sym (last .0) ∙ e) in
-            record { bytes = rw (x .made, made) (held-one c (x .first) ∙ x .bytes); some = x .some; long = long; ends = last .1 ∙ ends }
+            record {
+              placed = rw (x .made) (x .placed);
+              bytes = rw (x .made, made) (held-one c (x .first) ∙ x .bytes);
+              some = x .some;
+              long = long;
+              ends = last .1 ∙ ends;
+            }
 
 -- ---- the ways through `value`
 
@@ -274,43 +298,69 @@ pub refused-as : (at m n p : ℕ) → walkedTo 0 0 0 (fault 10 at) ≡ walkedTo 
 unfolding walkedTo
 refused-as at m n p = refl
 
--- Whatever stands from place i on, r is the answer of the value of a parameter of class c in an element of kind k.
-abbrev pub ValueAnswers : List ℕ → ℕ → ℕ → ℕ → ℕ → ℕ → ℕ → Walked → Type 0
-ValueAnswers s at i k c n p r =
-    Bounded s i r × ((es : Exprs) (m : ℕ) → Stands s i es m → r ≡ walkedTo m n (p + valueSize c es) (judgeValue k at (valueTree c es)))
+-- A refused value is noted nowhere.
+pub refused-notes : (s : List ℕ) (i c node at : ℕ) (t z : List ℕ) → Notes s i c node t (walkedTo 0 0 0 (fault 10 at)) z
+unfolding walkedTo
+refused-notes s i c node at t z = record { notes = λ es m u h full. absurd (omega (arith, h)) }
 
-module _ {s : List ℕ} {i c : ℕ} (at k n p : ℕ) where
-  pub value-size : c ≡ 29 → {r : Walked} → Bounded s i r × ((es : Exprs) (m : ℕ) → Stands s i es m → r ≡ walkedTo m n p (judgeValue k at (sizeTree es)))
-      → ValueAnswers s at i k c n p r
+pub word-small : (c : ℕ) {w : ℕ} → w ≡ cond (eqb c Class.type) 5 4 → w < 8
+word-small c e = rw e (cond-case (λ (w : ℕ). w < 8) (eqb c Class.type) (λ h. omega arith) (λ h. omega arith))
+
+-- The place of what a parameter holds is noted.
+held-notes : (t z : List ℕ) (node c w q : ℕ) (es : Exprs) → (c ≡ 29 → ⊥) → w ≡ cond (eqb c Class.type) 5 4 → firstPlace es ≡ q
+    → z ≡ set t (8 * node + w) q → z ≡ noted t node c es
+unfolding noted
+held-notes t z node c w q es h e f g = rw (ne-eqb c 29 h, f, ← e) g
+
+-- Whatever stands from place i on, r is the answer of the value of a parameter of class c in an element of kind k, and z the tape t with the value.
+abbrev pub ValueAnswers : List ℕ → ℕ → ℕ → ℕ → ℕ → ℕ → ℕ → ℕ → List ℕ → Walked → List ℕ → Type 0
+ValueAnswers s at i k c n p node t r z =
+    Bounded s i r × (((es : Exprs) (m : ℕ) → Stands s i es m → r ≡ walkedTo m n (p + valueSize c es) (judgeValue k at (valueTree c es)))
+    × Notes s i c node t r z)
+
+module _ {s : List ℕ} {i c node : ℕ} {t z : List ℕ} (at k n p : ℕ) where
+  pub value-size : c ≡ 29 → {r : Walked}
+      → Bounded s i r × (((es : Exprs) (m : ℕ) → Stands s i es m → r ≡ walkedTo m n p (judgeValue k at (sizeTree es))) × Notes s i 29 node t r z)
+      → ValueAnswers s at i k c n p node t r z
   unfolding valueSize valueTree keyOf typeOf
-  value-size h (bounded, answers) =
-      (bounded, λ es m t. let (x, y, made) = size-tree es in rw (h, made, add-zero p) (rw made at (answers es m t)))
+  value-size h (bounded, (answers, notes)) =
+      (bounded, (λ es m u. let (x, y, made) = size-tree es in rw (h, made, add-zero p) (rw made at (answers es m u)), rw h notes))
 
   module _ (h : c ≡ 29 → ⊥) {o : One} (holds : Holds s i c o) where
-    pub value-nothing : o .good ≡ false → ValueAnswers s at i k c n p (walkedTo 0 0 0 (fault 10 at))
+    pub value-nothing : o .good ≡ false → ValueAnswers s at i k c n p node t (walkedTo 0 0 0 (fault 10 at)) z
     value-nothing g = (
       refused-within s i at,
-      λ es m t. rw (value-judged k at c es h, holds .nothing g es m t, no-value k c) (refused-as at m n (p + valueSize c es)),
+      (
+        λ es m u. rw (value-judged k at c es h, holds .nothing g es m u, no-value k c) (refused-as at m n (p + valueSize c es)),
+        refused-notes s i c node at t z,
+      ),
     )
 
     pub value-bad : {r : Bool} → o .good ≡ true → r ≡ false → nonEmpty (atomValue (drop (o .place) s)) && r ≡ isValue k c (atomValue (drop (o .place) s))
-        → ValueAnswers s at i k c n p (walkedTo 0 0 0 (fault 10 at))
+        → ValueAnswers s at i k c n p node t (walkedTo 0 0 0 (fault 10 at)) z
     value-bad g e f = (
       refused-within s i at,
-      λ es m t.
-          let v = atomValue (drop (o .place) s) in
-          let bad : isValue k c v ≡ false = sym f ∙ rw e (and-false (nonEmpty v)) in
-          rw (value-judged k at c es h, holds .alone g es m t .bytes, bad) (refused-as at m n (p + valueSize c es)),
+      (
+        λ es m u.
+            let v = atomValue (drop (o .place) s) in
+            let bad : isValue k c v ≡ false = sym f ∙ rw e (and-false (nonEmpty v)) in
+            rw (value-judged k at c es h, holds .alone g es m u .bytes, bad) (refused-as at m n (p + valueSize c es)),
+        refused-notes s i c node at t z,
+      ),
     )
 
     pub value-good : {r : Bool} → o .good ≡ true → r ≡ true → nonEmpty (atomValue (drop (o .place) s)) && r ≡ isValue k c (atomValue (drop (o .place) s))
-        → n ≤ i → p ≤ i → ValueAnswers s at i k c n p (record { number = 0; place = 0; next = o .end; nodes = n; pool = p + o .length })
+        → n ≤ i → p ≤ i → {w : ℕ} → w ≡ cond (eqb c Class.type) 5 4 → (length t ≡ 32768 → z ≡ set t (8 * node + w) (o .place))
+        → ValueAnswers s at i k c n p node t (record { number = 0; place = 0; next = o .end; nodes = n; pool = p + o .length }) z
     unfolding walkedTo
-    value-good g e f nodes pool = (
+    value-good g e f nodes pool {w} word stored = (
       record { bounds = λ z. omega (arith, holds .within g) },
-      λ es m t.
-          let v = atomValue (drop (o .place) s) in
-          let a = holds .alone g es m t in
-          let good : isValue k c v ≡ true = sym f ∙ rw (e, some-nonEmpty v (a .some)) in
-          rw (value-judged k at c es h, value-long c es h, a .bytes, good, a .long, a .ends),
+      (
+        λ es m u.
+            let v = atomValue (drop (o .place) s) in
+            let a = holds .alone g es m u in
+            let good : isValue k c v ≡ true = sym f ∙ rw (e, some-nonEmpty v (a .some)) in
+            rw (value-judged k at c es h, value-long c es h, a .bytes, good, a .long, a .ends),
+        record { notes = λ es m u y full. held-notes t z node c w (o .place) es h word (holds .alone g es m u .placed) (stored full) },
+      ),
     )

@@ -1,28 +1,24 @@
--- A document's node table, places and pool are what was written of its root. Assumes nothing.
-use Prim.Native.Nat.{ℕ}
-use mathlib.Core.Path.{_≡_, refl, sym, ap, _∙_}
+-- A document's node table, places and pool are what is written from its tape. Assumes nothing.
+use Prim.Native.Nat.{ℕ, _≤_}
+use mathlib.Core.Path.{_≡_, refl, ap, _∙_}
 use mathlib.Core.Bool.{true}
-use mathlib.Core.List.{List, [], append-nil}
+use mathlib.Core.List.{List, append-nil}
 use native.Mathlib.Omega.{arith}
-use lib.ListN.{length}
+use lib.ListN.{length, getD}
 use lib.Seq.{sets}
-use Rattle.laws.proofs.Booleans.{true-T}
 use Rattle.elements.specs.Class as Class
-use Rattle.syntax.specs.Expression.{Expr, symbol, quoted, list, Exprs, none, and}
-use Rattle.document.specs.Document.{isNode, says, missing}
+use Rattle.syntax.specs.Expression.{Expr, symbol, quoted, list, none, and}
+use Rattle.document.specs.Document.{childless, child, isNode, says, sayAll, missing}
 use Rattle.document.specs.Spelling.{listClass, exprClass}
-use Rattle.document.specs.Meaning.{fine, judgeRoot, treeOf, places, allPlaces}
-use Rattle.document.specs.Imperative.{block, innermost, regroup}
+use Rattle.document.specs.Meaning.{fine, judgeRoot, treeOf, treesOf, places, allPlaces}
 use Rattle.document.specs.Table.{pool, poolAll, rowsAll, tableOf}
 use Rattle.document.proofs.Blocks.{root-document}
-use Rattle.document.proofs.Regroup.{block-class}
-use Rattle.reader.specs.Stands.{Stands}
-use Rattle.reader.specs.Filling.{Filling, Wrote, Fits32}
-use Rattle.reader.specs.FilledBlocks.{BlockFilled}
-use Rattle.reader.proofs.Passing.{Looked, never-stuck}
-use Rattle.reader.proofs.Roots.{root-said}
-use Rattle.reader.proofs.Takes.{taken, takes-contents}
-use Rattle.reader.proofs.Pieces.{class-of, text-of, seen-command}
+use Rattle.reader.specs.Sizes.{nodesOf}
+use Rattle.reader.specs.Tape.{taped, Located}
+use Rattle.reader.specs.Filling.{Filling, saidBy, Fits32}
+use Rattle.reader.proofs.Rows.{rowsOf, Written}
+use Rattle.reader.proofs.Writes.{Wrote}
+use Rattle.reader.proofs.Flat.{wrote-one}
 
 -- The whole of a document in the lent memory.
 abbrev pub Whole : Expr → Filling → Filling → Type 0
@@ -37,44 +33,25 @@ root-node (quoted at s) c = refl
 root-node (list at none) c = refl
 root-node (list at (and lead es)) c = rw c
 
-pub root-whole : (e : Expr) (a z : Filling) → a .node ≡ 0 → a .bytes ≡ 0 → exprClass e ≡ Class.document → Wrote missing (and e none) a z → Whole e a z
+root-said : (e : Expr) → isNode (treeOf e) ≡ true → saidBy (and e none) ≡ child (says (treeOf e)) childless
+unfolding saidBy treesOf sayAll
+root-said e i = rw i
+
+root-whole : (e : Expr) (a z : Filling) → a .node ≡ 0 → a .bytes ≡ 0 → exprClass e ≡ Class.document → Wrote missing (and e none) a z → Whole e a z
 unfolding tableOf rowsAll poolAll allPlaces
 root-whole e a z n b c w = (
-  w .words-are ∙ rw (n, b, root-said e (true-T (root-node e c)), append-nil),
+  w .words-are ∙ rw (n, b, root-said e (root-node e c), append-nil),
   w .places-are ∙ rw (n, append-nil),
-  w .pool-is ∙ rw (b, root-said e (true-T (root-node e c)), append-nil),
+  w .pool-is ∙ rw (b, root-said e (root-node e c), append-nil),
 )
 
--- The nested form of an imperative text is that of its document command.
-pub regrouped : (e : Expr) (es : Exprs) → regroup e es ≡ block e (taken (Class.significance Class.document) es .content)
-unfolding regroup innermost
-regrouped e es = rw (takes-contents [] (taken (Class.significance Class.document) es .takes))
-
-pub document-first : (e : Expr) (es : Exprs) → judgeRoot (regroup e es) ≡ fine → exprClass e ≡ Class.document
-document-first e es f =
-    let c : exprClass (block e (taken (Class.significance Class.document) es .content)) ≡ Class.document =
-    rw (regrouped e es) at (root-document (regroup e es) f .0) in
-    sym (block-class e (taken (Class.significance Class.document) es .content)) ∙ c
-
-module _ {s : List ℕ} {sort place class next len : ℕ} (k : Looked s 0 sort place class next len) (e : Expr) (es : Exprs)
-    (st : Stands s 0 (and e es) (length s)) (f : judgeRoot (regroup e es) ≡ fine) where
-  -- The first expression of an imperative text that is fine is a list.
-  pub root-listed : (sort ≡ 3 → ⊥) → ⊥
-  root-listed n = let c : _≡_ {A = ℕ} 9 1 = sym (text-of k n st) ∙ document-first e es f in omega arith
-
-  pub root-passed : (sort ≡ 0 → ⊥) → next ≡ 0 → ⊥
-  root-passed z n = never-stuck k (omega arith) st z (omega arith)
-
-  pub imperative-whole : (next′ : ℕ) (a z : Filling) → a .node ≡ 0 → a .bytes ≡ 0 → sort ≡ 3 → BlockFilled s place next class missing next′ a z
-      → Fits32 0 (and (regroup e es) none) → Whole (regroup e es) a z
-  unfolding Class.isBlock
-  imperative-whole next′ a z n b t done h =
-      let tk = taken (Class.significance Class.document) es in
-      let c : class ≡ Class.document = class-of k st ∙ document-first e es f in
-      let v = seen-command k t (λ q. let w : _≡_ {A = ℕ} 0 1 = sym q ∙ c in omega arith) e es (length s) st in
-      let g : regroup e es ≡ block (list place (and (v .lead) (v .inner))) (tk .content) =
-      regrouped e es ∙ ap (λ (x : Expr). block x (tk .content)) (v .is) in
-      let root = root-document (regroup e es) f in
-      let r = done (v .lead) (v .inner) es (tk .content) (tk .rest) (v .end) (length s) 0 (v .inside) (v .within) (v .follows) (rw c (tk .takes))
-      (v .class-is) (rw c tt) (rw (← g) (root .1)) (rw (b, ← g) h) in
-      root-whole (regroup e es) a z n b (root .0) (rw g (r .1))
+pub filled-whole : (s T : List ℕ) (k : ℕ) (a z : Filling) → a .node ≡ 0 → a .bytes ≡ 0 → k ≤ 4096 → Written s T k a z → (e : Expr) (t : List ℕ)
+    → Located s e → judgeRoot e ≡ fine → length t ≡ 32768 → T ≡ taped t 0 missing e → k ≡ nodesOf e → Fits32 0 (and e none) → Whole e a z
+unfolding Fits32
+filled-whole s T k a z n b few w e t o f l is c fits =
+    let r = root-document e f in
+    let v : Wrote missing (and e none) a (rowsOf s T (nodesOf e) a) =
+    wrote-one s T e 0 t 0 missing a n (omega arith) (λ i h h′. ap (λ (u : List ℕ). getD u i 0) is) o (r .1) in
+    let v′ : Wrote missing (and e none) a (rowsOf s T k a) = rw c v in
+    let i : z ≡ rowsOf s T k a = w .same (omega (arith, v′ .pooled)) in
+    root-whole e a z n b (r .0) (rw i v′)

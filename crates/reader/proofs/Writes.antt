@@ -1,12 +1,12 @@
 -- Writing a run of expressions one after the other. Assumes nothing.
-use Prim.Native.Nat.{ℕ, suc, _+_, _*_, _≤_}
+use Prim.Native.Nat.{ℕ, suc, _+_, _*_}
 use mathlib.Core.Path.{_≡_, refl, sym, ap, _∙_}
 use mathlib.Core.Bool.{Bool, true, false, cond}
 use mathlib.Core.List.{List, [], _∷_, _++_, append-nil, append-assoc}
 use native.Mathlib.Nat.{add-zero}
 use native.Mathlib.Numerals.{add-one}
 use native.Mathlib.Omega.{arith}
-use lib.ListN.{length, set, length-append}
+use lib.ListN.{length, length-append}
 use lib.Seq.{sets}
 use Rattle.elements.specs.Class as Class
 use Rattle.syntax.specs.Expression.{Expr, list, Exprs, none, and}
@@ -15,9 +15,19 @@ use Rattle.document.specs.Spelling.{leadClass}
 use Rattle.document.specs.Meaning.{treeOf, treesOf, places, allPlaces}
 use Rattle.document.specs.Table.{count, countAll, pool, poolAll, rows, rowsAll, offset}
 use Rattle.document.proofs.Records.{rows-length-all}
-use Rattle.reader.specs.Filling.{Filling, saidBy, Wrote, Began, Fits32}
-use Rattle.reader.proofs.Counts.{value-no-node}
-use Rattle.reader.proofs.Stores.{sets-on, set-third}
+use Rattle.reader.specs.Sizes.{nodesIn}
+use Rattle.reader.specs.Filling.{Filling, saidBy, withRow}
+use Rattle.reader.proofs.Counts.{value-no-node, all-places}
+use Rattle.reader.proofs.Stores.{sets-on}
+
+-- Between a and z the run was written, its nodes under this parent.
+pub record Wrote (parent : ℕ) (es : Exprs) (a z : Filling) : Type 0 where
+  pub counted : z .node ≡ a .node + countAll (saidBy es)
+  pub pooled : z .bytes ≡ a .bytes + length (poolAll (saidBy es))
+  pub placed : length (allPlaces es) ≡ countAll (saidBy es)
+  pub words-are : z .words ≡ sets (a .words) (11 * a .node) (rowsAll (a .node) parent (a .bytes) (saidBy es))
+  pub places-are : z .places ≡ sets (a .places) (a .node) (allPlaces es)
+  pub pool-is : z .pool ≡ sets (a .pool) (a .bytes) (poolAll (saidBy es))
 
 -- Two runs of nodes.
 unfoldable pub joined : Nodes → Nodes → Nodes
@@ -57,7 +67,8 @@ unfolding allPlaces
 places-joined x es = ap (λ (l : List ℕ). l ++ allPlaces es) (sym (append-nil (places x)))
 
 -- An expression was written, and then those that follow it.
-pub wrote-on : (parent : ℕ) (x : Expr) (es : Exprs) (a m z : Filling) → Wrote parent (and x none) a m → Wrote parent es m z → Wrote parent (and x es) a z
+pub wrote-on : (parent : ℕ) (x : Expr) (es : Exprs) (a m z : Filling) → Wrote parent (and x none) a m → Wrote parent es m z
+    → Wrote parent (and x es) a z
 wrote-on parent x es a m z v w =
     let ns : Nodes = saidBy (and x none) in
     let ms : Nodes = saidBy es in
@@ -82,19 +93,9 @@ wrote-on parent x es a m z v w =
           (v .pool-is) (w .pool-is) (v .pooled) p;
     }
 
--- Pool places that fit for a run fit for its first expression, and after it for the others.
-pub fits-first : (b : ℕ) (x : Expr) (es : Exprs) → Fits32 b (and x es) → Fits32 b (and x none)
-unfolding Fits32
-fits-first b x es h =
-    omega (arith, ap (λ (ns : Nodes). length (poolAll ns)) (said-joined x es), ap length (pool-joined (saidBy (and x none)) (saidBy es)), length-append (poolAll (saidBy (and x none))) (poolAll (saidBy es)))
-
-pub fits-rest : (parent b : ℕ) (x : Expr) (es : Exprs) (a m : Filling) → a .bytes ≡ b → Wrote parent (and x none) a m → Fits32 b (and x es) → Fits32 (m .bytes) es
-unfolding Fits32
-fits-rest parent b x es a m e w h =
-    omega (arith, w .pooled, ap (λ (ns : Nodes). length (poolAll ns)) (said-joined x es), ap length (pool-joined (saidBy (and x none)) (saidBy es)), length-append (poolAll (saidBy (and x none))) (poolAll (saidBy es)))
-
 -- A list led by a value's name writes nothing.
-value-said : (at : ℕ) (lead : Expr) (inner : Exprs) → Class.isElement (leadClass lead) ≡ false → saidBy (and (list at (and lead inner)) none) ≡ childless
+value-said : (at : ℕ) (lead : Expr) (inner : Exprs) → Class.isElement (leadClass lead) ≡ false
+    → saidBy (and (list at (and lead inner)) none) ≡ childless
 unfolding saidBy treesOf sayAll
 value-said at lead inner i = rw (i, value-no-node (leadClass lead) inner)
 
@@ -149,78 +150,68 @@ text-rows i parent p s = rw (add-zero p, add-zero p, add-one i)
 
 element-rows : (i parent p k e : ℕ) (key type : List ℕ) (w h : ℕ) (ns : Nodes) → e ≡ i + suc (countAll ns)
     → rowsAll i parent p (child (node k key type [] w h ns) childless)
-    ≡ k ∷ parent ∷ e ∷ offset p key ∷ length key ∷ offset (p + length key) type ∷ length type ∷ 0 ∷ 0 ∷ w ∷ h ∷ rowsAll (i + 1) i (p + length key + length type) ns
+    ≡ k ∷ parent ∷ e ∷ offset p key ∷ length key ∷ offset (p + length key) type ∷ length type ∷ 0 ∷ 0 ∷ w ∷ h ∷ rowsAll (i + 1) i
+    (p + length key + length type) ns
 unfolding rows offset
-element-rows i parent p k e key type w h ns q = rw (q, add-zero (p + length key + length type), append-nil (rowsAll (i + 1) i (p + length key + length type) ns))
+element-rows i parent p k e key type w h ns q = rw (
+  q,
+  add-zero (p + length key + length type),
+  append-nil
+      (rowsAll (i + 1) i (p + length key + length type) ns),
+)
 
-pub wrote-text : (parent p : ℕ) (x : Expr) (s : List ℕ) (a z : Filling) → treeOf x ≡ text s → places x ≡ p ∷ []
-    → z .node ≡ a .node + 1 → z .bytes ≡ a .bytes + length s
-    → z .words ≡ sets (a .words) (11 * a .node) (9 ∷ parent ∷ (a .node + 1) ∷ 0 ∷ 0 ∷ 0 ∷ 0 ∷ offset (a .bytes) s ∷ length s ∷ missing ∷ missing ∷ [])
-    → z .places ≡ set (a .places) (a .node) p → z .pool ≡ sets (a .pool) (a .bytes) s → Wrote parent (and x none) a z
-unfolding countAll poolAll
-wrote-text parent p x s a z e f n b w l m =
+pub wrote-text : (parent p : ℕ) (x : Expr) (s : List ℕ) (a : Filling) → treeOf x ≡ text s → places x ≡ p ∷ []
+    → Wrote parent (and x none) a (withRow p Class.text parent (a .node + 1) missing missing [] [] s a)
+unfolding countAll poolAll withRow offset
+wrote-text parent p x s a e f =
     let said : saidBy (and x none) ≡ child (node Class.text [] [] s missing missing childless) childless = text-said x s e in
     let at : allPlaces (and x none) ≡ p ∷ [] = one-place x p f in
     record {
-      counted = rw said n;
-      pooled = rw (said, append-nil (s ++ []), append-nil s) b;
+      counted = rw said;
+      pooled = rw (said, append-nil (s ++ []), append-nil s) (omega arith);
       placed = rw (said, at);
-      words-are = rw (said, text-rows) w;
-      places-are = rw at l;
-      pool-is = rw (said, append-nil (s ++ []), append-nil s) m;
+      words-are = rw (said, text-rows, add-zero (a .bytes), add-zero (a .bytes));
+      places-are = rw at;
+      pool-is = rw (said, append-nil (s ++ []), append-nil s);
     }
 
-pub wrote-element : (parent at c : ℕ) (lead : Expr) (inner : Exprs) (a b z : Filling) → Class.isElement (leadClass lead) ≡ true → leadClass lead ≡ c
-    → b .node ≡ a .node + 1 → Began c parent at inner a b → Wrote (a .node) inner b z
-    → Wrote parent (and (list at (and lead inner)) none) a
-    (record { node = z .node; bytes = z .bytes; words = set (z .words) (11 * a .node + 2) (z .node); places = z .places; pool = z .pool })
-unfolding countAll poolAll
-wrote-element parent at c lead inner a b z i l n g v =
+-- An element is written by its row and the rows of what it holds.
+pub wrote-element : (parent at c : ℕ) (lead : Expr) (inner : Exprs) (a z : Filling) → Class.isElement (leadClass lead) ≡ true → leadClass lead ≡ c
+    → Wrote (a .node) inner (withRow at c parent (a .node + 1 + nodesIn inner) (widthIn (treesOf inner)) (heightIn (treesOf inner))
+    (keyIn (treesOf inner))
+    (typeIn (treesOf inner)) [] a) z
+    → Wrote parent (and (list at (and lead inner)) none) a z
+unfolding countAll poolAll withRow offset
+wrote-element parent at c lead inner a z i l v =
     let ts : Trees = treesOf inner in
     let key : List ℕ = keyIn ts in
     let type : List ℕ = typeIn ts in
     let w : ℕ = widthIn ts in
     let h : ℕ = heightIn ts in
-    let by : b .bytes ≡ a .bytes + length key + length type = g .bytes-after in
     let ns : Nodes = saidBy inner in
+    let by : ℕ = a .bytes + length key + length type in
+    let end : ℕ = a .node + 1 + nodesIn inner in
     let said : saidBy (and (list at (and lead inner)) none) ≡ child (node c key type [] w h ns) childless = element-said at lead inner c i l in
     let ats : allPlaces (and (list at (and lead inner)) none) ≡ at ∷ allPlaces inner = element-places at lead inner i in
-    let e : z .node ≡ a .node + suc (countAll ns) = omega (arith, v .counted) in
-    let below : List ℕ = rowsAll (a .node + 1) (a .node) (a .bytes + length key + length type) ns in
-    let r : rowsAll (b .node) (a .node) (b .bytes) ns ≡ below = rw (n, by) in
-    let tail : List ℕ → List ℕ = λ (l : List ℕ). offset (a .bytes) key ∷ length key ∷ offset (a .bytes + length key) type ∷ length type ∷ 0 ∷ 0 ∷ w ∷ h ∷ l in
-    let i₁₁ : 11 * b .node ≡ 11 * a .node + 11 = omega arith in
+    let e : end ≡ a .node + suc (countAll ns) = omega (arith, v .placed, all-places inner) in
+    let front : List ℕ =
+    c ∷ parent ∷ end ∷ offset (a .bytes) key ∷ length key ∷ offset (a .bytes + length key) type ∷ length type ∷ 0 ∷ 0 ∷ w ∷ h ∷ [] in
+    let r : rowsAll (a .node + 1) (a .node) (by + 0) ns ≡ rowsAll (a .node + 1) (a .node) by ns = rw (add-zero by) in
     let q : length (key ++ (type ++ poolAll ns)) ≡ length key + length type + length (poolAll ns) = simp (length-append) (omega arith) in
+    let kt : length (key ++ (type ++ [])) ≡ length key + length type = simp (length-append, append-nil) in
     record {
-      counted = rw said (omega (arith, e));
+      counted = rw said (omega (arith, v .counted));
       pooled = rw (said, append-nil) (omega (arith, v .pooled, q));
       placed = rw (said, ats) (omega (arith, v .placed));
       words-are =
-          rw (said, element-rows (a .node) parent (a .bytes) c (z .node) key type w h ns e)
-          (ap (λ (l : List ℕ). set l (11 * a .node + 2) (z .node))
-          (sets-on (a .words) (b .words) (z .words) (11 * a .node) (11 * b .node) (c ∷ parent ∷ 0 ∷ tail []) (rowsAll (b .node) (a .node) (b .bytes) ns)
-          (c ∷ parent ∷ 0 ∷ tail below) (g .words-are) (v .words-are) i₁₁ (rw r))
-          ∙ set-third (a .words) (11 * a .node) c parent 0 (z .node) (tail below));
-      places-are = rw ats (sets-on (a .places) (b .places) (z .places) (a .node) (b .node) (at ∷ []) (allPlaces inner) (at ∷ allPlaces inner) (g .places-are) (v .places-are) n refl);
+          rw (said, element-rows (a .node) parent (a .bytes) c end key type w h ns e)
+          (sets-on (a .words) _ (z .words) (11 * a .node) (11 * (a .node + 1)) front (rowsAll (a .node + 1) (a .node) (by + 0) ns)
+          (c ∷ parent ∷ end ∷ offset (a .bytes) key ∷ length key ∷ offset (a .bytes + length key) type ∷ length type ∷ 0 ∷ 0 ∷ w ∷ h ∷ rowsAll
+          (a .node + 1) (a .node) by ns)
+          refl (v .words-are) (omega arith) (rw r));
+      places-are = rw ats (sets-on (a .places) _ (z .places) (a .node) (a .node + 1) (at ∷ []) (allPlaces inner) (at ∷ allPlaces inner) refl
+          (v .places-are) refl refl);
       pool-is = rw (said, append-nil)
-          (sets-on (a .pool) (b .pool) (z .pool) (a .bytes) (b .bytes) (key ++ type) (poolAll ns) (key ++ (type ++ poolAll ns)) (g .pool-is) (v .pool-is)
-          (rw length-append (omega arith)) (sym (append-assoc key type (poolAll ns))));
+          (sets-on (a .pool) _ (z .pool) (a .bytes) (by + 0) (key ++ (type ++ [])) (poolAll ns) (key ++ (type ++ poolAll ns)) refl (v .pool-is)
+          (omega (arith, kt)) (rw (append-nil type) (sym (append-assoc key type (poolAll ns)))));
     }
-
--- Pool places that fit for a text, or for an element, fit for its strings and for what it holds.
-pub text-fits : (b : ℕ) (x : Expr) (s : List ℕ) → treeOf x ≡ text s → Fits32 b (and x none) → b + length s ≤ 4294967295
-unfolding Fits32 poolAll
-text-fits b x s e h = simp (text-said x s e, append-nil) at h
-
-pub element-fits : (b at : ℕ) (lead : Expr) (inner : Exprs) → Class.isElement (leadClass lead) ≡ true → Fits32 b (and (list at (and lead inner)) none)
-    → (b + length (keyIn (treesOf inner)) + length (typeIn (treesOf inner)) ≤ 4294967295)
-    × Fits32 (b + length (keyIn (treesOf inner)) + length (typeIn (treesOf inner))) inner
-unfolding Fits32 poolAll
-element-fits b at lead inner i h =
-    let key : List ℕ = keyIn (treesOf inner) in
-    let type : List ℕ = typeIn (treesOf inner) in
-    let h′ : b + length (poolAll (child (node (leadClass lead) key type [] (widthIn (treesOf inner)) (heightIn (treesOf inner)) (saidBy inner)) childless)) ≤ 4294967295 =
-    rw (element-said at lead inner (leadClass lead) i refl) at h in
-    let q : length ((key ++ (type ++ poolAll (saidBy inner))) ++ []) ≡ length key + length type + length (poolAll (saidBy inner)) =
-    simp (length-append, append-nil) (omega arith) in
-    (omega (arith, h′, q), omega (arith, h′, q))

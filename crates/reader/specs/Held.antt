@@ -10,6 +10,8 @@ use Rattle.syntax.specs.Expression.{Expr, Exprs, none, and}
 use Rattle.lexer.specs.Token.{a-symbol, a-string, atomValue}
 use Rattle.document.specs.Meaning.{onlyOne, textBytes, symbolBytes, numberOf}
 use Rattle.reader.specs.Stands.{Stands}
+use Rattle.reader.specs.Tape.{firstPlace, noted}
+use Rattle.reader.specs.declared.walk.Walked.{Walked}
 use Rattle.reader.specs.declared.value.One.{One}
 use Rattle.reader.specs.declared.value.Number.{Number}
 
@@ -21,8 +23,9 @@ holdsSort c n = eqb n a-symbol || (not (eqb c Class.type) && eqb n a-string)
 unfoldable pub heldBytes : ℕ → Exprs → List ℕ
 heldBytes c es = cond (eqb c Class.type) (onlyOne symbolBytes es) (onlyOne textBytes es)
 
--- Those bytes v, of the length that was told, end the run at the place e that was told.
-pub record Alone (c : ℕ) (es : Exprs) (m : ℕ) (v : List ℕ) (l e : ℕ) : Type 0 where
+-- Those bytes v, at the place q and of the length that were told, end the run at the place e that was told.
+pub record Alone (c : ℕ) (es : Exprs) (m q : ℕ) (v : List ℕ) (l e : ℕ) : Type 0 where
+  pub placed : firstPlace es ≡ q
   pub bytes : heldBytes c es ≡ v
   pub some : 0 < length v
   pub long : l ≡ length v
@@ -30,9 +33,9 @@ pub record Alone (c : ℕ) (es : Exprs) (m : ℕ) (v : List ℕ) (l e : ℕ) : T
 
 -- What a parameter of class c holds from place i on is what r says, or nothing that counts.
 pub record Holds (s : List ℕ) (i c : ℕ) (r : One) : Type 0 where
-  pub within : r .good ≡ true → (i + r .length ≤ r .end) × (r .end ≤ length s)
+  pub within : r .good ≡ true → (i + r .length ≤ r .end) × (r .end ≤ length s) × (r .place ≤ length s)
   pub nothing : r .good ≡ false → (es : Exprs) (m : ℕ) → Stands s i es m → heldBytes c es ≡ []
-  pub alone : r .good ≡ true → (es : Exprs) (m : ℕ) → Stands s i es m → Alone c es m (atomValue (drop (r .place) s)) (r .length) (r .end)
+  pub alone : r .good ≡ true → (es : Exprs) (m : ℕ) → Stands s i es m → Alone c es m (r .place) (atomValue (drop (r .place) s)) (r .length) (r .end)
 
 -- The expressions es begin with a number n, and the others stand from place j on.
 pub record Begins (s : List ℕ) (es : Exprs) (m n j : ℕ) : Type 0 where
@@ -52,3 +55,7 @@ pub record Reads (s : List ℕ) (i : ℕ) (r : Number) : Type 0 where
   pub within : r .number ≤ 65535 → (i ≤ r .next) × (r .next ≤ length s)
   pub begins : r .number ≤ 65535 → (es : Exprs) (m : ℕ) → Stands s i es m → Begins s es m (r .number) (r .next)
   pub unfit : 65535 < r .number → (es : Exprs) (m : ℕ) → Stands s i es m → Unfit es
+
+-- Where what stands from place i on is the value of a parameter of class c, z is the tape t with that value noted of a node. A tape has 32,768 words.
+pub record Notes (s : List ℕ) (i c node : ℕ) (t : List ℕ) (r : Walked) (z : List ℕ) : Type 0 where
+  pub notes : (es : Exprs) (m : ℕ) → Stands s i es m → r .number ≡ 0 → length t ≡ 32768 → z ≡ noted t node c es

@@ -7,8 +7,8 @@ pub mod Takes
 pub mod Blocks
 pub mod Second
 pub mod Checked
+pub mod Tape
 pub mod Filling
-pub mod FilledBlocks
 pub mod Groups
 pub mod Read
 pub mod Demand

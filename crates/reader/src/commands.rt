@@ -1,10 +1,12 @@
 // The judging walk over the blocks of an imperative text (document 01, "Imperative"). A command closes before its content, which follows up to the
 // next command that ends the block; what stands in a command and in its content is walked as in the nested spelling.
+use super::tape::enter;
 use super::walk::Turn;
 use super::walk::Walked;
 use super::walk::at_end;
 use super::walk::fault_at;
 use super::walk::inside;
+use super::walk::leave;
 use super::walk::past_bracket;
 use super::walk::refusal;
 use kind::Kind;
@@ -15,9 +17,11 @@ ghost use mathlib.Core.Path.{_≡_};
 ghost use Prim.Native.Nat.{ℕ, _+_, _≤_, _<_};
 ghost use lib.ListN.{length};
 ghost use Rattle.document.specs.Spelling.{isBlockParameter};
-ghost use Rattle.syntax.specs.Expression.{Exprs, depthAll};
+ghost use Rattle.syntax.specs.Expression.{Expr, Exprs, and, depthAll};
 ghost use Rattle.document.specs.Spelling.{Spelling};
+ghost use Rattle.document.specs.Imperative.{regroup};
 ghost use Rattle.document.specs.Answer.{oneExpression};
+ghost use Rattle.reader.specs.Tape.{taped};
 ghost use Rattle.reader.specs.Stands.{Stands};
 ghost use Rattle.reader.specs.Walked.{Bounded, readWalked};
 ghost use Rattle.reader.specs.Blocks.{commandClass, looseClass, leadsCommand, endsAt, TurnedAs, InCommand, InContent, Belongs, Child};
@@ -93,9 +97,12 @@ fn turn_as(
     state: u8,
     nodes: usize,
     pool: usize,
+    node: usize,
+    tape: &mut [u32; 32768],
 ) -> Turn
-    requires { ⌜ (nodes ≤ i) × (i < seen .next → pool + seen .length ≤ seen .next) ⌝ }
-    ensures { λ r. ⌜ TurnedAs at i (seen .sort) (seen .place) (seen .next) (seen .length) class kind state nodes pool r ⌝ }
+    requires { ⌜ (nodes ≤ i) × (i < seen .next → pool + seen .length ≤ seen .next) × (i ≤ 65536) × (seen .place ≤ 65536) × (node ≤ 4294967295) ⌝ }
+    ensures { λ r. ⌜ TurnedAs at i (seen .sort) (seen .place) (seen .next) (seen .length) class kind state nodes pool node
+        (now (tape .entry)) (now (tape .exit)) r ⌝ }
 {
     let place = seen.place;
     let next = seen.next;
@@ -110,14 +117,24 @@ fn turn_as(
     if seen.sort == 3 {
         return Turn::List(place, class, next, taken.state);
     }
+    enter(tape, nodes, place, 9, node, nodes + 1);
     Turn::Atom(next, nodes + 1, pool + seen.length, taken.state)
 }
 
 // The block of a kind whose command is at `at`: what follows the command's name starts at `from`, and the content follows the command's bracket.
-fn block(text: &[u8], at: usize, from: usize, kind: u8, nodes: usize, pool: usize) -> Walked
-    requires { ⌜ (from ≤ length (now text)) × (nodes ≤ from) × (pool ≤ from) ⌝ }
+fn block(
+    text: &[u8],
+    at: usize,
+    from: usize,
+    kind: u8,
+    nodes: usize,
+    pool: usize,
+    node: usize,
+    tape: &mut [u32; 32768],
+) -> Walked
+    requires { ⌜ (from ≤ length (now text)) × (nodes ≤ from) × (pool ≤ from) × (length (now text) ≤ 65536) × (node ≤ 4294967295) ⌝ }
     ensures { λ r. ⌜ Bounded (now (text .entry)) from r ⌝ }
-    ensures { λ r. ⌜ InCommand (now (text .entry)) at kind from 0 nodes pool r ⌝ }
+    ensures { λ r. ⌜ InCommand (now (text .entry)) at kind node from 0 nodes pool (now (tape .entry)) (now (tape .exit)) r ⌝ }
 {
     let mut i = from;
     let mut state: u8 = 0;
@@ -131,9 +148,20 @@ fn block(text: &[u8], at: usize, from: usize, kind: u8, nodes: usize, pool: usiz
             if text.len() <= end {
                 return refusal(8, end);
             }
-            return content(text, at, end + 1, kind, state, n, p);
+            return content(text, at, end + 1, kind, state, n, p, node, tape);
         }
-        let t = turn_as(at, i, seen, in_command(seen.class), kind, state, n, p);
+        let t = turn_as(
+            at,
+            i,
+            seen,
+            in_command(seen.class),
+            kind,
+            state,
+            n,
+            p,
+            node,
+            tape,
+        );
         match t {
             Turn::Done(w) => {
                 return w;
@@ -146,7 +174,10 @@ fn block(text: &[u8], at: usize, from: usize, kind: u8, nodes: usize, pool: usiz
                 continue;
             }
             Turn::List(place, class, next, s) => {
-                let w = past_bracket(text, inside(text, place, next, kind, class, n, p));
+                let w = past_bracket(
+                    text,
+                    inside(text, place, next, kind, class, n, p, node, tape),
+                );
                 if w.number != 0 {
                     return w;
                 }
@@ -169,10 +200,12 @@ fn content(
     read: u8,
     nodes: usize,
     pool: usize,
+    node: usize,
+    tape: &mut [u32; 32768],
 ) -> Walked
-    requires { ⌜ (from ≤ length (now text)) × (nodes ≤ from) × (pool ≤ from) ⌝ }
+    requires { ⌜ (from ≤ length (now text)) × (nodes ≤ from) × (pool ≤ from) × (length (now text) ≤ 65536) × (node ≤ 4294967295) ⌝ }
     ensures { λ r. ⌜ Bounded (now (text .entry)) from r ⌝ }
-    ensures { λ r. ⌜ InContent (now (text .entry)) at kind from read nodes pool r ⌝ }
+    ensures { λ r. ⌜ InContent (now (text .entry)) at kind node from read nodes pool (now (tape .entry)) (now (tape .exit)) r ⌝ }
 {
     let mut i = from;
     let mut state = read;
@@ -183,7 +216,18 @@ fn content(
         if ends(kind, seen.sort, seen.class) {
             return at_end(at, kind, state, i, n, p);
         }
-        let t = turn_as(at, i, seen, loose(seen.class), kind, state, n, p);
+        let t = turn_as(
+            at,
+            i,
+            seen,
+            loose(seen.class),
+            kind,
+            state,
+            n,
+            p,
+            node,
+            tape,
+        );
         match t {
             Turn::Done(w) => {
                 return w;
@@ -196,7 +240,7 @@ fn content(
                 continue;
             }
             Turn::List(place, class, next, s) => {
-                let w = child(text, place, next, kind, class, n, p);
+                let w = child(text, place, next, kind, class, n, p, node, tape);
                 if w.number != 0 {
                     return w;
                 }
@@ -219,21 +263,33 @@ fn child(
     class: u8,
     nodes: usize,
     pool: usize,
+    node: usize,
+    tape: &mut [u32; 32768],
 ) -> Walked
-    requires { ⌜ (from ≤ length (now text)) × (nodes < from) × (pool ≤ from) × Belongs parent class ⌝ }
+    requires { ⌜ (from ≤ length (now text)) × (nodes < from) × (pool ≤ from) × (length (now text) ≤ 65536) × (node ≤ 4294967295)
+        × (at ≤ length (now text)) × Belongs parent class ⌝ }
     ensures { λ r. ⌜ Bounded (now (text .entry)) from r ⌝ }
-    ensures { λ r. ⌜ Child (now (text .entry)) at from parent class nodes pool r ⌝ }
+    ensures { λ r. ⌜ Child (now (text .entry)) at from parent class nodes pool node (now (tape .entry)) (now (tape .exit)) r ⌝ }
 {
     if is_command(class) {
-        return block(text, at, from, class, nodes + 1, pool);
+        enter(tape, nodes, at, class, node, 0);
+        let w = block(text, at, from, class, nodes + 1, pool, nodes, tape);
+        leave(tape, nodes, w);
+        return w;
     }
-    past_bracket(text, inside(text, at, from, parent, class, nodes, pool))
+    past_bracket(
+        text,
+        inside(text, at, from, parent, class, nodes, pool, node, tape),
+    )
 }
 
 // Judges an imperative text that was scanned: 7 to 12, or the counts of its document.
-pub fn judge_imperative(text: &[u8]) -> Walked
+pub fn judge_imperative(text: &[u8], tape: &mut [u32; 32768]) -> Walked
+    requires { ⌜ length (now text) ≤ 65536 ⌝ }
     ensures { λ r. ⌜ ((es : Exprs) → Stands (now (text .entry)) 0 es (length (now (text .entry))) → depthAll es ≤ 59
         → r ≡ readWalked (oneExpression Spelling.imperative (length (now (text .entry))) es)) ⌝ }
+    ensures { λ r. ⌜ ((e : Expr) (es : Exprs) → Stands (now (text .entry)) 0 (and e es) (length (now (text .entry))) → depthAll (and e es) ≤ 59
+        → r .number ≡ 0 → length (now (tape .entry)) ≡ 32768 → now (tape .exit) ≡ taped (now (tape .entry)) 0 4294967295 (regroup e es)) ⌝ }
 {
     let seen = look(text, 0);
     let place = seen.place;
@@ -248,7 +304,9 @@ pub fn judge_imperative(text: &[u8]) -> Walked
     if next < 1 {
         return refusal(8, place);
     }
-    let w = block(text, place, next, 1, 1, 0);
+    enter(tape, 0, place, 1, 4294967295, 0);
+    let w = block(text, place, next, 1, 1, 0, 0, tape);
+    leave(tape, 0, w);
     if w.number != 0 {
         return w;
     }

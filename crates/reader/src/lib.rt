@@ -1,14 +1,13 @@
 // Reads a text into a node table (document 01).
-mod block_fill; // block_fill.rt: the fill of a whole text, in either spelling
 mod commands; // commands.rt: judging an imperative text
-mod fill; // fill.rt: the fill of the table from expressions that were judged
+mod fill; // fill.rt: the fill of the table from the tape of a text that was judged
 mod nested; // nested.rt: judging a nested text
+mod tape; // tape.rt: what the judging walk notes of each node
 mod value; // value.rt: the values of parameters
 mod walk; // walk.rt: the judging walk over elements
 
-use block_fill::fill_imperative;
-use block_fill::fill_nested;
 use commands::judge_imperative;
+use fill::fill;
 use lexer::scan;
 use nested::judge_nested;
 ghost use mathlib.Core.Path.{_≡_};
@@ -132,7 +131,8 @@ pub fn read_nested(text: &[u8], nodes: &mut [u32], places: &mut [u32], pool: &mu
     if g.number != 0 {
         return answer_at(text, g.number, g.place, 0, 0);
     }
-    let w = judge_nested(text);
+    let mut tape = [0u32; 32768];
+    let w = judge_nested(text, &mut tape);
     if w.number != 0 {
         return answer_at(text, w.number, w.place, 0, 0);
     }
@@ -140,7 +140,7 @@ pub fn read_nested(text: &[u8], nodes: &mut [u32], places: &mut [u32], pool: &mu
     if full != 0 {
         return answer_at(text, full, 0, w.nodes, w.pool);
     }
-    fill_nested(text, nodes, places, pool);
+    fill(text, &tape, w.nodes, nodes, places, pool);
     let c = checked(nodes, places, pool, w.nodes, w.pool);
     answer_at(text, c.number, c.place, w.nodes, w.pool)
 }
@@ -159,7 +159,8 @@ pub fn read_imperative(
     if g.number != 0 {
         return answer_at(text, g.number, g.place, 0, 0);
     }
-    let w = judge_imperative(text);
+    let mut tape = [0u32; 32768];
+    let w = judge_imperative(text, &mut tape);
     if w.number != 0 {
         return answer_at(text, w.number, w.place, 0, 0);
     }
@@ -167,7 +168,7 @@ pub fn read_imperative(
     if full != 0 {
         return answer_at(text, full, 0, w.nodes, w.pool);
     }
-    fill_imperative(text, nodes, places, pool);
+    fill(text, &tape, w.nodes, nodes, places, pool);
     let c = checked(nodes, places, pool, w.nodes, w.pool);
     answer_at(text, c.number, c.place, w.nodes, w.pool)
 }

@@ -1,18 +1,21 @@
 // Judging a nested text that was scanned: first 7, for no expression or a second one, then 8 to 12 of the one there is.
+use super::tape::enter;
 use super::walk::Walked;
 use super::walk::element;
+use super::walk::leave;
 use super::walk::past_bracket;
 use super::walk::refusal;
 use lexer::look;
 ghost use mathlib.Core.Path.{_≡_};
-ghost use Prim.Native.Nat.{ℕ};
+ghost use Prim.Native.Nat.{ℕ, _≤_};
 ghost use lib.ListN.{length};
-ghost use Rattle.syntax.specs.Expression.{Expr, Exprs, and};
+ghost use Rattle.syntax.specs.Expression.{Expr, Exprs, none, and};
 ghost use Rattle.document.specs.Spelling.{nested};
 ghost use Rattle.document.specs.Answer.{oneExpression};
 ghost use Rattle.reader.specs.Stands.{Stands};
 ghost use Rattle.reader.specs.Second.{firstPlace, secondPlace, FirstJudged};
 ghost use Rattle.reader.specs.Walked.{readWalked};
+ghost use Rattle.reader.specs.Tape.{taped};
 
 // Where the run of expressions from a place on ends, whatever its lists hold.
 fn run_end(text: &[u8], from: usize) -> usize
@@ -105,8 +108,11 @@ fn second_after(text: &[u8], w: Walked) -> usize
 }
 
 // 7 for no expression, or 8 to 12 of the first one, whatever follows it. The root counts as one node.
-fn judge_first(text: &[u8]) -> Walked
+fn judge_first(text: &[u8], tape: &mut [u32; 32768]) -> Walked
+    requires { ⌜ length (now text) ≤ 65536 ⌝ }
     ensures { λ r. ⌜ ((es : Exprs) → Stands (now (text .entry)) 0 es (length (now (text .entry))) → FirstJudged (now (text .entry)) es r) ⌝ }
+    ensures { λ r. ⌜ ((e : Expr) (es : Exprs) → Stands (now (text .entry)) 0 (and e es) (length (now (text .entry))) → r .number ≡ 0
+        → length (now (tape .entry)) ≡ 32768 → now (tape .exit) ≡ taped (now (tape .entry)) 0 4294967295 e) ⌝ }
 {
     let root = look(text, 0);
     if root.sort == 0 {
@@ -121,15 +127,21 @@ fn judge_first(text: &[u8]) -> Walked
     if next == 0 {
         return refusal(8, place);
     }
-    past_bracket(text, element(text, place, next, 1, 1, 0))
+    enter(tape, 0, place, 1, 4294967295, 0);
+    let w = element(text, place, next, 1, 1, 0, 0, tape);
+    leave(tape, 0, w);
+    past_bracket(text, w)
 }
 
 // 7 to 12, or the counts of the document. 7 comes before 8 to 12; but the walk over the root comes first, since it finds the root's end.
-pub fn judge_nested(text: &[u8]) -> Walked
+pub fn judge_nested(text: &[u8], tape: &mut [u32; 32768]) -> Walked
+    requires { ⌜ length (now text) ≤ 65536 ⌝ }
     ensures { λ r. ⌜ ((es : Exprs) → Stands (now (text .entry)) 0 es (length (now (text .entry)))
         → r ≡ readWalked (oneExpression nested (length (now (text .entry))) es)) ⌝ }
+    ensures { λ r. ⌜ ((e : Expr) → Stands (now (text .entry)) 0 (and e none) (length (now (text .entry))) → r .number ≡ 0
+        → length (now (tape .entry)) ≡ 32768 → now (tape .exit) ≡ taped (now (tape .entry)) 0 4294967295 e) ⌝ }
 {
-    let w = judge_first(text);
+    let w = judge_first(text, tape);
     let other = second_after(text, w);
     if other < text.len() {
         return refusal(7, other);

@@ -1,4 +1,5 @@
 // The value of a parameter: of an id, a target or a type one text or symbol, of a size two numbers. What is malformed is refused by 10.
+use super::tape::note;
 use super::walk::Walked;
 use super::walk::refusal;
 use lexer::atom_fits;
@@ -6,7 +7,9 @@ use lexer::look;
 ghost use mathlib.Core.Path.{_≡_};
 ghost use mathlib.Core.Bool.{cond, _&&_};
 ghost use Prim.Native.Nat.{ℕ, _+_, _≤_};
+ghost use lib.Dec.{eqb};
 ghost use lib.ListN.{length, take, drop};
+ghost use Rattle.elements.specs.Class as Class;
 ghost use Rattle.syntax.specs.Expression.{Exprs, Expr};
 ghost use Rattle.lexer.specs.Token.{atomValue};
 ghost use Rattle.document.specs.Value.{nonEmpty, isValue, namesBlock};
@@ -14,7 +17,7 @@ ghost use Rattle.document.specs.Meaning.{judgeValue, valueTree, sizeTree, numbe
 ghost use Rattle.reader.specs.Stands.{Stands};
 ghost use Rattle.reader.specs.Sizes.{valueSize};
 ghost use Rattle.reader.specs.Walked.{walkedTo, Bounded};
-ghost use Rattle.reader.specs.Held.{Holds, Reads, holdsSort};
+ghost use Rattle.reader.specs.Held.{Holds, Reads, Notes, holdsSort};
 
 // The one text or symbol of a run: its place, the length of what it stands for, and the place where the run ends.
 pub struct One {
@@ -155,12 +158,22 @@ fn number_at(text: &[u8], from: usize) -> Number
     }
 }
 
-// A size at `at`, whose numbers start at `from`.
-fn size(text: &[u8], at: usize, from: usize, kind: u8, nodes: usize, pool: usize) -> Walked
+// A size at `at`, whose numbers start at `from`; they are noted of the node.
+fn size(
+    text: &[u8],
+    at: usize,
+    from: usize,
+    kind: u8,
+    nodes: usize,
+    pool: usize,
+    node: usize,
+    tape: &mut [u32; 32768],
+) -> Walked
     requires { ⌜ (from ≤ length (now text)) × (nodes ≤ from) × (pool ≤ from) ⌝ }
     ensures { λ r. ⌜ Bounded (now (text .entry)) from r ⌝ }
     ensures { λ r. ⌜ ((es : Exprs) (m : ℕ) → Stands (now (text .entry)) from es m
         → r ≡ walkedTo m nodes pool (judgeValue kind at (sizeTree es))) ⌝ }
+    ensures { λ r. ⌜ Notes (now (text .entry)) from Class.size node (now (tape .entry)) r (now (tape .exit)) ⌝ }
 {
     let width = number_at(text, from);
     if 65535 < width.number {
@@ -174,6 +187,8 @@ fn size(text: &[u8], at: usize, from: usize, kind: u8, nodes: usize, pool: usize
     if last.sort != 0 {
         return refusal(10, at);
     }
+    note(tape, node, 6, width.number);
+    note(tape, node, 7, height.number);
     Walked {
         number: 0,
         place: 0,
@@ -183,7 +198,17 @@ fn size(text: &[u8], at: usize, from: usize, kind: u8, nodes: usize, pool: usize
     }
 }
 
-// A list at `at` led by a parameter's name of a class, in an element of a kind; what follows the name starts at `from`.
+// The word of a node for the place of what a parameter of a class holds.
+fn word_of(class: u8) -> usize
+    ensures { λ r. ⌜ r ≡ cond (eqb class Class.type) 5 4 ⌝ }
+{
+    if class == 27 {
+        return 5;
+    }
+    4
+}
+
+// A list at `at` led by a parameter's name of a class, in an element of a kind with number `node`; what follows the name starts at `from`.
 pub fn value(
     text: &[u8],
     at: usize,
@@ -192,14 +217,17 @@ pub fn value(
     class: u8,
     nodes: usize,
     pool: usize,
+    node: usize,
+    tape: &mut [u32; 32768],
 ) -> Walked
-    requires { ⌜ (from ≤ length (now text)) × (nodes ≤ from) × (pool ≤ from) ⌝ }
+    requires { ⌜ (from ≤ length (now text)) × (length (now text) ≤ 65536) × (nodes ≤ from) × (pool ≤ from) ⌝ }
     ensures { λ r. ⌜ Bounded (now (text .entry)) from r ⌝ }
     ensures { λ r. ⌜ ((es : Exprs) (m : ℕ) → Stands (now (text .entry)) from es m
         → r ≡ walkedTo m nodes (pool + valueSize class es) (judgeValue kind at (valueTree class es))) ⌝ }
+    ensures { λ r. ⌜ Notes (now (text .entry)) from class node (now (tape .entry)) r (now (tape .exit)) ⌝ }
 {
     if class == 29 {
-        return size(text, at, from, kind, nodes, pool);
+        return size(text, at, from, kind, nodes, pool, node, tape);
     }
     let one = only(text, from, class);
     if !one.good {
@@ -208,6 +236,7 @@ pub fn value(
     if !is_value(text, one.place, kind, class) {
         return refusal(10, at);
     }
+    note(tape, node, word_of(class), one.place);
     Walked {
         number: 0,
         place: 0,

@@ -1,6 +1,8 @@
-// The judging walk over the text, which counts nodes and pool bytes (document 01, numbers 8 to 12).
+// The judging walk over the text, which counts nodes and pool bytes (document 01, numbers 8 to 12) and notes the nodes on the tape.
 // "An item holds inline content, and inline content holds lists of items": the walk over inline content
 // calls the list and item walks, which call it back, and the bytes left fall.
+use super::tape::enter;
+use super::tape::note;
 use super::value::value;
 use kind::may_end;
 use kind::step;
@@ -19,7 +21,8 @@ ghost use Rattle.document.specs.Meaning.{Verdict, finish, run};
 ghost use Rattle.reader.specs.Stands.{Stands};
 ghost use Rattle.reader.specs.Sizes.{nodesIn, bytesIn};
 ghost use Rattle.reader.specs.Walked.{walkedTo, Bounded};
-ghost use Rattle.reader.specs.Turn.{Answers, Judges, Turned, Within, pastBracket};
+ghost use Rattle.reader.specs.Tape.{left, tapedAll};
+ghost use Rattle.reader.specs.Turn.{Answers, Finishes, Judges, Turned, Within, pastBracket};
 
 pub struct Walked {
     pub number: u32,
@@ -77,7 +80,7 @@ pub fn at_end(at: usize, kind: u8, state: u8, place: usize, nodes: usize, pool: 
     refusal(9, at)
 }
 
-// The next expression in an element of a kind at `at`, read so far to this state.
+// The next expression in an element of a kind at `at` with number `node`, read so far to this state.
 fn next_turn(
     text: &[u8],
     at: usize,
@@ -86,10 +89,12 @@ fn next_turn(
     state: u8,
     nodes: usize,
     pool: usize,
+    node: usize,
+    tape: &mut [u32; 32768],
 ) -> Turn
-    requires { ⌜ (i ≤ length (now text)) × (nodes ≤ i) × (pool ≤ i) ⌝ }
+    requires { ⌜ (i ≤ length (now text)) × (nodes ≤ i) × (pool ≤ i) × (length (now text) ≤ 65536) × (node ≤ 4294967295) ⌝ }
     ensures { λ r. ⌜ Within (now (text .entry)) i r ⌝ }
-    ensures { λ r. ⌜ Turned (now (text .entry)) at kind i state nodes pool r ⌝ }
+    ensures { λ r. ⌜ Turned (now (text .entry)) at kind i state nodes pool node (now (tape .entry)) (now (tape .exit)) r ⌝ }
 {
     let seen = look(text, i);
     let place = seen.place;
@@ -109,6 +114,7 @@ fn next_turn(
     if seen.sort == 3 {
         return Turn::List(place, class, next, taken.state);
     }
+    enter(tape, nodes, place, 9, node, nodes + 1);
     Turn::Atom(next, nodes + 1, pool + seen.length, taken.state)
 }
 
@@ -145,7 +151,17 @@ pub fn is_element(class: u8) -> bool
     class != 9
 }
 
-// A list at `at` in an element of kind `parent`, led by a name of this class; what follows the name starts at `from`.
+// An element whose walk answered w is left: the number after that of its last descendant is noted, unless it was refused.
+pub fn leave(tape: &mut [u32; 32768], node: usize, w: Walked)
+    requires { ⌜ (w .number ≡ 0 → w .nodes ≤ 4294967295) ⌝ }
+    ensures { λ _. ⌜ (w .number ≡ 0 → length (now (tape .entry)) ≡ 32768 → now (tape .exit) ≡ left (now (tape .entry)) node (w .nodes)) ⌝ }
+{
+    if w.number == 0 {
+        note(tape, node, 3, w.nodes);
+    }
+}
+
+// A list at `at` in an element of kind `parent` with number `node`, led by a name of this class; what follows the name starts at `from`.
 pub fn inside(
     text: &[u8],
     at: usize,
@@ -154,34 +170,67 @@ pub fn inside(
     class: u8,
     nodes: usize,
     pool: usize,
+    node: usize,
+    tape: &mut [u32; 32768],
 ) -> Walked
-    requires { ⌜ (from ≤ length (now text)) × (nodes < from) × (pool ≤ from) ⌝ }
+    requires { ⌜ (from ≤ length (now text)) × (nodes < from) × (pool ≤ from) × (length (now text) ≤ 65536) × (node ≤ 4294967295)
+        × (at ≤ length (now text)) ⌝ }
     ensures { λ r. ⌜ Bounded (now (text .entry)) from r ⌝ }
-    ensures { λ r. ⌜ Judges (now (text .entry)) at from parent class nodes pool r ⌝ }
+    ensures { λ r. ⌜ Judges (now (text .entry)) at from parent class nodes pool node (now (tape .entry)) (now (tape .exit)) r ⌝ }
 {
     if !is_element(class) {
-        return value(text, at, from, parent, class, nodes, pool);
+        return value(text, at, from, parent, class, nodes, pool, node, tape);
     }
-    match class {
-        16 | 17 => list(text, at, from, class, nodes + 1, pool),
-        18 => item(text, at, from, nodes + 1, pool),
-        5 | 6 | 7 | 25 => inline(text, at, from, class, nodes + 1, pool),
-        _ => element(text, at, from, class, nodes + 1, pool),
+    enter(tape, nodes, at, class, node, 0);
+    let w = content_of(text, at, from, class, nodes + 1, pool, nodes, tape);
+    leave(tape, nodes, w);
+    w
+}
+
+// What follows the name in an element of a kind, by the walk for that kind.
+fn content_of(
+    text: &[u8],
+    at: usize,
+    from: usize,
+    kind: u8,
+    nodes: usize,
+    pool: usize,
+    node: usize,
+    tape: &mut [u32; 32768],
+) -> Walked
+    requires { ⌜ (from ≤ length (now text)) × (nodes ≤ from) × (pool ≤ from) × (length (now text) ≤ 65536) × (node ≤ 4294967295) ⌝ }
+    ensures { λ r. ⌜ Bounded (now (text .entry)) from r ⌝ }
+    ensures { λ r. ⌜ Finishes (now (text .entry)) at kind from nodes pool node (now (tape .entry)) (now (tape .exit)) r ⌝ }
+{
+    match kind {
+        16 | 17 => list(text, at, from, kind, nodes, pool, node, tape),
+        18 => item(text, at, from, nodes, pool, node, tape),
+        5 | 6 | 7 | 25 => inline(text, at, from, kind, nodes, pool, node, tape),
+        _ => element(text, at, from, kind, nodes, pool, node, tape),
     }
 }
 
 // What follows the name in an element that holds inline content.
-fn inline(text: &[u8], at: usize, from: usize, kind: u8, nodes: usize, pool: usize) -> Walked
-    requires { ⌜ (from ≤ length (now text)) × (nodes ≤ from) × (pool ≤ from) ⌝ }
+fn inline(
+    text: &[u8],
+    at: usize,
+    from: usize,
+    kind: u8,
+    nodes: usize,
+    pool: usize,
+    node: usize,
+    tape: &mut [u32; 32768],
+) -> Walked
+    requires { ⌜ (from ≤ length (now text)) × (nodes ≤ from) × (pool ≤ from) × (length (now text) ≤ 65536) × (node ≤ 4294967295) ⌝ }
     ensures { λ r. ⌜ Bounded (now (text .entry)) from r ⌝ }
-    ensures { λ r. ⌜ Answers (now (text .entry)) at kind from 0 nodes pool r ⌝ }
+    ensures { λ r. ⌜ Answers (now (text .entry)) at kind from 0 nodes pool node (now (tape .entry)) (now (tape .exit)) r ⌝ }
 {
     let mut i = from;
     let mut state: u8 = 0;
     let mut n = nodes;
     let mut p = pool;
     loop {
-        let t = next_turn(text, at, i, kind, state, n, p);
+        let t = next_turn(text, at, i, kind, state, n, p, node, tape);
         match t {
             Turn::Done(w) => {
                 return w;
@@ -195,8 +244,13 @@ fn inline(text: &[u8], at: usize, from: usize, kind: u8, nodes: usize, pool: usi
             }
             Turn::List(place, class, next, s) => {
                 let child = match class {
-                    16 | 17 => list(text, place, next, class, n + 1, p),
-                    _ => inside(text, place, next, kind, class, n, p),
+                    16 | 17 => {
+                        enter(tape, n, place, class, node, 0);
+                        let items = list(text, place, next, class, n + 1, p, n, tape);
+                        leave(tape, n, items);
+                        items
+                    }
+                    _ => inside(text, place, next, kind, class, n, p, node, tape),
                 };
                 let w = past_bracket(text, child);
                 if w.number != 0 {
@@ -213,17 +267,27 @@ fn inline(text: &[u8], at: usize, from: usize, kind: u8, nodes: usize, pool: usi
 }
 
 // What follows the name in a list of items.
-fn list(text: &[u8], at: usize, from: usize, kind: u8, nodes: usize, pool: usize) -> Walked
-    requires { ⌜ (from ≤ length (now text)) × (nodes ≤ from) × (pool ≤ from) × ((kind ≡ 16) ⊎ (kind ≡ 17)) ⌝ }
+fn list(
+    text: &[u8],
+    at: usize,
+    from: usize,
+    kind: u8,
+    nodes: usize,
+    pool: usize,
+    node: usize,
+    tape: &mut [u32; 32768],
+) -> Walked
+    requires { ⌜ (from ≤ length (now text)) × (nodes ≤ from) × (pool ≤ from) × (length (now text) ≤ 65536) × (node ≤ 4294967295)
+        × ((kind ≡ 16) ⊎ (kind ≡ 17)) ⌝ }
     ensures { λ r. ⌜ Bounded (now (text .entry)) from r ⌝ }
-    ensures { λ r. ⌜ Answers (now (text .entry)) at kind from 0 nodes pool r ⌝ }
+    ensures { λ r. ⌜ Answers (now (text .entry)) at kind from 0 nodes pool node (now (tape .entry)) (now (tape .exit)) r ⌝ }
 {
     let mut i = from;
     let mut state: u8 = 0;
     let mut n = nodes;
     let mut p = pool;
     loop {
-        let t = next_turn(text, at, i, kind, state, n, p);
+        let t = next_turn(text, at, i, kind, state, n, p, node, tape);
         match t {
             Turn::Done(w) => {
                 return w;
@@ -237,7 +301,10 @@ fn list(text: &[u8], at: usize, from: usize, kind: u8, nodes: usize, pool: usize
             }
             // An item: the step takes nothing else.
             Turn::List(place, _, next, s) => {
-                let w = past_bracket(text, item(text, place, next, n + 1, p));
+                enter(tape, n, place, 18, node, 0);
+                let child = item(text, place, next, n + 1, p, n, tape);
+                leave(tape, n, child);
+                let w = past_bracket(text, child);
                 if w.number != 0 {
                     return w;
                 }
@@ -252,27 +319,46 @@ fn list(text: &[u8], at: usize, from: usize, kind: u8, nodes: usize, pool: usize
 }
 
 // What follows the name in an item.
-fn item(text: &[u8], at: usize, from: usize, nodes: usize, pool: usize) -> Walked
-    requires { ⌜ (from ≤ length (now text)) × (nodes ≤ from) × (pool ≤ from) ⌝ }
+fn item(
+    text: &[u8],
+    at: usize,
+    from: usize,
+    nodes: usize,
+    pool: usize,
+    node: usize,
+    tape: &mut [u32; 32768],
+) -> Walked
+    requires { ⌜ (from ≤ length (now text)) × (nodes ≤ from) × (pool ≤ from) × (length (now text) ≤ 65536) × (node ≤ 4294967295) ⌝ }
     ensures { λ r. ⌜ Bounded (now (text .entry)) from r ⌝ }
-    ensures { λ r. ⌜ Answers (now (text .entry)) at 18 from 0 nodes pool r ⌝ }
+    ensures { λ r. ⌜ Answers (now (text .entry)) at 18 from 0 nodes pool node (now (tape .entry)) (now (tape .exit)) r ⌝ }
 {
-    inline(text, at, from, 18, nodes, pool)
+    inline(text, at, from, 18, nodes, pool, node, tape)
 }
 
 // What follows the name in an element of a kind whose bracket is at `at`.
-pub fn element(text: &[u8], at: usize, from: usize, kind: u8, nodes: usize, pool: usize) -> Walked
-    requires { ⌜ (from ≤ length (now text)) × (nodes ≤ from) × (pool ≤ from) ⌝ }
+pub fn element(
+    text: &[u8],
+    at: usize,
+    from: usize,
+    kind: u8,
+    nodes: usize,
+    pool: usize,
+    node: usize,
+    tape: &mut [u32; 32768],
+) -> Walked
+    requires { ⌜ (from ≤ length (now text)) × (nodes ≤ from) × (pool ≤ from) × (length (now text) ≤ 65536) × (node ≤ 4294967295) ⌝ }
     ensures { λ r. ⌜ Bounded (now (text .entry)) from r ⌝ }
     ensures { λ r. ⌜ ((es : Exprs) (e : ℕ) → Stands (now (text .entry)) from es e
         → r ≡ walkedTo e (nodes + nodesIn es) (pool + bytesIn es) (finish at kind (run at kind (start kind) es))) ⌝ }
+    ensures { λ r. ⌜ ((es : Exprs) (e : ℕ) → Stands (now (text .entry)) from es e → r .number ≡ 0 → length (now (tape .entry)) ≡ 32768
+        → now (tape .exit) ≡ tapedAll (now (tape .entry)) nodes node es) ⌝ }
 {
     let mut i = from;
     let mut state: u8 = 0;
     let mut n = nodes;
     let mut p = pool;
     loop {
-        let t = next_turn(text, at, i, kind, state, n, p);
+        let t = next_turn(text, at, i, kind, state, n, p, node, tape);
         match t {
             Turn::Done(w) => {
                 return w;
@@ -285,7 +371,8 @@ pub fn element(text: &[u8], at: usize, from: usize, kind: u8, nodes: usize, pool
                 continue;
             }
             Turn::List(place, class, next, s) => {
-                let w = past_bracket(text, inside(text, place, next, kind, class, n, p));
+                let child = inside(text, place, next, kind, class, n, p, node, tape);
+                let w = past_bracket(text, child);
                 if w.number != 0 {
                     return w;
                 }

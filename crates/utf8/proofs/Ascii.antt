@@ -6,7 +6,7 @@ use Prim.Native.Nat.{ℕ, zero, suc, _+_, _-_, _≤_, _<_}
 use native.Mathlib.Nat.{zero-add, suc-add}
 use native.Mathlib.Omega.{arith}
 use lib.Dec.{T, ltb}
-use lib.ListN.{length, drop, getD, replicate, length-drop, length-replicate}
+use lib.ListN.{length, drop, getD, replicate, length-drop, length-replicate, drop-of-length-le}
 use lib.Seq.{drop-cons, drop-drop}
 use borrow.Author.Tests.{le-leb, lt-leb, ltb-true, ltb-false}
 use Rattle.laws.proofs.Booleans.{bool-case, both, and-true, true-T, T-true, not-T-false}
@@ -54,6 +54,34 @@ ascii-fits n s t = rw (length-replicate n (to 0x00 0x7F)) at (begins-fits (repli
 pub ascii-short : (text : List ℕ) (i n : ℕ) → length text - i < n → beginsAscii n (drop i text) ≡ false
 ascii-short text i n h = not-T-false _ (λ t. omega (arith, ascii-fits n (drop i text) t, length-drop i text))
 
+-- ---- the end of a text
+
+ascii-later : (text : List ℕ) (i n m : ℕ) → beginsAscii (n + m) (drop i text) ≡ true → beginsAscii m (drop (i + n) text) ≡ true
+ascii-later text i n m e =
+    T-true _ (both (beginsAscii n (drop i text)) (beginsAscii m (drop (i + n) text)) (true-T (ascii-join text i n m ∙ e)) .1)
+
+-- What is left is part of the text's last eight bytes.
+pub ascii-rest : (text : List ℕ) (i : ℕ) → i ≤ length text → 8 ≤ length text → length text - i ≤ 8
+    → beginsAscii 8 (drop (length text - 8) text) ≡ true → beginsAscii (length text - i) (drop i text) ≡ true
+ascii-rest text i inside fits h e =
+    let n : ℕ = i - (length text - 8) in
+    let all : n + (length text - i) ≡ 8 = omega arith in
+    let from : length text - 8 + n ≡ i = omega arith in
+    rw from at (ascii-later text (length text - 8) n (length text - i) (rw all e))
+
+-- Or it is eight bytes, and past them part of the last eight.
+pub ascii-both : (text : List ℕ) (i : ℕ) → 8 < length text - i → length text - i ≤ 16
+    → (beginsAscii 8 (drop i text) && beginsAscii 8 (drop (length text - 8) text)) ≡ true → beginsAscii (length text - i) (drop i text) ≡ true
+ascii-both text i h k e =
+    let (p, q) = both (beginsAscii 8 (drop i text)) (beginsAscii 8 (drop (length text - 8) text)) (true-T e) in
+    let m : ℕ = length text - (i + 8) in
+    let rest : beginsAscii m (drop (i + 8) text) ≡ true =
+    ascii-rest text (i + 8) (omega arith) (omega arith) (omega arith) (T-true _ q) in
+    let first : beginsAscii 8 (drop i text) ≡ true = T-true _ p in
+    let whole : beginsAscii (8 + m) (drop i text) ≡ true = sym (ascii-join text i 8 m) ∙ rw (first, rest) in
+    let size : 8 + m ≡ length text - i = omega arith in
+    rw size at whole
+
 -- ---- the walk
 
 ascii-length : (b : ℕ) (s : List ℕ) → T (within (to 0x00 0x7F) b) → sequenceLength (b ∷ s) ≡ 1
@@ -78,3 +106,12 @@ module _ (text : List ℕ) (i n : ℕ) (inside : i ≤ length text) {t : Bool} (
 
   pub block-turn : i + n + validFrom 0 (drop (i + n) text) ≡ i + validFrom 0 (drop i text)
   block-turn = rw (← drop-drop n i text) (omega (arith, ascii-walk n (drop i text) block))
+
+-- The walk is over where all that is left is ASCII.
+pub block-last : (text : List ℕ) (i : ℕ) → i ≤ length text → beginsAscii (length text - i) (drop i text) ≡ true
+    → length text ≡ i + validFrom 0 (drop i text)
+unfolding validFrom
+block-last text i inside e =
+    let end : i + (length text - i) ≡ length text = omega arith in
+    let none : drop (length text) text ≡ [] = drop-of-length-le text {i = length text} (omega arith) in
+    omega (arith, rw (end, none) at (block-turn text i (length text - i) inside (sym e) refl))

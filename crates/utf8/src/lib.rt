@@ -1,9 +1,9 @@
 // UTF-8: which sequences of bytes are well formed, where a text stops being UTF-8, and the line and
 // column of a place (document 01, "Characters and brackets").
 ghost use mathlib.Core.Path.{_≡_};
-ghost use mathlib.Core.Bool.{cond};
+ghost use mathlib.Core.Bool.{cond, true};
 ghost use mathlib.Core.List.{[], _∷_};
-ghost use Prim.Native.Nat.{_+_, _≤_, min};
+ghost use Prim.Native.Nat.{_+_, _-_, _≤_, min};
 ghost use lib.Dec.{eqb};
 ghost use lib.ListN.{drop, length};
 ghost use Rattle.utf8.specs.Sequence.{begins, beginsAscii, leadingOnes, sequenceLength, to, validUpTo};
@@ -133,6 +133,25 @@ fn ascii_8_at(text: &[u8], place: usize) -> bool
     ascii_8(text, place)
 }
 
+// Whether at most sixteen bytes stand from a place to the text's end and are seen to be ASCII: by the last eight and, where
+// more are left, the eight at the place. The two blocks may overlap, and the last may begin before the place.
+fn ascii_end(text: &[u8], place: usize) -> bool
+    requires { ⌜ place ≤ length (now text) ⌝ }
+    ensures { λ r. ⌜ (r ≡ true → beginsAscii (length (now (text .entry)) - place) (drop place (now (text .entry))) ≡ true) ⌝ }
+{
+    let n = text.len();
+    if n < 8 {
+        return false;
+    }
+    if n - place <= 8 {
+        return ascii_8(text, n - 8);
+    }
+    if n - place <= 16 {
+        return ascii_8(text, place) & ascii_8(text, n - 8);
+    }
+    false
+}
+
 // The place of the first ill-formed sequence, and the text's length where there is none. Most text is ASCII,
 // whose bytes are sequences by themselves.
 pub fn valid_up_to(text: &[u8]) -> usize
@@ -143,6 +162,9 @@ pub fn valid_up_to(text: &[u8]) -> usize
         if ascii_16(text, i) {
             i += 16;
             continue;
+        }
+        if ascii_end(text, i) {
+            return text.len();
         }
         if ascii_8_at(text, i) {
             i += 8;

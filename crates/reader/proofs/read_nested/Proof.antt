@@ -1,10 +1,11 @@
 -- `reader::read_nested` meets its contract: each way passes what the parts ensure to its lemma of `Answered`. Assumes nothing.
-use borrow.Author.Needs.{needs}
+use mathlib.Core.Path.{sym, _∙_}
 use native.Mathlib.Omega.{arith}
 use denote.Ref.{now}
 use Rattle.document.specs.Spelling.{nested, mostLevels}
 use Rattle.document.specs.Answer.{Memory}
-use Rattle.reader.proofs.Answered.{group-fits, group-reads, walk-fits, walk-reads, full-reads, check-fits, filled-reads, nested-fills}
+use Rattle.reader.proofs.Answered.{blankTape, room-few, group-fits, group-short, group-reads, walk-fits, walk-reads, full-reads, check-fits, filled-reads, nested-tapes}
+use borrow.Author.Needs.{needs}
 use Rattle.reader.proofs.read_nested.Statement.{statement}
 use Rattle.reader.proofs.read_nested.Tie as tie
 
@@ -13,22 +14,21 @@ first-groups-requires c κs = search needs
 
 answer-at-requires : tie.Need-answer-at-requires
 unfolding mostLevels
-answer-at-requires c κs =
-    (group-fits nested _ _ _ (c .before .before .first-groups .ensures), omega arith, omega arith)
+answer-at-requires c κs = (group-fits nested _ _ _ (c .before .before .first-groups .ensures), omega arith, omega arith)
 
 returns : tie.Need-returns
 unfolding mostLevels
-returns c =
-    group-reads nested _ _ _ _ (c .before .before .before .first-groups .ensures) (c .before .if1 .taken) _ (c .answer-at .ensures)
+returns c = group-reads nested _ _ _ _ (c .before .before .before .first-groups .ensures) (c .before .if1 .taken) _ (c .answer-at .ensures)
 
 judge-nested-requires : tie.Need-judge-nested-requires
-judge-nested-requires c κs = search needs
+unfolding mostLevels
+judge-nested-requires c κs = group-short nested _ _ _ (c .before .before .before .first-groups .ensures) (c .before .if1 .left)
 
 answer-at-requires-2 : tie.Need-answer-at-requires-2
 unfolding mostLevels
 answer-at-requires-2 c κs = (
-  walk-fits nested _ _ _ (c .before .before .before .before .before .first-groups .ensures) (c .before .before .before .if1 .left)
-      _ (λ es st deep. c .before .before .judge-nested .ensures es st) .0,
+  walk-fits nested _ _ _ (c .before .before .before .before .before .before .first-groups .ensures)
+      (c .before .before .before .before .if1 .left) _ (λ es st deep. c .before .before .judge-nested .ensures .0 es st) .0,
   omega arith,
   omega arith,
 )
@@ -36,10 +36,9 @@ answer-at-requires-2 c κs = (
 returns-2 : tie.Need-returns-2
 unfolding mostLevels
 returns-2 c =
-    let k = c .before in
-    walk-reads nested _ _ _ _ (k .before .before .before .before .before .first-groups .ensures) (k .before .before .before .if1 .left)
-    _ (λ es st deep. k .before .before .judge-nested .ensures es st)
-    (k .if2 .taken) _ (c .answer-at2 .ensures)
+    walk-reads nested _ _ _ _ (c .before .before .before .before .before .before .before .first-groups .ensures)
+    (c .before .before .before .before .before .if1 .left) _ (λ es st deep. c .before .before .before .judge-nested .ensures .0 es st)
+    (c .before .if2 .taken) _ (c .answer-at2 .ensures)
 
 room-requires : tie.Need-room-requires
 room-requires c κs = search needs
@@ -47,43 +46,53 @@ room-requires c κs = search needs
 answer-at-requires-3 : tie.Need-answer-at-requires-3
 unfolding mostLevels
 answer-at-requires-3 c κs =
-    let (p, n, b) = walk-fits nested _ _ _ (c .before .before .before .before .before .before .before .first-groups .ensures) (c .before .before .before .before .before .if1 .left)
-    _ (λ es st deep. c .before .before .before .before .judge-nested .ensures es st) in
-    (omega arith, n, b)
+    let (p, n, b) = walk-fits nested _ _ _ (c .before .before .before .before .before .before .before .before .first-groups .ensures)
+    (c .before .before .before .before .before .before .if1 .left) _
+    (λ es st deep. c .before .before .before .before .judge-nested .ensures .0 es st) in (omega arith, n, b)
 
 returns-3 : tie.Need-returns-3
 unfolding mostLevels
 returns-3 c =
-    let k = c .before in
-    full-reads nested _ _ _ _ (k .before .before .before .before .before .before .before .first-groups .ensures) (k .before .before .before .before .before .if1 .left)
-    _ (λ es st deep. k .before .before .before .before .judge-nested .ensures es st)
-    (k .before .before .if2 .left) _ (k .before .room .ensures)
-    (k .if3 .taken) _ (c .answer-at3 .ensures)
+    let c₁ = c .before .before .before .before .before .before .before .before in
+    full-reads nested _ _ _ _ (c₁ .before .first-groups .ensures) (c .before .before .before .before .before .before .before .if1 .left) _
+    (λ es st deep. c .before .before .before .before .before .judge-nested .ensures .0 es st) (c .before .before .before .if2 .left) _
+    (c .before .before .room .ensures) (c .before .if3 .taken) _ (c .answer-at3 .ensures)
 
-fill-nested-requires : tie.Need-fill-nested-requires
-fill-nested-requires c κs = search needs
+fill-requires : tie.Need-fill-requires
+unfolding mostLevels
+fill-requires c κs =
+    let c₁ = c .before .before .before .before .before .before .before .before in (
+      group-short nested _ _ _ (c₁ .before .before .before .before .first-groups .ensures) (c₁ .before .before .if1 .left),
+      room-few _ _ _ _ _
+          (sym (c .before .before .before .before .before .room .ensures) ∙ c .before .before .before .before .if3 .left),
+    )
 
 checked-requires : tie.Need-checked-requires
 unfolding mostLevels
 checked-requires c κs =
-    let (p, n, b) = walk-fits nested _ _ _ (c .before .before .before .before .before .before .before .before .before .before .before .before .before .before .before .before .before .before .before .before .first-groups .ensures) (c .before .before .before .before .before .before .before .before .before .before .before .before .before .before .before .before .before .before .if1 .left)
-    _ (λ es st deep. c .before .before .before .before .before .before .before .before .before .before .before .before .before .before .before .before .before .judge-nested .ensures es st) in
-    (n, b)
+    let c₁ = c .before .before .before .before .before .before .before .before in
+    let c₂ = c₁ .before .before .before .before .before .before .before .before in
+    let (p, n, b) = walk-fits nested _ _ _ (c₂ .before .before .before .before .before .before .first-groups .ensures)
+    (c₂ .before .before .before .before .if1 .left) _ (λ es st deep. c₂ .before .before .judge-nested .ensures .0 es st) in (n, b)
 
 answer-at-requires-4 : tie.Need-answer-at-requires-4
 unfolding mostLevels
 answer-at-requires-4 c κs =
-    let k = c .before .before .before .before .before .before .before .before .before .before .before .before .before .before in
-    let args = k .before .before .before .before .before .before .before .before .before .before .before .before .args in
-    let filled = c .before .before .before .before .before .before .before .before .before .before .fill-nested in
+    let c₁ = c .before .before .before .before .before .before .before .before in
+    let c₂ = c₁ .before .before .before .before .before .before .before .before in
+    let c₃ = c₂ .before .before .before .before .before .before .before .before in
+    let args = c₃ .before .before .before .before .args in
+    let filled = c₁ .before .before .fill in
     let m : Memory = record { nodes = now (args .nodes); places = now (args .places); pool = now (args .pool) } in
-    let exit : Memory = record { nodes = filled .last .1 .0; places = filled .last .1 .1 .0; pool = filled .last .1 .1 .1 .0 } in
-    let (p, n, b) = walk-fits nested _ _ _ (k .before .before .before .before .before .before .before .first-groups .ensures) (k .before .before .before .before .before .if1 .left)
-    _ (λ es st deep. k .before .before .before .before .judge-nested .ensures es st) in (
-      check-fits nested _ m _ _ (k .before .before .before .before .before .before .before .first-groups .ensures) (k .before .before .before .before .before .if1 .left)
-          _ (λ es st deep. k .before .before .before .before .judge-nested .ensures es st)
-          (k .before .before .if2 .left) _ (k .before .room .ensures)
-          (k .if3 .left) exit (nested-fills _ m exit (filled .ensures)) _ _ (c .checked .ensures),
+    let exit : Memory = record { nodes = filled .last .1 .1 .1 .0; places = filled .last .1 .1 .1 .1 .0; pool = filled .last .1 .1 .1 .1 .1 .0 } in
+    let (p, n, b) = walk-fits nested _ _ _ (c₂ .before .before .before .before .before .before .before .first-groups .ensures)
+    (c₂ .before .before .before .before .before .if1 .left)
+    _ (λ es st deep. c₂ .before .before .before .judge-nested .ensures .0 es st) in (
+      check-fits nested _ m _ _ (c₂ .before .before .before .before .before .before .before .first-groups .ensures)
+          (c₂ .before .before .before .before .before .if1 .left)
+          _ (λ es st deep. c₂ .before .before .before .judge-nested .ensures .0 es st)
+          (c₂ .before .if2 .left) _ (c₂ .room .ensures) (c₁ .before .before .before .before .before .before .before .if3 .left) exit _
+          (nested-tapes _ _ blankTape _ (c₂ .before .before .before .judge-nested .ensures .1)) (filled .ensures) _ _ (c .checked .ensures),
       n,
       b,
     )
@@ -100,11 +109,18 @@ same-length-3 c = search needs
 returns-4 : tie.Need-returns-4
 unfolding mostLevels
 returns-4 c =
-    let k = c .before .before .before .before .before .before .before .before .before .before .before .before .before .before .before in
-    filled-reads nested _ _ _ _ (k .before .before .before .before .before .before .before .first-groups .ensures) (k .before .before .before .before .before .if1 .left)
-    _ (λ es st deep. k .before .before .before .before .judge-nested .ensures es st)
-    (k .before .before .if2 .left) _ (k .before .room .ensures)
-    (k .if3 .left) _ (nested-fills _ _ _ (c .before .before .before .before .before .before .before .before .before .before .before .fill-nested .ensures)) _ _ (c .before .checked .ensures)
+    let c₁ = c .before .before .before .before .before .before .before .before in
+    let c₂ = c₁ .before .before .before .before .before .before .before .before in
+    let c₃ = c₂ .before .before .before .before .before .before .before .before in
+    let args = c₃ .before .before .before .before .before .args in
+    let filled = c₁ .before .before .before .fill in
+    let m : Memory = record { nodes = now (args .nodes); places = now (args .places); pool = now (args .pool) } in
+    let exit : Memory = record { nodes = filled .last .1 .1 .1 .0; places = filled .last .1 .1 .1 .1 .0; pool = filled .last .1 .1 .1 .1 .1 .0 } in
+    filled-reads nested _ m _ _ (c₃ .first-groups .ensures) (c₂ .before .before .before .before .before .before .if1 .left)
+    _ (λ es st deep. c₂ .before .before .before .before .judge-nested .ensures .0 es st)
+    (c₂ .before .before .if2 .left) _ (c₂ .before .room .ensures) (c₂ .if3 .left) exit _
+    (nested-tapes _ _ blankTape _ (c₂ .before .before .before .before .judge-nested .ensures .1)) (filled .ensures) _ _
+    (c .before .checked .ensures)
     _ (c .answer-at4 .ensures)
 
 pub read-nested-spec : {M : Type 1} → statement M
@@ -120,7 +136,7 @@ read-nested-spec =
     room-requires
     answer-at-requires-3
     returns-3
-    fill-nested-requires
+    fill-requires
     checked-requires
     answer-at-requires-4
     same-length

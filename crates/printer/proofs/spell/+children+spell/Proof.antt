@@ -17,7 +17,6 @@ use Rattle.printer.proofs.spell.+children+spell.Lts-children as childre
 use Rattle.printer.proofs.spell.spell.Reads as spell
 use Rattle.printer.proofs.spell.spell.Kinds as spell-kinds
 use Rattle.printer.proofs.spell.+children+spell.Lts-spell as spell-lts
-use Rattle.printer.proofs.put.plus.Reads as plus-reads
 use Rattle.printer.proofs.put.put.Reads as put-reads
 use Rattle.printer.proofs.put.put_name.Reads as put-name-reads
 use Rattle.printer.proofs.put.put_quoted.Reads as put-quoted-reads
@@ -59,8 +58,6 @@ children-calls t = (
   lesser-reads.Learnt,
   spell-below t,
   spell.Post,
-  plus-reads.Asked,
-  plus-reads.Learnt,
 )
 
 -- what `spell` calls
@@ -137,27 +134,28 @@ children-part-spell-end t c = search needs
 children-spell-requires : (t : ℕ) → children-lts.Need-spell-requires (children-calls t) (children-at t) children.Post children-Inv-loop children-μ-loop
 children-spell-requires t c κs = search needs
 
-children-plus-requires : (t : ℕ) → children-lts.Need-plus-requires (children-calls t) (children-at t) children.Post children-Inv-loop children-μ-loop
-children-plus-requires t c κs = search needs
+children-add-k : (t : ℕ) → children-lts.Need-add-k (children-calls t) (children-at t) children.Post children-Inv-loop children-μ-loop
+children-add-k t c =
+    omega (arith, c .before .before .before .before .before .before .before .put .ensures .0, c .before .before .spell .ensures .0)
 
 children-loop-less : (t : ℕ) → children-lts.Need-loop-less (children-calls t) (children-at t) children.Post children-Inv-loop children-μ-loop
 children-loop-less t c =
-    let loop-test = c .before .before .before .before .before .before .before .before .before .before .before .before .before .loop-test in
-    let if1 = c .before .before .before .before .before .before .before .before .before .before .before .if1 in
-    let if2 = c .before .before .before .before .before .before .before .before .before .before .if2 in
+    let loop-test = c .before .before .before .before .before .before .before .before .before .before .before .before .loop-test in
+    let if1 = c .before .before .before .before .before .before .before .before .before .before .if1 in
+    let if2 = c .before .before .before .before .before .before .before .before .before .if2 in
     omega (arith, if1 .left, if2 .left, loop-test .taken)
 
 children-loop-again : (t : ℕ) → children-lts.Need-loop-again (children-calls t) (children-at t) children.Post children-Inv-loop children-μ-loop
 children-loop-again t c =
-    let args = c .before .before .before .before .before .before .before .before .before .before .before .before .before .before .before .before .before .before .args in
-    let loop = c .before .before .before .before .before .before .before .before .before .before .before .before .before .before .loop in
-    let loop-test = c .before .before .before .before .before .before .before .before .before .before .before .before .before .loop-test in
-    let word = c .before .before .before .before .before .before .before .before .before .before .before .before .word in
-    let if1 = c .before .before .before .before .before .before .before .before .before .before .before .if1 in
-    let put = c .before .before .before .before .before .before .before .before .put in
-    let lesser = c .before .before .before .before .before .lesser in
-    let spell = c .before .before .before .spell in
-    let step = upto-turn (args .nodes .now) (args .pool .now) (args .from) (args .end) (args .at) (args .out .now) (loop .i) (loop .k) (word .result) (put .result) (lesser .result) (spell .result) (c .plus .result) (loop .out) (put .last .0) (spell .last .1 .1 .1 .1 .0) (loop .inv .2) (loop-test .taken) (word .ensures) (put .ensures .1) (lesser .ensures) (spell .ensures .1) (c .plus .ensures .1) in
+    let args = c .before .before .before .before .before .before .before .before .before .before .before .before .before .before .before .before .before .args in
+    let loop = c .before .before .before .before .before .before .before .before .before .before .before .before .before .loop in
+    let loop-test = c .before .before .before .before .before .before .before .before .before .before .before .before .loop-test in
+    let word = c .before .before .before .before .before .before .before .before .before .before .before .word in
+    let if1 = c .before .before .before .before .before .before .before .before .before .before .if1 in
+    let put = c .before .before .before .before .before .before .before .put in
+    let lesser = c .before .before .before .before .lesser in
+    let spell = c .before .before .spell in
+    let step = upto-turn (args .nodes .now) (args .pool .now) (args .from) (args .end) (args .at) (args .out .now) (loop .i) (loop .k) (word .result) (put .result) (lesser .result) (spell .result) (put .result + spell .result) (loop .out) (put .last .0) (spell .last .1 .1 .1 .1 .0) (loop .inv .2) (loop-test .taken) (word .ensures) (put .ensures .1) (lesser .ensures) (spell .ensures .1) (λ h. refl) in
     (omega (arith, loop .inv .0, if1 .left), same-len-mid (lesser .result) (length (put .last .0) - lesser .result) (put .last .0) (spell .last .1 .1 .1 .1 .0) (spell .kept .1 .1 .1 .1 .0) ∙ put .kept .0 ∙ loop .inv .1, step)
 
 children-same-length-3 : (t : ℕ) → children-lts.Need-same-length-3 (children-calls t) (children-at t) children.Post children-Inv-loop children-μ-loop
@@ -257,7 +255,7 @@ pub +children+spell-spec : {M : Type 1} → statement M
     (children-part-spell-start t)
     (children-part-spell-end t)
     (children-spell-requires t)
-    (children-plus-requires t)
+    (children-add-k t)
     (children-loop-less t)
     (children-loop-again t)
     (children-same-length-3 t)

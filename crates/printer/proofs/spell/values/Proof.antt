@@ -1,9 +1,19 @@
 -- `spell::values` meets its contract. Assumes nothing.
-use Rattle.printer.proofs.Adding.{adds-as, adds-join}
+use Rattle.printer.proofs.Adding.{adds-as, adds-none, adds-join}
 use Rattle.printer.proofs.Elements.{values-as}
+use Rattle.printer.proofs.Valueless.{valueless-inside}
 use borrow.Author.Needs.{needs}
 use Rattle.printer.proofs.spell.values.Statement.{statement}
 use Rattle.printer.proofs.spell.values.Tie as tie
+
+lacks-values-requires : tie.Need-lacks-values-requires
+lacks-values-requires c κs = search needs
+
+returns : tie.Need-returns
+returns c =
+    let args = c .before .before .before .before .before .args in
+    let none = valueless-inside (args .nodes .now) (args .i) (args .pool .now) _ _ (c .before .lacks-values .ensures (c .if1 .taken)) in
+    adds-as none (adds-none (args .at) (args .out .now))
 
 word-requires : tie.Need-word-requires
 word-requires c κs = search needs
@@ -38,8 +48,8 @@ put-value-requires-2 c κs = search needs
 same-length : tie.Need-same-length
 same-length c = search needs
 
-returns : tie.Need-returns
-returns c =
+returns-2 : tie.Need-returns-2
+returns-2 c =
     let word = c .before .before .before .before .before .before .before .before .before .before .before .before .before .before .before .before .before .before .word in
     let key-class = c .before .before .before .before .before .before .before .before .before .before .before .before .before .before .before .before .before .key-class in
     let string = c .before .before .before .before .before .before .before .before .before .before .before .before .before .before .before .string in
@@ -55,6 +65,8 @@ pub values-spec : {M : Type 1} → statement M
 values-spec =
     tie.close
     (tie.spec
+    lacks-values-requires
+    returns
     word-requires
     key-class-requires
     string-requires
@@ -66,4 +78,4 @@ values-spec =
     string-requires-2
     put-value-requires-2
     same-length
-    returns)
+    returns-2)

@@ -8,7 +8,8 @@ use borrow.Author.Needs.{needs}
 use lib.ListN.{length}
 use Rattle.reader.specs.Blocks.{InCommand, InContent}
 use Rattle.reader.proofs.Blocks.{not-ended}
-use Rattle.reader.proofs.BlockLoops.{Gone, begun, answered, gone-on, later, place-from, past-bounded, command-end, command-cut, content-end}
+use Rattle.reader.proofs.BlockLoops.{Gone, begun, answered, gone-on, later, place-from, place-within, past-bounded}
+use Rattle.reader.proofs.BlockLoops.{command-end, command-cut, content-end}
 use Rattle.reader.proofs.BlockLoops.{turn-fits, atom-forward, list-forward, refused-bounded, command-refused, content-refused, command-atom, content-atom}
 use Rattle.reader.proofs.BlockLoops.{taken-forward, fewer, parameter-stopped, parameter-passed, belongs, child-stopped, child-passed}
 use Rattle.reader.proofs.BlockLoops.{command-child, inside-child}
@@ -24,54 +25,57 @@ use Rattle.reader.proofs.commands.+block+child+content.Lts-child as chi
 use Rattle.reader.proofs.commands.content.Reads as content
 use Rattle.reader.proofs.commands.content.Kinds as content-kinds
 use Rattle.reader.proofs.commands.+block+child+content.Lts-content as content-lts
+use Rattle.lexer.proofs.look.Reads as look-reads
 use Rattle.reader.proofs.commands.ends.Reads as ends-reads
 use Rattle.reader.proofs.commands.in_command.Reads as in-command-reads
 use Rattle.reader.proofs.commands.is_command.Reads as is-command-reads
 use Rattle.reader.proofs.commands.loose.Reads as loose-reads
 use Rattle.reader.proofs.commands.turn_as.Reads as turn-as-reads
-use Rattle.lexer.proofs.look.Reads as look-reads
+use Rattle.reader.proofs.tape.enter.Reads as enter-reads
 use Rattle.reader.proofs.walk.at_end.Reads as at-end-reads
 use Rattle.reader.proofs.walk.inside.Reads as inside-reads
+use Rattle.reader.proofs.walk.leave.Reads as leave-reads
 use Rattle.reader.proofs.walk.past_bracket.Reads as past-bracket-reads
 use Rattle.reader.proofs.walk.refusal.Reads as refusal-reads
 use Rattle.reader.proofs.commands.+block+child+content.{statement}
 use Rattle.reader.proofs.commands.+block+child+content.Tie.{close}
 
-abbrev μ-block : Measures 1 block-kinds.ps ℕ
+abbrev μ-block : Measures 2 block-kinds.ps ℕ
 μ-block κs a = 2 * (length (a .0 .now) - a .1 .1 .0)
 
-abbrev μ-child : Measures 1 child-kinds.ps ℕ
+abbrev μ-child : Measures 2 child-kinds.ps ℕ
 μ-child κs a = 2 * (length (a .0 .now) - a .1 .1 .0) + 1
 
-abbrev μ-content : Measures 1 content-kinds.ps ℕ
+abbrev μ-content : Measures 2 content-kinds.ps ℕ
 μ-content κs a = 2 * (length (a .0 .now) - a .1 .1 .0)
 
-abbrev block-at : ℕ → In 1 block-kinds.ps
-block-at t = and 1 block-kinds.ps (is 1 block-kinds.ps μ-block t) block.Pre
+abbrev block-at : ℕ → In 2 block-kinds.ps
+block-at t = and 2 block-kinds.ps (is 2 block-kinds.ps μ-block t) block.Pre
 
-abbrev block-below : ℕ → In 1 block-kinds.ps
-block-below t = and 1 block-kinds.ps (falls 1 block-kinds.ps _<_ μ-block t) block.Pre
+abbrev block-below : ℕ → In 2 block-kinds.ps
+block-below t = and 2 block-kinds.ps (falls 2 block-kinds.ps _<_ μ-block t) block.Pre
 
-abbrev child-at : ℕ → In 1 child-kinds.ps
-child-at t = and 1 child-kinds.ps (is 1 child-kinds.ps μ-child t) child.Pre
+abbrev child-at : ℕ → In 2 child-kinds.ps
+child-at t = and 2 child-kinds.ps (is 2 child-kinds.ps μ-child t) child.Pre
 
-abbrev child-below : ℕ → In 1 child-kinds.ps
-child-below t = and 1 child-kinds.ps (falls 1 child-kinds.ps _<_ μ-child t) child.Pre
+abbrev child-below : ℕ → In 2 child-kinds.ps
+child-below t = and 2 child-kinds.ps (falls 2 child-kinds.ps _<_ μ-child t) child.Pre
 
-abbrev content-at : ℕ → In 1 content-kinds.ps
-content-at t = and 1 content-kinds.ps (is 1 content-kinds.ps μ-content t) content.Pre
+abbrev content-at : ℕ → In 2 content-kinds.ps
+content-at t = and 2 content-kinds.ps (is 2 content-kinds.ps μ-content t) content.Pre
 
-abbrev content-below : ℕ → In 1 content-kinds.ps
-content-below t = and 1 content-kinds.ps (falls 1 content-kinds.ps _<_ μ-content t) content.Pre
-
-abbrev block-Inv-loop : block-lts.InvT-loop
-block-Inv-loop text at from kind nodes pool i₀ state₀ n₀ p₀ i state n p = Gone (InCommand text at kind) (length text) from 0 nodes pool i state n p
-
-abbrev block-μ-loop : block-lts.MeasureT-loop
-block-μ-loop text at from kind nodes pool i₀ state₀ n₀ p₀ i state n p = length text - i
+abbrev content-below : ℕ → In 2 content-kinds.ps
+content-below t = and 2 content-kinds.ps (falls 2 content-kinds.ps _<_ μ-content t) content.Pre
 
 abbrev block-claims : ℕ → block-lts.Claims
 block-claims t = (look-reads.Asked, look-reads.Learnt, refusal-reads.Asked, refusal-reads.Learnt, content-below t, content.Post, in-command-reads.Asked, in-command-reads.Learnt, turn-as-reads.Asked, turn-as-reads.Learnt, inside-reads.Asked, inside-reads.Learnt, past-bracket-reads.Asked, past-bracket-reads.Learnt)
+
+abbrev block-Inv-loop : block-lts.InvT-loop
+block-Inv-loop text at from kind nodes pool node tape₀ i₀ state₀ n₀ p₀ tape i state n p = Gone (InCommand text at kind node)
+    (length text) from 0 nodes pool tape₀ i state n p tape
+
+abbrev block-μ-loop : block-lts.MeasureT-loop
+block-μ-loop text at from kind nodes pool node tape₀ i₀ state₀ n₀ p₀ tape i state n p = length text - i
 
 block-loop-holds : (t : ℕ) → block-lts.Need-loop-holds (block-claims t) (block-at t) block.Post block-Inv-loop block-μ-loop
 block-loop-holds t c = begun (c .before .pre .1 .0) (c .before .pre .1 .1) (c .before .pre .1 .2)
@@ -83,88 +87,237 @@ block-refusal-requires : (t : ℕ) → block-lts.Need-refusal-requires (block-cl
 block-refusal-requires t c κs = search needs
 
 block-returns : (t : ℕ) → block-lts.Need-returns (block-claims t) (block-at t) block.Post block-Inv-loop block-μ-loop
-block-returns t c = let a = command-cut (c .before .before .before .before .look .ensures) (c .before .before .if1 .taken) (c .before .if2 .taken) (c .refusal .ensures) in answered (c .before .before .before .before .before .loop .inv) (a .0) (a .1)
+block-returns t c =
+    let a = command-cut (c .before .before .before .before .look .ensures) (c .before .before .if1 .taken) (c .before .if2 .taken)
+    (c .refusal .ensures) in
+    answered (c .before .before .before .before .before .loop .inv) (a .0) (a .1)
 
 block-add-content : (t : ℕ) → block-lts.Need-add-content (block-claims t) (block-at t) block.Post block-Inv-loop block-μ-loop
 block-add-content t c = search needs
 
 block-content-requires : (t : ℕ) → block-lts.Need-content-requires (block-claims t) (block-at t) block.Post block-Inv-loop block-μ-loop
-block-content-requires t c κs = let h = place-from _ _ (c .before .before .before .look .ensures) (c .before .before .before .before .loop .inv .within) in (omega (arith, h, c .before .before .before .before .before .before .pre .0, c .before .before .before .before .loop .inv .forward), (omega (arith, c .if2 .left), omega (arith, h, c .before .before .before .before .loop .inv .nodes-within), omega (arith, h, c .before .before .before .before .loop .inv .pool-within)))
+block-content-requires t c κs =
+    let inv = c .before .before .before .before .before .loop .inv in
+    let h = place-from _ _ (c .before .before .before .before .look .ensures) (inv .within) in (
+      omega (arith, h, c .before .before .before .before .before .before .before .pre .0, inv .forward),
+      (
+        omega (arith, c .before .if2 .left),
+        omega (arith, h, inv .nodes-within),
+        omega (arith, h, inv .pool-within),
+        c .before .before .before .before .before .before .before .pre .1 .3,
+        c .before .before .before .before .before .before .before .pre .1 .4,
+      ),
+    )
 
 block-returns-2 : (t : ℕ) → block-lts.Need-returns-2 (block-claims t) (block-at t) block.Post block-Inv-loop block-μ-loop
-block-returns-2 t c = let h = place-from _ _ (c .before .before .before .before .look .ensures) (c .before .before .before .before .before .loop .inv .within) in answered (c .before .before .before .before .before .loop .inv) (later (omega (arith, h)) (c .content .ensures .0)) (command-end (c .before .before .before .before .look .ensures) (c .before .before .if1 .taken) (c .content .ensures .1))
+block-returns-2 t c =
+    let inv = c .before .before .before .before .before .before .loop .inv in
+    let h = place-from _ _ (c .before .before .before .before .before .look .ensures) (inv .within) in
+    answered inv (later (omega (arith, h)) (c .content .ensures .0))
+    (command-end (c .before .before .before .before .before .look .ensures) (c .before .before .before .if1 .taken) (c .content .ensures .1))
 
 block-in-command-requires : (t : ℕ) → block-lts.Need-in-command-requires (block-claims t) (block-at t) block.Post block-Inv-loop block-μ-loop
 block-in-command-requires t c κs = search needs
 
 block-turn-as-requires : (t : ℕ) → block-lts.Need-turn-as-requires (block-claims t) (block-at t) block.Post block-Inv-loop block-μ-loop
-block-turn-as-requires t c κs = (c .before .before .before .before .loop .inv .nodes-within, turn-fits _ _ (c .before .before .before .look .ensures) (c .before .before .before .before .loop .inv .within) (c .before .if1 .left) (c .before .before .before .before .loop .inv .pool-within))
+block-turn-as-requires t c κs =
+    let inv = c .before .before .before .before .before .loop .inv in (
+      inv .nodes-within,
+      turn-fits _ _ (c .before .before .before .before .look .ensures) (inv .within) (c .before .before .if1 .left) (inv .pool-within),
+      omega (arith, inv .within, c .before .before .before .before .before .before .before .pre .1),
+      omega (
+        arith,
+        place-within _ _ (c .before .before .before .before .look .ensures)
+            (inv .within),
+        c .before .before .before .before .before .before .before .pre .1,
+      ),
+      c .before .before .before .before .before .before .before .pre .1 .4,
+    )
 
 block-enum-known-t : (t : ℕ) → block-lts.Need-enum-known-t (block-claims t) (block-at t) block.Post block-Inv-loop block-μ-loop
 block-enum-known-t t c = search needs
 
 block-returns-3 : (t : ℕ) → block-lts.Need-returns-3 (block-claims t) (block-at t) block.Post block-Inv-loop block-μ-loop
-block-returns-3 t c = let turned = rw (c .before .t .given .1, c .before .before .before .before .in-command .ensures) at (c .before .before .before .turn-as .ensures) in answered (c .before .before .before .before .before .before .before .before .loop .inv) (refused-bounded turned) (command-refused _ _ (c .before .before .before .before .before .before .before .look .ensures) (c .before .before .before .before .before .before .before .before .loop .inv .within) (c .before .before .before .before .before .if1 .left) turned)
+block-returns-3 t c =
+    let inv = c .before .before .before .before .before .before .before .before .before .loop .inv in
+    let turned = rw (c .before .t .given .1, c .before .before .before .before .before .in-command .ensures) at
+    (c .before .before .before .turn-as .ensures) in
+    answered inv (refused-bounded turned)
+    (command-refused _ _ (c .before .before .before .before .before .before .before .before .look .ensures) (inv .within)
+    (c .before .before .before .before .before .before .if1 .left) turned)
 
 block-enum-known-t-2 : (t : ℕ) → block-lts.Need-enum-known-t-2 (block-claims t) (block-at t) block.Post block-Inv-loop block-μ-loop
 block-enum-known-t-2 t c = search needs
 
 block-loop-less : (t : ℕ) → block-lts.Need-loop-less (block-claims t) (block-at t) block.Post block-Inv-loop block-μ-loop
-block-loop-less t c = let turned = rw (c .before .t2 .given .1, c .before .before .before .before .in-command .ensures) at (c .before .before .before .turn-as .ensures) in omega (arith, list-forward _ _ (c .before .before .before .before .before .before .before .look .ensures) (c .before .before .before .before .before .before .before .before .loop .inv .within) (c .before .before .before .before .before .if1 .left) (turned .0))
+block-loop-less t c =
+    let inv = c .before .before .before .before .before .before .before .before .before .loop .inv in
+    let turned = rw (c .before .t2 .given .1, c .before .before .before .before .before .in-command .ensures) at
+    (c .before .before .before .turn-as .ensures) in
+    omega (
+      arith,
+      list-forward _ _ (c .before .before .before .before .before .before .before .before .look .ensures) (inv .within)
+          (c .before .before .before .before .before .before .if1 .left) (turned .0),
+    )
 
 block-loop-again : (t : ℕ) → block-lts.Need-loop-again (block-claims t) (block-at t) block.Post block-Inv-loop block-μ-loop
-block-loop-again t c = let turned = rw (c .before .t2 .given .1, c .before .before .before .before .in-command .ensures) at (c .before .before .before .turn-as .ensures) in gone-on (c .before .before .before .before .before .before .before .before .loop .inv) (atom-forward _ _ (c .before .before .before .before .before .before .before .look .ensures) (c .before .before .before .before .before .before .before .before .loop .inv .within) (c .before .before .before .before .before .if1 .left) (turned .0) (c .before .before .before .before .before .before .before .before .loop .inv .nodes-within) (c .before .before .before .before .before .before .before .before .loop .inv .pool-within) (turned .2) (turned .3)) (command-atom _ _ (c .before .before .before .before .before .before .before .look .ensures) (c .before .before .before .before .before .before .before .before .loop .inv .within) (c .before .before .before .before .before .if1 .left) (turned .0) (turned .1))
+block-loop-again t c =
+    let inv = c .before .before .before .before .before .before .before .before .before .loop .inv in
+    let turned = rw (c .before .t2 .given .1, c .before .before .before .before .before .in-command .ensures) at
+    (c .before .before .before .turn-as .ensures) in
+    gone-on inv (atom-forward _ _ (c .before .before .before .before .before .before .before .before .look .ensures) (inv .within)
+    (c .before .before .before .before .before .before .if1 .left) (turned .0) (inv .nodes-within) (inv .pool-within) (turned .2) (turned .3))
+    (command-atom _ _ (c .before .before .before .before .before .before .before .before .look .ensures) (inv .within)
+    (c .before .before .before .before .before .before .if1 .left) (turned .0) (turned .1))
 
 block-enum-known-t-3 : (t : ℕ) → block-lts.Need-enum-known-t-3 (block-claims t) (block-at t) block.Post block-Inv-loop block-μ-loop
 block-enum-known-t-3 t c = search needs
 
 block-inside-requires : (t : ℕ) → block-lts.Need-inside-requires (block-claims t) (block-at t) block.Post block-Inv-loop block-μ-loop
-block-inside-requires t c κs = let turned = rw (c .before .t3 .given .1, c .before .before .before .before .in-command .ensures) at (c .before .before .before .turn-as .ensures) in let h = list-forward _ _ (c .before .before .before .before .before .before .before .look .ensures) (c .before .before .before .before .before .before .before .before .loop .inv .within) (c .before .before .before .before .before .if1 .left) (turned .0) in (h .1, omega (arith, h, c .before .before .before .before .before .before .before .before .loop .inv .nodes-within), omega (arith, h, c .before .before .before .before .before .before .before .before .loop .inv .pool-within))
+block-inside-requires t c κs =
+    let inv = c .before .before .before .before .before .before .before .before .before .before .loop .inv in
+    let turned = rw (c .before .before .t3 .given .1, c .before .before .before .before .before .before .in-command .ensures) at
+    (c .before .before .before .before .turn-as .ensures) in
+    let h = list-forward _ _ (c .before .before .before .before .before .before .before .before .before .look .ensures) (inv .within)
+    (c .before .before .before .before .before .before .before .if1 .left) (turned .0) in (
+      h .1,
+      omega (arith, h, inv .nodes-within),
+      omega (arith, h, inv .pool-within),
+      c .before .before .before .before .before .before .before .before .before .before .before .before .pre .1 .3,
+      c .before .before .before .before .before .before .before .before .before .before .before .before .pre .1 .4,
+      omega (
+        arith,
+        turned .2,
+        place-within _ _ (c .before .before .before .before .before .before .before .before .before .look .ensures)
+            (inv .within),
+      ),
+    )
 
 block-past-bracket-requires : (t : ℕ) → block-lts.Need-past-bracket-requires (block-claims t) (block-at t) block.Post block-Inv-loop block-μ-loop
 block-past-bracket-requires t c κs = search needs
 
 block-returns-4 : (t : ℕ) → block-lts.Need-returns-4 (block-claims t) (block-at t) block.Post block-Inv-loop block-μ-loop
-block-returns-4 t c = let turned = rw (c .before .before .before .before .before .t3 .given .1, c .before .before .before .before .before .before .before .before .in-command .ensures) at (c .before .before .before .before .before .before .before .turn-as .ensures) in let h = list-forward _ _ (c .before .before .before .before .before .before .before .before .before .before .before .look .ensures) (c .before .before .before .before .before .before .before .before .before .before .before .before .loop .inv .within) (c .before .before .before .before .before .before .before .before .before .if1 .left) (turned .0) in answered (c .before .before .before .before .before .before .before .before .before .before .before .before .loop .inv) (later (omega (arith, h)) (past-bounded (c .before .before .before .inside .ensures .0) (c .before .before .past-bracket .ensures))) (parameter-stopped _ _ (c .before .before .before .before .before .before .before .before .before .before .before .look .ensures) (c .before .before .before .before .before .before .before .before .before .before .before .before .loop .inv .within) (c .before .before .before .before .before .before .before .before .before .if1 .left) (turned .0) (turned .1) (c .before .before .before .inside .ensures .0) (rw (turned .2, turned .3) at (c .before .before .before .inside .ensures .1)) (c .before .before .past-bracket .ensures) (c .if3 .taken))
+block-returns-4 t c =
+    let inv = c .before .before .before .before .before .before .before .before .before .before .before .before .before .before .loop .inv in
+    let turned = rw (
+      c .before .before .before .before .before .before .t3 .given .1,
+      c .before .before .before .before .before .before .before .before .before .before .in-command .ensures,
+    ) at
+    (c .before .before .before .before .before .before .before .before .turn-as .ensures) in
+    let h = list-forward _ _
+    (c .before .before .before .before .before .before .before .before .before .before .before .before .before .look .ensures) (inv .within)
+    (c .before .before .before .before .before .before .before .before .before .before .before .if1 .left) (turned .0) in
+    answered inv (later (omega (arith, h)) (past-bounded (c .before .before .before .inside .ensures .0) (c .before .before .past-bracket .ensures)))
+    (parameter-stopped _ _ (c .before .before .before .before .before .before .before .before .before .before .before .before .before .look .ensures)
+    (inv .within) (c .before .before .before .before .before .before .before .before .before .before .before .if1 .left) (turned .0) (turned .1)
+    (c .before .before .before .inside .ensures .0)
+    (rw (turned .2, turned .3, turned .4) at (c .before .before .before .inside .ensures .1)) (c .before .before .past-bracket .ensures)
+    (c .if3 .taken))
 
 block-loop-less-2 : (t : ℕ) → block-lts.Need-loop-less-2 (block-claims t) (block-at t) block.Post block-Inv-loop block-μ-loop
-block-loop-less-2 t c = let turned = rw (c .before .before .before .before .before .t3 .given .1, c .before .before .before .before .before .before .before .before .in-command .ensures) at (c .before .before .before .before .before .before .before .turn-as .ensures) in fewer (taken-forward (turned .0) (past-bounded (c .before .before .before .inside .ensures .0) (c .before .before .past-bracket .ensures)) (c .if3 .left))
+block-loop-less-2 t c =
+    let turned = rw (
+      c .before .before .before .before .before .before .t3 .given .1,
+      c .before .before .before .before .before .before .before .before .before .before .in-command .ensures,
+    ) at
+    (c .before .before .before .before .before .before .before .before .turn-as .ensures) in
+    fewer (taken-forward (turned .0) (past-bounded (c .before .before .before .inside .ensures .0) (c .before .before .past-bracket .ensures))
+    (c .if3 .left))
 
 block-loop-again-2 : (t : ℕ) → block-lts.Need-loop-again-2 (block-claims t) (block-at t) block.Post block-Inv-loop block-μ-loop
-block-loop-again-2 t c = let turned = rw (c .before .before .before .before .before .t3 .given .1, c .before .before .before .before .before .before .before .before .in-command .ensures) at (c .before .before .before .before .before .before .before .turn-as .ensures) in gone-on (c .before .before .before .before .before .before .before .before .before .before .before .before .loop .inv) (taken-forward (turned .0) (past-bounded (c .before .before .before .inside .ensures .0) (c .before .before .past-bracket .ensures)) (c .if3 .left)) (parameter-passed _ _ (c .before .before .before .before .before .before .before .before .before .before .before .look .ensures) (c .before .before .before .before .before .before .before .before .before .before .before .before .loop .inv .within) (c .before .before .before .before .before .before .before .before .before .if1 .left) (turned .0) (turned .1) (c .before .before .before .inside .ensures .0) (rw (turned .2, turned .3) at (c .before .before .before .inside .ensures .1)) (c .before .before .past-bracket .ensures) (c .if3 .left))
+block-loop-again-2 t c =
+    let inv = c .before .before .before .before .before .before .before .before .before .before .before .before .before .before .loop .inv in
+    let turned = rw (
+      c .before .before .before .before .before .before .t3 .given .1,
+      c .before .before .before .before .before .before .before .before .before .before .in-command .ensures,
+    ) at
+    (c .before .before .before .before .before .before .before .before .turn-as .ensures) in
+    gone-on inv (taken-forward (turned .0) (past-bounded (c .before .before .before .inside .ensures .0) (c .before .before .past-bracket .ensures))
+    (c .if3 .left))
+    (parameter-passed _ _ (c .before .before .before .before .before .before .before .before .before .before .before .before .before .look .ensures)
+    (inv .within) (c .before .before .before .before .before .before .before .before .before .before .before .if1 .left) (turned .0) (turned .1)
+    (c .before .before .before .inside .ensures .0)
+    (rw (turned .2, turned .3, turned .4) at (c .before .before .before .inside .ensures .1)) (c .before .before .past-bracket .ensures)
+    (c .if3 .left))
 
 abbrev child-claims : ℕ → child-lts.Claims
-child-claims t = (is-command-reads.Asked, is-command-reads.Learnt, block-below t, block.Post, inside-reads.Asked, inside-reads.Learnt, past-bracket-reads.Asked, past-bracket-reads.Learnt)
+child-claims t = (
+  is-command-reads.Asked,
+  is-command-reads.Learnt,
+  enter-reads.Asked,
+  enter-reads.Learnt,
+  block-below t,
+  block.Post,
+  leave-reads.Asked,
+  leave-reads.Learnt,
+  inside-reads.Asked,
+  inside-reads.Learnt,
+  past-bracket-reads.Asked,
+  past-bracket-reads.Learnt,
+)
 
 child-is-command-requires : (t : ℕ) → child-lts.Need-is-command-requires (child-claims t) (child-at t) child.Post
 child-is-command-requires t c κs = search needs
 
+child-enter-requires : (t : ℕ) → child-lts.Need-enter-requires (child-claims t) (child-at t) child.Post
+child-enter-requires t c κs = (omega (arith, c .before .before .before .before .pre .1), c .before .before .before .before .pre .1 .4, omega arith)
+
 child-add-block : (t : ℕ) → child-lts.Need-add-block (child-claims t) (child-at t) child.Post
-child-add-block t c = search needs
+child-add-block t c = omega (arith, c .before .before .before .before .before .pre .1, c .before .before .before .before .before .good)
 
 child-block-requires : (t : ℕ) → child-lts.Need-block-requires (child-claims t) (child-at t) child.Post
-child-block-requires t c κs = (omega (arith, c .before .before .before .pre .0), (c .before .before .before .pre .1 .0, omega (arith, c .before .before .before .pre .1), omega (arith, c .before .before .before .pre .1)))
+child-block-requires t c κs = (
+  omega (arith, c .before .before .before .before .before .before .pre .0),
+  (
+    c .before .before .before .before .before .before .pre .1 .0,
+    omega (arith, c .before .before .before .before .before .before .pre .1),
+    c .before .before .before .before .before .before .pre .1 .2,
+    c .before .before .before .before .before .before .pre .1 .3,
+    omega (arith, c .before .before .before .before .before .before .pre .1),
+  ),
+)
+
+child-leave-requires : (t : ℕ) → child-lts.Need-leave-requires (child-claims t) (child-at t) child.Post
+child-leave-requires t c κs = λ y. omega (
+  arith,
+  c .before .block .ensures .0 .bounds y,
+  c .before .before .before .before .before .before .before .before .pre .1,
+)
 
 child-returns : (t : ℕ) → child-lts.Need-returns (child-claims t) (child-at t) child.Post
-child-returns t c = (c .block .ensures .0, command-child (sym (c .before .before .is-command .ensures) ∙ c .before .if1 .taken) (c .before .before .before .before .pre .1 .3) (c .block .ensures .1))
+child-returns t c = (
+  c .before .before .block .ensures .0,
+  command-child (sym (c .before .before .before .before .before .before .before .is-command .ensures)
+      ∙ c .before .before .before .before .before .before .if1 .taken)
+      (c .before .before .before .before .before .before .before .before .before .pre .1 .6)
+      (omega (arith, c .before .before .before .before .before .before .before .before .before .pre .1))
+      (c .before .before .block .ensures .0)
+      (c .before .before .block .ensures .1) (c .before .before .before .before .enter .ensures) (c .leave .ensures),
+)
 
 child-inside-requires : (t : ℕ) → child-lts.Need-inside-requires (child-claims t) (child-at t) child.Post
-child-inside-requires t c κs = (c .before .before .before .pre .1 .0, c .before .before .before .pre .1 .1, c .before .before .before .pre .1 .2)
+child-inside-requires t c κs = let pre = c .before .before .before .before .pre .1 in (pre .0, pre .1, pre .2, pre .3, pre .4, pre .5)
 
 child-past-bracket-requires : (t : ℕ) → child-lts.Need-past-bracket-requires (child-claims t) (child-at t) child.Post
 child-past-bracket-requires t c κs = search needs
 
 child-returns-2 : (t : ℕ) → child-lts.Need-returns-2 (child-claims t) (child-at t) child.Post
-child-returns-2 t c = (past-bounded (c .before .inside .ensures .0) (c .past-bracket .ensures), inside-child (sym (c .before .before .before .is-command .ensures) ∙ c .before .before .if1 .left) (c .before .before .before .before .before .pre .1 .3) (c .before .inside .ensures .0) (c .before .inside .ensures .1) (c .past-bracket .ensures) (omega (arith, c .before .before .before .before .before .pre .1)))
-
-abbrev content-Inv-loop : content-lts.InvT-loop
-content-Inv-loop text at from kind read nodes pool i₀ state₀ n₀ p₀ i state n p = Gone (InContent text at kind) (length text) from read nodes pool i state n p
-
-abbrev content-μ-loop : content-lts.MeasureT-loop
-content-μ-loop text at from kind read nodes pool i₀ state₀ n₀ p₀ i state n p = length text - i
+child-returns-2 t c = (
+  past-bounded (c .before .inside .ensures .0) (c .past-bracket .ensures),
+  inside-child (sym (c .before .before .before .before .is-command .ensures) ∙ c .before .before .before .if1 .left)
+      (c .before .before .before .before .before .before .pre .1 .6) (c .before .inside .ensures .0) (c .before .inside .ensures .1)
+      (c .past-bracket .ensures) (omega (arith, c .before .before .before .before .before .before .pre .1)),
+)
 
 abbrev content-claims : ℕ → content-lts.Claims
 content-claims t = (look-reads.Asked, look-reads.Learnt, ends-reads.Asked, ends-reads.Learnt, at-end-reads.Asked, at-end-reads.Learnt, loose-reads.Asked, loose-reads.Learnt, turn-as-reads.Asked, turn-as-reads.Learnt, child-below t, child.Post)
+
+abbrev content-Inv-loop : content-lts.InvT-loop
+content-Inv-loop text at from kind read nodes pool node tape₀ i₀ state₀ n₀ p₀ tape i state n p = Gone (InContent text at kind node)
+    (length text) from read nodes pool tape₀ i state n p tape
+
+abbrev content-μ-loop : content-lts.MeasureT-loop
+content-μ-loop text at from kind read nodes pool node tape₀ i₀ state₀ n₀ p₀ tape i state n p = length text - i
 
 content-loop-holds : (t : ℕ) → content-lts.Need-loop-holds (content-claims t) (content-at t) content.Post content-Inv-loop content-μ-loop
 content-loop-holds t c = begun (c .before .pre .1 .0) (c .before .pre .1 .1) (c .before .pre .1 .2)
@@ -179,46 +332,147 @@ content-at-end-requires : (t : ℕ) → content-lts.Need-at-end-requires (conten
 content-at-end-requires t c κs = search needs
 
 content-returns : (t : ℕ) → content-lts.Need-returns (content-claims t) (content-at t) content.Post content-Inv-loop content-μ-loop
-content-returns t c = let a = content-end (c .before .before .before .look .ensures) (c .before .before .before .before .loop .inv .within) (c .before .before .before .before .loop .inv .nodes-within) (c .before .before .before .before .loop .inv .pool-within) (sym (c .before .before .ends .ensures) ∙ c .before .if1 .taken) (c .at-end .ensures) in answered (c .before .before .before .before .loop .inv) (a .0) (a .1)
+content-returns t c =
+    let inv = c .before .before .before .before .loop .inv in
+    let a = content-end (c .before .before .before .look .ensures) (inv .within) (inv .nodes-within) (inv .pool-within)
+    (sym (c .before .before .ends .ensures) ∙ c .before .if1 .taken) (c .at-end .ensures) in
+    answered inv (a .0) (a .1)
 
 content-loose-requires : (t : ℕ) → content-lts.Need-loose-requires (content-claims t) (content-at t) content.Post content-Inv-loop content-μ-loop
 content-loose-requires t c κs = search needs
 
 content-turn-as-requires : (t : ℕ) → content-lts.Need-turn-as-requires (content-claims t) (content-at t) content.Post content-Inv-loop content-μ-loop
-content-turn-as-requires t c κs = (c .before .before .before .before .loop .inv .nodes-within, turn-fits _ _ (c .before .before .before .look .ensures) (c .before .before .before .before .loop .inv .within) (not-ended _ _ _ (sym (c .before .before .ends .ensures) ∙ c .before .if1 .left) .0) (c .before .before .before .before .loop .inv .pool-within))
+content-turn-as-requires t c κs =
+    let inv = c .before .before .before .before .before .loop .inv in
+    let goes-on = not-ended _ _ _ (sym (c .before .before .before .ends .ensures) ∙ c .before .before .if1 .left) in (
+      inv .nodes-within,
+      turn-fits _ _ (c .before .before .before .before .look .ensures) (inv .within) (goes-on .0) (inv .pool-within),
+      omega (arith, inv .within, c .before .before .before .before .before .before .before .pre .1),
+      omega (
+        arith,
+        place-within _ _ (c .before .before .before .before .look .ensures)
+            (inv .within),
+        c .before .before .before .before .before .before .before .pre .1,
+      ),
+      c .before .before .before .before .before .before .before .pre .1 .4,
+    )
 
 content-enum-known-t : (t : ℕ) → content-lts.Need-enum-known-t (content-claims t) (content-at t) content.Post content-Inv-loop content-μ-loop
 content-enum-known-t t c = search needs
 
 content-returns-2 : (t : ℕ) → content-lts.Need-returns-2 (content-claims t) (content-at t) content.Post content-Inv-loop content-μ-loop
-content-returns-2 t c = let turned = rw (c .before .t .given .1, c .before .before .before .before .loose .ensures) at (c .before .before .before .turn-as .ensures) in answered (c .before .before .before .before .before .before .before .before .loop .inv) (refused-bounded turned) (content-refused _ _ (c .before .before .before .before .before .before .before .look .ensures) (c .before .before .before .before .before .before .before .before .loop .inv .within) (not-ended _ _ _ (sym (c .before .before .before .before .before .before .ends .ensures) ∙ c .before .before .before .before .before .if1 .left) .0) (not-ended _ _ _ (sym (c .before .before .before .before .before .before .ends .ensures) ∙ c .before .before .before .before .before .if1 .left) .1) turned)
+content-returns-2 t c =
+    let inv = c .before .before .before .before .before .before .before .before .before .loop .inv in
+    let goes-on = not-ended _ _ _ (sym (c .before .before .before .before .before .before .before .ends .ensures)
+    ∙ c .before .before .before .before .before .before .if1 .left) in
+    let turned = rw (c .before .t .given .1, c .before .before .before .before .before .loose .ensures) at
+    (c .before .before .before .turn-as .ensures) in
+    answered inv (refused-bounded turned)
+    (content-refused _ _ (c .before .before .before .before .before .before .before .before .look .ensures) (inv .within) (goes-on .0)
+    (goes-on .1) turned)
 
 content-enum-known-t-2 : (t : ℕ) → content-lts.Need-enum-known-t-2 (content-claims t) (content-at t) content.Post content-Inv-loop content-μ-loop
 content-enum-known-t-2 t c = search needs
 
 content-loop-less : (t : ℕ) → content-lts.Need-loop-less (content-claims t) (content-at t) content.Post content-Inv-loop content-μ-loop
-content-loop-less t c = let turned = rw (c .before .t2 .given .1, c .before .before .before .before .loose .ensures) at (c .before .before .before .turn-as .ensures) in omega (arith, list-forward _ _ (c .before .before .before .before .before .before .before .look .ensures) (c .before .before .before .before .before .before .before .before .loop .inv .within) (not-ended _ _ _ (sym (c .before .before .before .before .before .before .ends .ensures) ∙ c .before .before .before .before .before .if1 .left) .0) (turned .0))
+content-loop-less t c =
+    let inv = c .before .before .before .before .before .before .before .before .before .loop .inv in
+    let goes-on = not-ended _ _ _ (sym (c .before .before .before .before .before .before .before .ends .ensures)
+    ∙ c .before .before .before .before .before .before .if1 .left) in
+    let turned = rw (c .before .t2 .given .1, c .before .before .before .before .before .loose .ensures) at
+    (c .before .before .before .turn-as .ensures) in
+    omega (
+      arith,
+      list-forward _ _ (c .before .before .before .before .before .before .before .before .look .ensures) (inv .within) (goes-on .0)
+          (turned .0),
+    )
 
 content-loop-again : (t : ℕ) → content-lts.Need-loop-again (content-claims t) (content-at t) content.Post content-Inv-loop content-μ-loop
-content-loop-again t c = let turned = rw (c .before .t2 .given .1, c .before .before .before .before .loose .ensures) at (c .before .before .before .turn-as .ensures) in gone-on (c .before .before .before .before .before .before .before .before .loop .inv) (atom-forward _ _ (c .before .before .before .before .before .before .before .look .ensures) (c .before .before .before .before .before .before .before .before .loop .inv .within) (not-ended _ _ _ (sym (c .before .before .before .before .before .before .ends .ensures) ∙ c .before .before .before .before .before .if1 .left) .0) (turned .0) (c .before .before .before .before .before .before .before .before .loop .inv .nodes-within) (c .before .before .before .before .before .before .before .before .loop .inv .pool-within) (turned .2) (turned .3)) (content-atom _ _ (c .before .before .before .before .before .before .before .look .ensures) (c .before .before .before .before .before .before .before .before .loop .inv .within) (not-ended _ _ _ (sym (c .before .before .before .before .before .before .ends .ensures) ∙ c .before .before .before .before .before .if1 .left) .0) (turned .0) (turned .1) (turned .2) (turned .3))
+content-loop-again t c =
+    let inv = c .before .before .before .before .before .before .before .before .before .loop .inv in
+    let goes-on = not-ended _ _ _ (sym (c .before .before .before .before .before .before .before .ends .ensures)
+    ∙ c .before .before .before .before .before .before .if1 .left) in
+    let turned = rw (c .before .t2 .given .1, c .before .before .before .before .before .loose .ensures) at
+    (c .before .before .before .turn-as .ensures) in
+    gone-on inv (atom-forward _ _ (c .before .before .before .before .before .before .before .before .look .ensures) (inv .within) (goes-on .0)
+    (turned .0) (inv .nodes-within) (inv .pool-within) (turned .2) (turned .3))
+    (content-atom _ _ (c .before .before .before .before .before .before .before .before .look .ensures) (inv .within) (goes-on .0) (turned .0)
+    (turned .1) (turned .2) (turned .3) (turned .4))
 
 content-enum-known-t-3 : (t : ℕ) → content-lts.Need-enum-known-t-3 (content-claims t) (content-at t) content.Post content-Inv-loop content-μ-loop
 content-enum-known-t-3 t c = search needs
 
 content-child-requires : (t : ℕ) → content-lts.Need-child-requires (content-claims t) (content-at t) content.Post content-Inv-loop content-μ-loop
-content-child-requires t c κs = let turned = rw (c .before .t3 .given .1, c .before .before .before .before .loose .ensures) at (c .before .before .before .turn-as .ensures) in let h = list-forward _ _ (c .before .before .before .before .before .before .before .look .ensures) (c .before .before .before .before .before .before .before .before .loop .inv .within) (not-ended _ _ _ (sym (c .before .before .before .before .before .before .ends .ensures) ∙ c .before .before .before .before .before .if1 .left) .0) (turned .0) in (omega (arith, h, c .before .before .before .before .before .before .before .before .before .before .pre .0, c .before .before .before .before .before .before .before .before .loop .inv .forward), (h .1, omega (arith, h, c .before .before .before .before .before .before .before .before .loop .inv .nodes-within), omega (arith, h, c .before .before .before .before .before .before .before .before .loop .inv .pool-within), rw (turned .3) (belongs _ _ (c .before .before .before .before .before .before .before .look .ensures) (c .before .before .before .before .before .before .before .before .loop .inv .within) (not-ended _ _ _ (sym (c .before .before .before .before .before .before .ends .ensures) ∙ c .before .before .before .before .before .if1 .left) .0) (turned .0) (not-ended _ _ _ (sym (c .before .before .before .before .before .before .ends .ensures) ∙ c .before .before .before .before .before .if1 .left) .1))))
+content-child-requires t c κs =
+    let inv = c .before .before .before .before .before .before .before .before .before .before .loop .inv in
+    let goes-on = not-ended _ _ _ (sym (c .before .before .before .before .before .before .before .before .ends .ensures)
+    ∙ c .before .before .before .before .before .before .before .if1 .left) in
+    let turned = rw (c .before .before .t3 .given .1, c .before .before .before .before .before .before .loose .ensures) at
+    (c .before .before .before .before .turn-as .ensures) in
+    let h = list-forward _ _ (c .before .before .before .before .before .before .before .before .before .look .ensures) (inv .within) (goes-on .0)
+    (turned .0) in (
+      omega (arith, h, c .before .before .before .before .before .before .before .before .before .before .before .before .pre .0, inv .forward),
+      (
+        h .1,
+        omega (arith, h, inv .nodes-within),
+        omega (arith, h, inv .pool-within),
+        c .before .before .before .before .before .before .before .before .before .before .before .before .pre .1 .3,
+        c .before .before .before .before .before .before .before .before .before .before .before .before .pre .1 .4,
+        omega (
+          arith,
+          turned .2,
+          place-within _ _ (c .before .before .before .before .before .before .before .before .before .look .ensures)
+              (inv .within),
+        ),
+        rw (turned .3) (belongs _ _ (c .before .before .before .before .before .before .before .before .before .look .ensures) (inv .within)
+            (goes-on .0) (turned .0) (goes-on .1)),
+      ),
+    )
 
 content-returns-3 : (t : ℕ) → content-lts.Need-returns-3 (content-claims t) (content-at t) content.Post content-Inv-loop content-μ-loop
-content-returns-3 t c = let turned = rw (c .before .before .before .before .t3 .given .1, c .before .before .before .before .before .before .before .loose .ensures) at (c .before .before .before .before .before .before .turn-as .ensures) in let h = list-forward _ _ (c .before .before .before .before .before .before .before .before .before .before .look .ensures) (c .before .before .before .before .before .before .before .before .before .before .before .loop .inv .within) (not-ended _ _ _ (sym (c .before .before .before .before .before .before .before .before .before .ends .ensures) ∙ c .before .before .before .before .before .before .before .before .if1 .left) .0) (turned .0) in answered (c .before .before .before .before .before .before .before .before .before .before .before .loop .inv) (later (omega (arith, h)) (c .before .before .child .ensures .0)) (child-stopped _ _ (c .before .before .before .before .before .before .before .before .before .before .look .ensures) (c .before .before .before .before .before .before .before .before .before .before .before .loop .inv .within) (not-ended _ _ _ (sym (c .before .before .before .before .before .before .before .before .before .ends .ensures) ∙ c .before .before .before .before .before .before .before .before .if1 .left) .0) (turned .0) (turned .1) (c .before .before .child .ensures .0) (rw (turned .2, turned .3) at (c .before .before .child .ensures .1)) (c .if2 .taken))
+content-returns-3 t c =
+    let inv = c .before .before .before .before .before .before .before .before .before .before .before .before .before .loop .inv in
+    let goes-on = not-ended _ _ _ (sym (c .before .before .before .before .before .before .before .before .before .before .before .ends .ensures)
+    ∙ c .before .before .before .before .before .before .before .before .before .before .if1 .left) in
+    let turned = rw (
+      c .before .before .before .before .before .t3 .given .1,
+      c .before .before .before .before .before .before .before .before .before .loose .ensures,
+    ) at
+    (c .before .before .before .before .before .before .before .turn-as .ensures) in
+    let h = list-forward _ _ (c .before .before .before .before .before .before .before .before .before .before .before .before .look .ensures)
+    (inv .within) (goes-on .0) (turned .0) in
+    answered inv (later (omega (arith, h)) (c .before .before .child .ensures .0))
+    (child-stopped _ _ (c .before .before .before .before .before .before .before .before .before .before .before .before .look .ensures)
+    (inv .within) (goes-on .0) (turned .0) (turned .1) (c .before .before .child .ensures .0)
+    (rw (turned .2, turned .3, turned .4) at (c .before .before .child .ensures .1)) (c .if2 .taken))
 
 content-loop-less-2 : (t : ℕ) → content-lts.Need-loop-less-2 (content-claims t) (content-at t) content.Post content-Inv-loop content-μ-loop
-content-loop-less-2 t c = let turned = rw (c .before .before .before .before .t3 .given .1, c .before .before .before .before .before .before .before .loose .ensures) at (c .before .before .before .before .before .before .turn-as .ensures) in fewer (taken-forward (turned .0) (c .before .before .child .ensures .0) (c .if2 .left))
+content-loop-less-2 t c =
+    let turned = rw (
+      c .before .before .before .before .before .t3 .given .1,
+      c .before .before .before .before .before .before .before .before .before .loose .ensures,
+    ) at
+    (c .before .before .before .before .before .before .before .turn-as .ensures) in
+    fewer (taken-forward (turned .0) (c .before .before .child .ensures .0) (c .if2 .left))
 
 content-loop-again-2 : (t : ℕ) → content-lts.Need-loop-again-2 (content-claims t) (content-at t) content.Post content-Inv-loop content-μ-loop
-content-loop-again-2 t c = let turned = rw (c .before .before .before .before .t3 .given .1, c .before .before .before .before .before .before .before .loose .ensures) at (c .before .before .before .before .before .before .turn-as .ensures) in gone-on (c .before .before .before .before .before .before .before .before .before .before .before .loop .inv) (taken-forward (turned .0) (c .before .before .child .ensures .0) (c .if2 .left)) (child-passed _ _ (c .before .before .before .before .before .before .before .before .before .before .look .ensures) (c .before .before .before .before .before .before .before .before .before .before .before .loop .inv .within) (not-ended _ _ _ (sym (c .before .before .before .before .before .before .before .before .before .ends .ensures) ∙ c .before .before .before .before .before .before .before .before .if1 .left) .0) (turned .0) (turned .1) (c .before .before .child .ensures .0) (rw (turned .2, turned .3) at (c .before .before .child .ensures .1)) (c .if2 .left))
+content-loop-again-2 t c =
+    let inv = c .before .before .before .before .before .before .before .before .before .before .before .before .before .loop .inv in
+    let goes-on = not-ended _ _ _ (sym (c .before .before .before .before .before .before .before .before .before .before .before .ends .ensures)
+    ∙ c .before .before .before .before .before .before .before .before .before .before .if1 .left) in
+    let turned = rw (
+      c .before .before .before .before .before .t3 .given .1,
+      c .before .before .before .before .before .before .before .before .before .loose .ensures,
+    ) at
+    (c .before .before .before .before .before .before .before .turn-as .ensures) in
+    gone-on inv (taken-forward (turned .0) (c .before .before .child .ensures .0) (c .if2 .left))
+    (child-passed _ _ (c .before .before .before .before .before .before .before .before .before .before .before .before .look .ensures)
+    (inv .within) (goes-on .0) (turned .0) (turned .1) (c .before .before .child .ensures .0)
+    (rw (turned .2, turned .3, turned .4) at (c .before .before .child .ensures .1)) (c .if2 .left))
 
 pub +block+child+content-spec : {M : Type 1} → statement M
-+block+child+content-spec = close μ-block μ-child μ-content (λ t. block-lts.spec (block-claims t) (block-at t) block.Post
++block+child+content-spec = close μ-block μ-child μ-content (λ t. block-lts.spec (block-claims t) (block-at t)
+    block.Post
     block-Inv-loop
     block-μ-loop
     (block-loop-holds t)
@@ -241,15 +495,19 @@ pub +block+child+content-spec : {M : Type 1} → statement M
     (block-returns-4 t)
     (block-loop-less-2 t)
     (block-loop-again-2 t))
-    (λ t. child-lts.spec (child-claims t) (child-at t) child.Post
+    (λ t. child-lts.spec (child-claims t) (child-at t)
+    child.Post
     (child-is-command-requires t)
+    (child-enter-requires t)
     (child-add-block t)
     (child-block-requires t)
+    (child-leave-requires t)
     (child-returns t)
     (child-inside-requires t)
     (child-past-bracket-requires t)
     (child-returns-2 t))
-    λ t. content-lts.spec (content-claims t) (content-at t) content.Post
+    λ t. content-lts.spec (content-claims t) (content-at t)
+    content.Post
     content-Inv-loop
     content-μ-loop
     (content-loop-holds t)

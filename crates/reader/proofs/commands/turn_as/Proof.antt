@@ -6,6 +6,10 @@ use Rattle.reader.proofs.Turns.{step-goes, step-bad}
 use borrow.Author.Needs.{needs}
 use Rattle.reader.proofs.commands.turn_as.Statement.{statement}
 use Rattle.reader.proofs.commands.turn_as.Tie as tie
+use Rattle.kind.proofs.step.Reads as step-reads
+use Rattle.reader.proofs.tape.enter.Reads as enter-reads
+use Rattle.reader.proofs.walk.fault_at.Reads as fault-at-reads
+use Rattle.reader.proofs.walk.refusal.Reads as refusal-reads
 
 step-requires : tie.Need-step-requires
 step-requires c κs = search needs
@@ -23,16 +27,49 @@ returns-2 : tie.Need-returns-2
 returns-2 c = stuck (c .before .if2 .taken) (c .refusal .ensures)
 
 returns-3 : tie.Need-returns-3
-returns-3 c = (record { taken = step-goes _ _ _ _ (c .before .before .before .if1 .left) (c .before .before .before .before .before .step .ensures); forward = c .before .before .if2 .left; next = refl }, c .if3 .taken, refl, refl)
+returns-3 c = (
+  record {
+    taken = step-goes _ _ _ _ (c .before .before .before .if1 .left)
+        (c .before .before .before .before .before .step .ensures);
+    forward = c .before .before .if2 .left;
+    next = refl;
+  },
+  c .if3 .taken,
+  refl,
+  refl,
+  refl,
+)
 
-add-t15 : tie.Need-add-t15
-add-t15 c = search needs
+add-enter : tie.Need-add-enter
+add-enter c = search needs
 
-add-t16 : tie.Need-add-t16
-add-t16 c = omega (arith, c .before .before .before .before .before .before .before .pre .1 (c .before .before .before .if2 .left), c .before .before .before .before .before .before .before .good)
+enter-requires : tie.Need-enter-requires
+enter-requires c κs = search needs
+
+add-t19 : tie.Need-add-t19
+add-t19 c = search needs
+
+add-t20 : tie.Need-add-t20
+add-t20 c = omega (
+  arith,
+  c .before .before .before .before .before .before .before .before .before .pre .1
+      (c .before .before .before .before .before .if2 .left),
+  c .before .before .before .before .before .before .before .before .before .good,
+)
 
 returns-4 : tie.Need-returns-4
-returns-4 c = (record { taken = step-goes _ _ _ _ (c .before .before .before .before .if1 .left) (c .before .before .before .before .before .before .step .ensures); forward = c .before .before .before .if2 .left; next = refl }, c .before .if3 .left, refl, refl)
+returns-4 c = (
+  record {
+    taken = step-goes _ _ _ _ (c .before .before .before .before .before .before .if1 .left)
+        (c .before .before .before .before .before .before .before .before .step .ensures);
+    forward = c .before .before .before .before .before .if2 .left;
+    next = refl;
+  },
+  c .before .before .before .if3 .left,
+  refl,
+  refl,
+  c .before .enter .ensures,
+)
 
 pub turn-as-spec : {M : Type 1} → statement M
 turn-as-spec =
@@ -44,6 +81,8 @@ turn-as-spec =
     refusal-requires
     returns-2
     returns-3
-    add-t15
-    add-t16
+    add-enter
+    enter-requires
+    add-t19
+    add-t20
     returns-4)

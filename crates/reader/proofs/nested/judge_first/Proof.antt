@@ -1,9 +1,15 @@
 -- `judge_first` meets its contract: each way out is one law of `Tops`. Assumes nothing.
 use native.Mathlib.Omega.{arith}
-use Rattle.reader.proofs.Tops.{first-none, first-other, first-stuck, first-root, looked-within}
+use Rattle.reader.proofs.Tops.{first-none, first-other, first-stuck, first-root, first-tape, refused-number, looked-within}
 use borrow.Author.Needs.{needs}
 use Rattle.reader.proofs.nested.judge_first.Statement.{statement}
 use Rattle.reader.proofs.nested.judge_first.Tie as tie
+use Rattle.lexer.proofs.look.Reads as look-reads
+use Rattle.reader.proofs.tape.enter.Reads as enter-reads
+use Rattle.reader.proofs.walk.element.Reads as element-reads
+use Rattle.reader.proofs.walk.leave.Reads as leave-reads
+use Rattle.reader.proofs.walk.past_bracket.Reads as past-bracket-reads
+use Rattle.reader.proofs.walk.refusal.Reads as refusal-reads
 
 look-requires : tie.Need-look-requires
 look-requires c κs = search needs
@@ -12,31 +18,70 @@ refusal-requires : tie.Need-refusal-requires
 refusal-requires c κs = search needs
 
 returns : tie.Need-returns
-returns c = rw (c .refusal .ensures) (first-none (c .before .before .before .look .ensures) (c .before .if1 .taken))
+returns c = (
+  rw (c .refusal .ensures) (first-none (c .before .before .before .look .ensures) (c .before .if1 .taken)),
+  λ e es u y full. absurd (refused-number 7 _ (c .refusal .ensures) (omega arith) y),
+)
 
 refusal-requires-2 : tie.Need-refusal-requires-2
 refusal-requires-2 c κs = search needs
 
 returns-2 : tie.Need-returns-2
-returns-2 c = rw (c .refusal2 .ensures) (first-other (c .before .before .before .before .before .look .ensures) (c .before .before .before .if1 .left) (c .before .if2 .taken))
+returns-2 c = (
+  rw (c .refusal2 .ensures) (first-other (c .before .before .before .before .before .look .ensures) (c .before .before .before .if1 .left)
+      (c .before .if2 .taken)),
+  λ e es u y full. absurd (refused-number 8 _ (c .refusal2 .ensures) (omega arith) y),
+)
 
 refusal-requires-3 : tie.Need-refusal-requires-3
 refusal-requires-3 c κs = search needs
 
 returns-3 : tie.Need-returns-3
-returns-3 c = first-stuck (c .before .before .before .before .before .before .look .ensures) (c .before .before .before .before .if1 .left) _ (c .before .if3 .taken)
+returns-3 c = (
+  first-stuck (c .before .before .before .before .before .before .look .ensures) (c .before .before .before .before .if1 .left) _
+      (c .before .if3 .taken),
+  λ e es u y full. absurd (refused-number 8 _ (c .refusal3 .ensures) (omega arith) y),
+)
+
+enter-requires : tie.Need-enter-requires
+enter-requires c κs = let b = looked-within (c .before .before .before .before .before .before .before .before .args .text .now) 0
+    (c .before .before .before .before .before .before .look .ensures) (omega arith) in
+    (omega (arith, b .1, c .before .before .before .before .before .before .before .before .pre), omega arith, omega arith)
 
 element-requires : tie.Need-element-requires
-element-requires c κs =
-    let b = looked-within (c .before .before .before .before .before .before .before .args .text .now) 0 (c .before .before .before .before .before .look .ensures) (omega arith) .2 (c .before .before .before .if1 .left) (omega (arith, c .if3 .left)) in
-    omega (arith, b, c .if3 .left)
+element-requires c κs = let b = looked-within (c .before .before .before .before .before .before .before .before .before .before .args .text .now) 0
+    (c .before .before .before .before .before .before .before .before .look .ensures) (omega arith) .2
+    (c .before .before .before .before .before .before .if1 .left) (omega (arith, c .before .before .before .if3 .left)) in (
+      b .1,
+      omega (arith, c .before .before .before .if3 .left),
+      omega arith,
+      c .before .before .before .before .before .before .before .before .before .before .pre,
+      omega arith,
+    )
+
+leave-requires : tie.Need-leave-requires
+leave-requires c κs = λ y. omega (
+  arith,
+  c .before .element .ensures .0 .bounds y,
+  c .before .before .before .before .before .before .before .before .before .before .before .before .pre,
+)
 
 past-bracket-requires : tie.Need-past-bracket-requires
 past-bracket-requires c κs = search needs
 
 returns-4 : tie.Need-returns-4
-returns-4 c =
-    first-root (c .before .before .before .before .before .before .before .look .ensures) (c .before .before .before .before .before .if1 .left) (c .before .before .before .if2 .left) (omega (arith, c .before .before .if3 .left)) (c .before .element .ensures .0) (c .before .element .ensures .1) (c .past-bracket .ensures)
+returns-4 c = (
+  first-root (c .before .before .before .before .before .before .before .before .before .before .before .before .look .ensures)
+      (c .before .before .before .before .before .before .before .before .before .before .if1 .left) _ _
+      (c .before .before .before .before .before .before .before .before .if2 .left)
+      (omega (arith, c .before .before .before .before .before .before .before .if3 .left)) (c .before .before .before .element .ensures)
+      (c .past-bracket .ensures),
+  first-tape (c .before .before .before .before .before .before .before .before .before .before .before .before .look .ensures)
+      (c .before .before .before .before .before .before .before .before .before .before .if1 .left) _ _
+      (c .before .before .before .before .before .before .before .before .if2 .left)
+      (omega (arith, c .before .before .before .before .before .before .before .if3 .left)) (c .before .before .before .element .ensures)
+      (c .past-bracket .ensures) _ (c .before .before .before .before .before .enter .ensures) (c .before .leave .ensures),
+)
 
 pub judge-first-spec : {M : Type 1} → statement M
 judge-first-spec =
@@ -49,6 +94,8 @@ judge-first-spec =
     returns-2
     refusal-requires-3
     returns-3
+    enter-requires
     element-requires
+    leave-requires
     past-bracket-requires
     returns-4)

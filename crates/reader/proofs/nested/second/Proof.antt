@@ -17,7 +17,8 @@ first-place-requires : tie.Need-first-place-requires
 first-place-requires c κs = search needs
 
 returns-2 : tie.Need-returns-2
-returns-2 c = second-some (c .before .before .before .before .look .ensures) (c .before .before .if1 .left) (c .before .past-first .ensures) (c .first-place .ensures)
+returns-2 c = second-some (c .before .before .before .before .look .ensures) (c .before .before .if1 .left) (c .before .past-first .ensures)
+    (c .first-place .ensures)
 
 pub second-spec : {M : Type 1} → statement M
 second-spec =

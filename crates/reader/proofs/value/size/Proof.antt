@@ -3,6 +3,10 @@ use Rattle.reader.proofs.Measures.{size-unfit, size-unfit-height, size-
 use borrow.Author.Needs.{needs}
 use Rattle.reader.proofs.value.size.Statement.{statement}
 use Rattle.reader.proofs.value.size.Tie as tie
+use Rattle.lexer.proofs.look.Reads as look-reads
+use Rattle.reader.proofs.tape.note.Reads as note-reads
+use Rattle.reader.proofs.value.number_at.Reads as number-at-reads
+use Rattle.reader.proofs.walk.refusal.Reads as refusal-reads
 
 number-at-requires : tie.Need-number-at-requires
 number-at-requires c κs = search needs
@@ -20,11 +24,9 @@ refusal-requires-2 : tie.Need-refusal-requires-2
 refusal-requires-2 c κs = search needs
 
 returns-2 : tie.Need-returns-2
-returns-2 c =
-    let second = c .before .before .before in
-    let first = second .before .before .before in
-    rw (c .refusal2 .ensures)
-    (size-unfit-height _ _ _ _ (first .number-at .ensures) (second .before .if1 .left) (second .number-at2 .ensures) (c .before .if2 .taken))
+returns-2 c = rw (c .refusal2 .ensures)
+    (size-unfit-height _ _ _ _ (c .before .before .before .before .before .before .number-at .ensures) (c .before .before .before .before .if1 .left)
+    (c .before .before .before .number-at2 .ensures) (c .before .if2 .taken))
 
 look-requires : tie.Need-look-requires
 look-requires c κs = search needs
@@ -33,22 +35,28 @@ refusal-requires-3 : tie.Need-refusal-requires-3
 refusal-requires-3 c κs = search needs
 
 returns-3 : tie.Need-returns-3
-returns-3 c =
-    let third = c .before .before .before in
-    let second = third .before .before .before in
-    let first = second .before .before .before in
-    rw (c .refusal3 .ensures)
-    (size-unfit-third _ _ _ _ (first .number-at .ensures) (second .before .if1 .left) (second .number-at2 .ensures) (third .before .if2 .left)
-    (third .look .ensures) (c .before .if3 .taken))
+returns-3 c = rw (c .refusal3 .ensures)
+    (size-unfit-third _ _ _ _ (c .before .before .before .before .before .before .before .before .before .number-at .ensures)
+    (c .before .before .before .before .before .before .before .if1 .left)
+    (c .before .before .before .before .before .before .number-at2 .ensures) (c .before .before .before .before .if2 .left)
+    (c .before .before .before .look .ensures) (c .before .if3 .taken))
+
+note-requires : tie.Need-note-requires
+note-requires c κs = search needs
+
+note-requires-2 : tie.Need-note-requires-2
+note-requires-2 c κs = search needs
 
 returns-4 : tie.Need-returns-4
-returns-4 c =
-    let third = c .before .before in
-    let second = third .before .before .before in
-    let first = second .before .before .before in
-    let start = first .before .before in
-    size-good _ _ _ _ (first .number-at .ensures) (second .before .if1 .left) (second .number-at2 .ensures) (third .before .if2 .left)
-    (third .look .ensures) (c .if3 .left) (start .pre .1) (start .pre .2)
+returns-4 c = size-good _ _ _ _
+    (c .before .before .before .before .before .before .before .before .before .before .before .before .number-at .ensures)
+    (c .before .before .before .before .before .before .before .before .before .before .if1 .left)
+    (c .before .before .before .before .before .before .before .before .before .number-at2 .ensures)
+    (c .before .before .before .before .before .before .before .if2 .left)
+    (c .before .before .before .before .before .before .look .ensures) (c .before .before .before .before .if3 .left)
+    (c .before .before .before .before .before .before .before .before .before .before .before .before .before .before .pre .1)
+    (c .before .before .before .before .before .before .before .before .before .before .before .before .before .before .pre .2)
+    (c .before .before .note .ensures) (c .note2 .ensures)
 
 pub size-spec : {M : Type 1} → statement M
 size-spec =
@@ -63,4 +71,6 @@ size-spec =
     look-requires
     refusal-requires-3
     returns-3
+    note-requires
+    note-requires-2
     returns-4)

@@ -1,16 +1,22 @@
 -- `value` meets its contract: each way out is one law of `Values`. Assumes nothing.
 use native.Mathlib.Omega.{arith}
 use borrow.Author.Tests.{not-true, not-false}
-use Rattle.reader.proofs.Values.{value-size, value-nothing, value-bad, value-good}
+use Rattle.reader.proofs.Values.{value-size, value-nothing, value-bad, value-good, word-small}
 use borrow.Author.Needs.{needs}
 use Rattle.reader.proofs.value.value.Statement.{statement}
 use Rattle.reader.proofs.value.value.Tie as tie
+use Rattle.reader.proofs.tape.note.Reads as note-reads
+use Rattle.reader.proofs.value.is_value.Reads as is-value-reads
+use Rattle.reader.proofs.value.only.Reads as only-reads
+use Rattle.reader.proofs.value.size.Reads as size-reads
+use Rattle.reader.proofs.value.word_of.Reads as word-of-reads
+use Rattle.reader.proofs.walk.refusal.Reads as refusal-reads
 
 size-requires : tie.Need-size-requires
 size-requires c κs = search needs
 
 returns : tie.Need-returns
-returns c = value-size _ _ _ _ (c .before .if1 .taken) (c .size .ensures)
+returns c = value-size _ _ _ _ (c .before .before .if1 .taken) (c .size .ensures)
 
 only-requires : tie.Need-only-requires
 only-requires c κs = search needs
@@ -19,9 +25,9 @@ refusal-requires : tie.Need-refusal-requires
 refusal-requires c κs = search needs
 
 returns-2 : tie.Need-returns-2
-returns-2 c =
-    let one = c .before .before .before in
-    rw (c .refusal .ensures) (value-nothing _ _ _ _ (one .before .if1 .left) (one .only .ensures) (not-true _ (c .before .if2 .taken)))
+returns-2 c = rw (c .refusal .ensures)
+    (value-nothing _ _ _ _ (c .before .before .before .before .if1 .left) (c .before .before .before .only .ensures)
+    (not-true _ (c .before .if2 .taken)))
 
 is-value-requires : tie.Need-is-value-requires
 is-value-requires c κs = search needs
@@ -30,25 +36,41 @@ refusal-requires-2 : tie.Need-refusal-requires-2
 refusal-requires-2 c κs = search needs
 
 returns-3 : tie.Need-returns-3
-returns-3 c =
-    let held = c .before .before in
-    let one = held .before .before .before in
-    rw (c .refusal2 .ensures)
-    (value-bad _ _ _ _ (one .before .if1 .left) (one .only .ensures) (not-false _ (held .before .if2 .left))
-    (not-true _ (c .before .if3 .taken)) (held .is-value .ensures))
+returns-3 c = rw (c .refusal2 .ensures)
+    (value-bad _ _ _ _ (c .before .before .before .before .before .before .if1 .left) (c .before .before .before .before .before .only .ensures)
+    (not-false _ (c .before .before .before .if2 .left)) (not-true _ (c .before .if3 .taken)) (c .before .before .is-value .ensures))
 
-add-t11 : tie.Need-add-t11
-add-t11 c =
-    let one = c .before .before .before .before .before in
-    omega (arith, one .only .ensures .within (not-false _ (c .before .before .before .if2 .left)), one .before .before .before .pre)
+word-of-requires : tie.Need-word-of-requires
+word-of-requires c κs = search needs
+
+note-requires : tie.Need-note-requires
+note-requires c κs = (
+  word-small (c .before .before .before .before .before .before .before .before .before .args .class)
+      (c .word-of .ensures),
+  omega (
+    arith,
+    c .before .before .before .before .before .before .only .ensures .within
+        (not-false _ (c .before .before .before .before .if2 .left)),
+    c .before .before .before .before .before .before .before .before .before .pre,
+  ),
+)
+
+add-t16 : tie.Need-add-t16
+add-t16 c = omega (
+  arith,
+  c .before .before .before .before .before .before .before .before .only .ensures .within
+      (not-false _ (c .before .before .before .before .before .before .if2 .left)),
+  c .before .before .before .before .before .before .before .before .before .before .before .pre,
+)
 
 returns-4 : tie.Need-returns-4
-returns-4 c =
-    let held = c .before .before in
-    let one = held .before .before .before in
-    let start = one .before .before .before in
-    value-good _ _ _ _ (one .before .if1 .left) (one .only .ensures) (not-false _ (held .before .if2 .left)) (not-false _ (c .before .if3 .left))
-    (held .is-value .ensures) (start .pre .1) (start .pre .2)
+returns-4 c = value-good _ _ _ _ (c .before .before .before .before .before .before .before .before .before .if1 .left)
+    (c .before .before .before .before .before .before .before .before .only .ensures)
+    (not-false _ (c .before .before .before .before .before .before .if2 .left)) (not-false _ (c .before .before .before .before .if3 .left))
+    (c .before .before .before .before .before .is-value .ensures)
+    (c .before .before .before .before .before .before .before .before .before .before .before .pre .2)
+    (c .before .before .before .before .before .before .before .before .before .before .before .pre .3) (c .before .before .word-of .ensures)
+    (c .before .note .ensures)
 
 pub value-spec : {M : Type 1} → statement M
 value-spec =
@@ -62,5 +84,7 @@ value-spec =
     is-value-requires
     refusal-requires-2
     returns-3
-    add-t11
+    word-of-requires
+    note-requires
+    add-t16
     returns-4)

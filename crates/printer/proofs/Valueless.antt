@@ -1,0 +1,40 @@
+-- A node without values, by three tests of its record's words: nothing of them is spelled. Assumes nothing.
+use Prim.Native.Nat.{ℕ, _+_}
+use mathlib.Core.Path.{_≡_, refl, sym, _∙_}
+use mathlib.Core.Bool.{true, _&&_}
+use mathlib.Core.List.{List, []}
+use lib.Dec.{eqb}
+use borrow.Author.Tests.{eqb-true}
+use Rattle.laws.proofs.Booleans.{both, true-T, T-true}
+use Rattle.elements.specs.Class as Class
+use Rattle.document.specs.Document.{missing}
+use Rattle.document.specs.Canonical.{keyClass}
+use Rattle.document.specs.Printing.{part}
+use Rattle.table.specs.Stored.{wordAt, stringAt}
+use Rattle.printer.specs.Inside.{Valueless, valuesInside}
+use Rattle.printer.proofs.Pieces.{value-none, size-none}
+
+module _ (words : List ℕ) (i : ℕ) where
+  pub valueless-tested : (k t w : ℕ) → k ≡ wordAt words i 4 → t ≡ wordAt words i 6 → w ≡ wordAt words i 9
+      → eqb k 0 && eqb t 0 && eqb w missing ≡ true → Valueless words i
+  valueless-tested k t w a b c e =
+      let (kt, z) = both (eqb k 0 && eqb t 0) (eqb w missing) (true-T e) in
+      let (x, y) = both (eqb k 0) (eqb t 0) kt in
+      record {
+        key = sym a ∙ eqb-true k 0 (T-true _ x);
+        type = sym b ∙ eqb-true t 0 (T-true _ y);
+        width = sym c ∙ eqb-true w missing (T-true _ z);
+      }
+
+  no-bytes : (bytes : List ℕ) (j : ℕ) → wordAt words i (j + 1) ≡ 0 → stringAt words bytes i j ≡ []
+  unfolding stringAt part
+  no-bytes bytes j e = rw e
+
+  pub valueless-inside : (bytes : List ℕ) (kind h : ℕ) → Valueless words i
+      → [] ≡ valuesInside kind (stringAt words bytes i 3) (stringAt words bytes i 5) (wordAt words i 9) h
+  unfolding valuesInside
+  valueless-inside bytes kind h v =
+      let key = no-bytes bytes 3 (v .key) in
+      let type = no-bytes bytes 5 (v .type) in
+      let size = size-none (wordAt words i 9) h (v .width) in
+      rw (key, type, ← value-none (keyClass kind) [] refl, ← size, ← value-none Class.type [] refl)
