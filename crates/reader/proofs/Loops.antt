@@ -149,7 +149,8 @@ pub item-judges : {s t t₁ t₂ z : List ℕ} {at k c j n p node : ℕ} {w : Wa
 unfolding isElement Class.isKind
 item-judges e some h before after = rw e (element-judges refl some (to-start h) before after)
 
-pub list-judges : {s t t₁ t₂ z : List ℕ} {at k c j n p node : ℕ} {w : Walked} → IsList c → 0 < j → Bounded s j w × Answers s at c j 0 (n + 1) p n t₁ t₂ w
+pub list-judges : {s t t₁ t₂ z : List ℕ} {at k c j n p node : ℕ} {w : Walked} → IsList c → 0 < j
+    → Bounded s j w × Answers s at c j 0 (n + 1) p n t₁ t₂ w
     → (length t ≡ 32768 → t₁ ≡ entered t n at c node 0) → (w .number ≡ 0 → length t₂ ≡ 32768 → z ≡ left t₂ n (w .nodes))
     → Bounded s j w × Judges s at j k c n p node t z w
 unfolding isElement Class.isKind

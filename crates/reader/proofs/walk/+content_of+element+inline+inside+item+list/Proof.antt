@@ -218,7 +218,20 @@ element-loop-again-2 t c =
     (c .before .before .before .inside .ensures) (c .before .before .past-bracket .ensures) (c .if1 .left)
 
 abbrev inline-claims : ℕ → inline-lts.Claims
-inline-claims t = (next-turn-reads.Asked, next-turn-reads.Learnt, enter-reads.Asked, enter-reads.Learnt, list-below t, list.Post, leave-reads.Asked, leave-reads.Learnt, inside-below t, inside.Post, past-bracket-reads.Asked, past-bracket-reads.Learnt)
+inline-claims t = (
+  next-turn-reads.Asked,
+  next-turn-reads.Learnt,
+  enter-reads.Asked,
+  enter-reads.Learnt,
+  list-below t,
+  list.Post,
+  leave-reads.Asked,
+  leave-reads.Learnt,
+  inside-below t,
+  inside.Post,
+  past-bracket-reads.Asked,
+  past-bracket-reads.Learnt,
+)
 
 abbrev inline-Inv-loop : inline-lts.InvT-loop
 inline-Inv-loop text at from kind nodes pool node tape₀ i₀ state₀ n₀ p₀ tape i state n p = Walking text at kind node from nodes pool tape₀ i state n p tape
@@ -264,24 +277,43 @@ inline-enum-known-t-3 t c = search needs
 inline-enter-requires : (t : ℕ) → inline-lts.Need-enter-requires (inline-claims t) (inline-at t) inline.Post inline-Inv-loop inline-μ-loop
 inline-enter-requires t c κs =
     let turn = rw (c .before .before .before .before .t3 .given .1) at (c .before .before .before .before .before .before .next-turn .ensures) in
-    (omega (arith, turn .0, c .before .before .before .before .before .before .before .before .before .before .pre .1), c .before .before .before .before .before .before .before .before .before .before .pre .1 .4, omega arith)
+    let pre = c .before .before .before .before .before .before .before .before .before .before .pre in
+    (omega (arith, turn .0, pre .1), pre .1 .4, omega arith)
 
 inline-add-list : (t : ℕ) → inline-lts.Need-add-list (inline-claims t) (inline-at t) inline.Post inline-Inv-loop inline-μ-loop
 inline-add-list t c =
-    let turn = rw (c .before .before .before .before .before .t3 .given .1) at (c .before .before .before .before .before .before .before .next-turn .ensures) in
-    omega (arith, turn .0, c .before .before .before .before .before .before .before .before .before .loop .inv, c .before .before .before .before .before .before .before .before .before .before .before .good)
+    let turn = rw (c .before .before .before .before .before .t3 .given .1) at
+    (c .before .before .before .before .before .before .before .next-turn .ensures) in
+    omega (
+      arith,
+      turn .0,
+      c .before .before .before .before .before .before .before .before .before .loop .inv,
+      c .before .before .before .before .before .before .before .before .before .before .before .good,
+    )
 
 inline-list-requires : (t : ℕ) → inline-lts.Need-list-requires (inline-claims t) (inline-at t) inline.Post inline-Inv-loop inline-μ-loop
 inline-list-requires t c κs =
-    let turn = rw (c .before .before .before .before .before .before .t3 .given .1) at (c .before .before .before .before .before .before .before .before .next-turn .ensures) in
+    let turn = rw (c .before .before .before .before .before .before .t3 .given .1) at
+    (c .before .before .before .before .before .before .before .before .next-turn .ensures) in
     let loop = c .before .before .before .before .before .before .before .before .before .before .loop .inv in
     let pre = c .before .before .before .before .before .before .before .before .before .before .before .before .pre in (
       omega (arith, turn .0, pre .0),
-      (turn .0 .1, omega (arith, turn .0, loop), omega (arith, turn .0, loop), pre .1 .3, omega (arith, turn .0, loop, pre .1), is-list _ (c .before .before .before .before .if1 .left) (c .before .before .before .if2 .taken)),
+      (
+        turn .0 .1,
+        omega (arith, turn .0, loop),
+        omega (arith, turn .0, loop),
+        pre .1 .3,
+        omega (arith, turn .0, loop, pre .1),
+        is-list _ (c .before .before .before .before .if1 .left) (c .before .before .before .if2 .taken),
+      ),
     )
 
 inline-leave-requires : (t : ℕ) → inline-lts.Need-leave-requires (inline-claims t) (inline-at t) inline.Post inline-Inv-loop inline-μ-loop
-inline-leave-requires t c κs = λ y. omega (arith, c .before .list .ensures .0 .bounds y, c .before .before .before .before .before .before .before .before .before .before .before .before .before .before .pre .1)
+inline-leave-requires t c κs = λ y. omega (
+  arith,
+  c .before .list .ensures .0 .bounds y,
+  c .before .before .before .before .before .before .before .before .before .before .before .before .before .before .pre .1,
+)
 
 inline-inside-requires : (t : ℕ) → inline-lts.Need-inside-requires (inline-claims t) (inline-at t) inline.Post inline-Inv-loop inline-μ-loop
 inline-inside-requires t c κs =
@@ -301,7 +333,8 @@ inline-child : (t : ℕ) (c : inline-lts.Joined1-2 (inline-claims t) (inline-at 
 inline-child t c =
     let turn = rw (c .before .before .t3 .given .1) at (c .before .before .before .before .next-turn .ensures) in
     ⊎-elim
-    (λ w. rw (w .8, w .9) (list-judges (is-list _ (w .0 .left) (w .1 .taken)) (omega (arith, turn .0)) (w .5 .ensures) (w .3 .ensures) (w .7 .ensures)))
+    (λ w. rw (w .8, w .9)
+    (list-judges (is-list _ (w .0 .left) (w .1 .taken)) (omega (arith, turn .0)) (w .5 .ensures) (w .3 .ensures) (w .7 .ensures)))
     (λ w. rw (w .3, w .4) (w .2 .ensures))
     (c .if1 .came)
 
@@ -311,18 +344,27 @@ inline-past-bracket-requires t c κs = search needs
 
 inline-returns-2 : (t : ℕ) → inline-lts.Need-returns-2 (inline-claims t) (inline-at t) inline.Post inline-Inv-loop inline-μ-loop
 inline-returns-2 t c =
-    let turn = rw (c .before .before .before .before .before .t3 .given .1) at (c .before .before .before .before .before .before .before .next-turn .ensures) in
-    list-answered (c .before .before .before .before .before .before .before .before .before .loop .inv) turn (inline-child t (c .before .before .before)) (c .before .before .past-bracket .ensures) (c .if3 .taken)
+    let turn = rw (c .before .before .before .before .before .t3 .given .1) at
+    (c .before .before .before .before .before .before .before .next-turn .ensures) in
+    list-answered (c .before .before .before .before .before .before .before .before .before .loop .inv) turn
+    (inline-child t (c .before .before .before)) (c .before .before .past-bracket .ensures) (c .if3 .taken)
 
 inline-loop-less-2 : (t : ℕ) → inline-lts.Need-loop-less-2 (inline-claims t) (inline-at t) inline.Post inline-Inv-loop inline-μ-loop
 inline-loop-less-2 t c =
-    let turn = rw (c .before .before .before .before .before .t3 .given .1) at (c .before .before .before .before .before .before .before .next-turn .ensures) in
-    omega (arith, list-forward (c .before .before .before .before .before .before .before .before .before .loop .inv) turn (inline-child t (c .before .before .before)) (c .before .before .past-bracket .ensures) (c .if3 .left))
+    let turn = rw (c .before .before .before .before .before .t3 .given .1) at
+    (c .before .before .before .before .before .before .before .next-turn .ensures) in
+    omega (
+      arith,
+      list-forward (c .before .before .before .before .before .before .before .before .before .loop .inv) turn
+          (inline-child t (c .before .before .before)) (c .before .before .past-bracket .ensures) (c .if3 .left),
+    )
 
 inline-loop-again-2 : (t : ℕ) → inline-lts.Need-loop-again-2 (inline-claims t) (inline-at t) inline.Post inline-Inv-loop inline-μ-loop
 inline-loop-again-2 t c =
-    let turn = rw (c .before .before .before .before .before .t3 .given .1) at (c .before .before .before .before .before .before .before .next-turn .ensures) in
-    list-gone-on (c .before .before .before .before .before .before .before .before .before .loop .inv) turn (inline-child t (c .before .before .before)) (c .before .before .past-bracket .ensures) (c .if3 .left)
+    let turn = rw (c .before .before .before .before .before .t3 .given .1) at
+    (c .before .before .before .before .before .before .before .next-turn .ensures) in
+    list-gone-on (c .before .before .before .before .before .before .before .before .before .loop .inv) turn
+    (inline-child t (c .before .before .before)) (c .before .before .past-bracket .ensures) (c .if3 .left)
 
 abbrev inside-claims : ℕ → inside-lts.Claims
 inside-claims t = (
