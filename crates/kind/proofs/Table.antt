@@ -1,6 +1,6 @@
 -- The code's rows against the rules, by tests that antt computes: each row, and of `rules` itself what the code leaves out.
 -- Assumes nothing.
-use Prim.Native.Nat.{ℕ, zero, suc, _+_, _-_, _*_, _/_, _%_, _^_, _<_, _≤_}
+use Prim.Native.Nat.{ℕ, _+_, _-_, _*_, _/_, _%_, _^_, _<_, _≤_}
 use mathlib.Core.Path.{_≡_, _∙_, refl, sym, ap}
 use mathlib.Core.Bool.{Bool, true, false, not, _&&_, true≢false}
 use mathlib.Core.List.{List, [], _∷_}
@@ -162,11 +162,6 @@ content-alike r = below (class-alike r) 32
 pub content-at : (k c : ℕ) → c < 32 → eqb (bits (ruleOf k .content) 32 / 2 ^ c % 2) 1 ≡ allows (ruleOf k .content) c
 unfolding bits allows among rules
 content-at k c h = alike-eq _ _ (each-below (class-alike (ruleOf k)) 32 c h (each-kind content-alike tt k tt))
-
--- A row for each of n kinds from k on.
-unfoldable pub rows : {A : Type 0} → (ℕ → A) → ℕ → ℕ → List A
-rows f zero k = []
-rows f (suc n) k = f k ∷ rows f n (suc k)
 
 -- A number that is no row's kind has no row.
 abbrev kinds : List Rule → List ℕ
