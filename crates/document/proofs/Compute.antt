@@ -41,7 +41,7 @@ unfolding Bytes.codes Bytes.same Bytes.among
 bytes = tt
 
 unfoldable class : Unit {0}
-unfolding Class.as-name Class.names Class.classIn Class.classOf Class.nameIn Class.nameOf Class.isKind Class.isElement Class.kindOf Class.keywordOf
+unfolding Class.as-name Class.names Class.classIn Class.classOf Class.nameIn Class.nameOf Class.isKind Class.isElement Class.kindOf
     Class.isBlock Class.significance
 class = tt
 

@@ -172,10 +172,6 @@ isElement c = isKind c && not (eqb c text)
 unfoldable pub kindOf : List ℕ → ℕ
 kindOf bytes = cond (isKind (classOf bytes)) (classOf bytes) 0
 
--- The keyword that a name is: a parameter's name, include or import; 0 where it is none.
-unfoldable pub keywordOf : List ℕ → ℕ
-keywordOf bytes = cond (leb 26 (classOf bytes)) (classOf bytes) 0
-
 -- "blocks are kinds 1 to 7"
 unfoldable pub isBlock : ℕ → Bool
 isBlock c = leb 1 c && leb c 7

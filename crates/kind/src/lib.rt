@@ -10,7 +10,7 @@ pub use machine::may_end;
 pub use machine::step;
 pub use values::character;
 ghost use mathlib.Core.Path.{_≡_};
-ghost use Rattle.elements.specs.Class.{classOf, kindOf, keywordOf, significance};
+ghost use Rattle.elements.specs.Class.{classOf, kindOf, significance};
 
 // An element's kind: "Kinds are numbered 1 to 25". Number 0 is no kind.
 pub struct Kind {
@@ -118,17 +118,6 @@ impl Keyword {
     pub const INCLUDE: Keyword = Keyword { number: 30 };
 
     pub const IMPORT: Keyword = Keyword { number: 31 };
-
-    // The keyword that a name is.
-    pub fn of_name(name: &[u8]) -> Keyword
-        ensures { λ r. ⌜ r .number ≡ keywordOf (now (name .entry)) ⌝ }
-    {
-        let class = class_of(name);
-        if 26 <= class {
-            return Keyword { number: class };
-        }
-        Keyword { number: 0 }
-    }
 }
 
 // The class of a list led by a name: its kind's number, its keyword's, or 0.
