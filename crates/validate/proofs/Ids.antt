@@ -1,12 +1,12 @@
 -- The ids of blocks as the words of a table name them. Assumes nothing.
-use Prim.Native.Nat.{ℕ, suc, _+_, _-_, _<_, _≤_}
+use Prim.Native.Nat.{ℕ, suc, _+_, _*_, _-_, _<_, _≤_}
 use mathlib.Core.Path.{_≡_, _∙_, refl, sym, ap}
 use mathlib.Core.Bool.{Bool, true, false, not, cond, _&&_}
 use mathlib.Core.List.{List, [], _∷_}
 use native.Mathlib.Numerals.{add-one}
 use native.Mathlib.Omega.{arith}
 use lib.Dec.{eqb, leb}
-use lib.ListN.{length}
+use lib.ListN.{length, getD}
 use borrow.Author.Tests.{le-leb, lt-leb, eq-eqb, ne-eqb}
 use Rattle.laws.proofs.Booleans.{bool-case, and-false}
 use Rattle.elements.specs.Bytes.{same}
@@ -15,6 +15,13 @@ use Rattle.document.specs.Value.{nonEmpty}
 use Rattle.document.specs.WellFormed.{nowhere, at-node, Entry, hasId, isAmong, repeatedId, unknownTarget}
 use Rattle.table.specs.Stored.{wordAt}
 use Rattle.validate.specs.Words.{keyAt, entryAt, entriesFrom, wanted, idsBefore, repeatsAt, danglesAt}
+
+-- The kind of node i is the first word of its record.
+pub kind-read : (words : List ℕ) (i : ℕ) → getD words (11 * i) 0 ≡ wordAt words i 0
+unfolding wordAt
+kind-read words i =
+    let e : 11 * i ≡ 11 * i + 0 = omega arith in
+    ap (λ (n : ℕ). getD words n 0) e
 
 pub and-both : (a b : Bool) → a && b ≡ true → (a ≡ true) × (b ≡ true)
 and-both true b e = (refl, e)
@@ -64,6 +71,10 @@ module _ (words bytes : List ℕ) where
   pub any-block : (i : ℕ) → named 0 i ≡ hasId (entryAt words bytes i)
   unfolding hasId
   any-block i = bool-case (isBlock (wordAt words i 0)) (λ e. rw e) (λ e. rw e)
+
+  -- A node whose kind is above those of blocks has no id.
+  pub above-id : (i : ℕ) → 7 < getD words (11 * i) 0 → hasId (entryAt words bytes i) ≡ false
+  above-id i l = sym (any-block i) ∙ no-block 0 i (above-blocks _ (rw kind-read at l))
 
   -- One node fewer to look at.
   ids-before : (only i : ℕ) → 0 < i

@@ -11,12 +11,15 @@ use table::END;
 use table::KEY;
 use table::KIND;
 use table::PARENT;
+use table::RECORD;
 use table::string;
 use table::word;
 ghost use mathlib.Core.Path.{_≡_};
 ghost use mathlib.Core.Bool.{Bool, false};
 ghost use mathlib.Core.List.{[]};
-ghost use Prim.Native.Nat.{_+_, _≤_, _<_};
+ghost use Prim.Native.Nat.{_+_, _*_, _≤_, _<_};
+ghost use lib.ListN.{length};
+ghost use Rattle.elements.specs.Class as Class;
 ghost use Rattle.document.specs.Document.{Node, Nodes};
 ghost use Rattle.document.specs.WellFormed.{First, Cells, childCount, cellsIn, repeatedId, unknownTarget, check};
 ghost use Rattle.validate.specs.Checked.{checkNumber, checkNode, Holds};
@@ -75,7 +78,8 @@ fn repeats(
     false
 }
 
-// The first such node; where there is none, the ids of all nodes have entered.
+// The first such node; where there is none, the ids of all nodes have entered. The kind is tested first, here and in the loops below,
+// since most nodes are passed by it alone.
 fn first_repeated(
     nodes: &[u32],
     count: usize,
@@ -83,21 +87,23 @@ fn first_repeated(
     heads: &mut [u32; MOST_NODES],
     nexts: &mut [u32; MOST_NODES],
 ) -> Found
-    requires { ⌜ (count ≤ 4096) × Indexed (now nodes) (now pool) 0 (now heads) (now nexts) ⌝ }
+    requires { ⌜ (count ≤ 4096) × (11 * count ≤ length (now nodes)) × Indexed (now nodes) (now pool) 0 (now heads) (now nexts) ⌝ }
     ensures { λ r. ⌜ (r ≡ found (repeatedId [] (entriesFrom (now (nodes .entry)) (now (pool .entry)) count 0)))
         × (r ≡ Found.Nothing → Indexed (now (nodes .entry)) (now (pool .entry)) count (now (heads .exit)) (now (nexts .exit))) ⌝ }
 {
     let mut i = 0;
     while i < count {
-        if repeats(nodes, i, pool, heads, nexts) {
-            return Found::At(i);
+        if nodes[RECORD * i] as usize <= FOOTNOTE {
+            if repeats(nodes, i, pool, heads, nexts) {
+                return Found::At(i);
+            }
         }
         i += 1;
     }
     Found::Nothing
 }
 
-// 17 and 18: whether node `i` is of this kind and its target on no block, or on none of the kind `only`.
+// 17 and 18: whether the target of node `i`, which is of this kind, is on no block, or on none of the kind `only`.
 fn dangles(
     nodes: &[u32],
     count: usize,
@@ -108,12 +114,9 @@ fn dangles(
     kind: usize,
     only: usize,
 ) -> bool
-    requires { ⌜ Indexed (now nodes) (now pool) count (now heads) (now nexts) ⌝ }
+    requires { ⌜ (wordAt (now nodes) i 0 ≡ kind) × Indexed (now nodes) (now pool) count (now heads) (now nexts) ⌝ }
     ensures { λ r. ⌜ r ≡ danglesAt (now (nodes .entry)) (now (pool .entry)) kind (idsBefore (now (nodes .entry)) (now (pool .entry)) only count) i ⌝ }
 {
-    if kind_at(nodes, i) != kind {
-        return false;
-    }
     let id = string(nodes, i, KEY, pool);
     !known(nodes, count, pool, heads, nexts, slot(id), only, id)
 }
@@ -127,14 +130,16 @@ fn first_unknown(
     kind: usize,
     only: usize,
 ) -> Found
-    requires { ⌜ Indexed (now nodes) (now pool) count (now heads) (now nexts) ⌝ }
+    requires { ⌜ (11 * count ≤ length (now nodes)) × Indexed (now nodes) (now pool) count (now heads) (now nexts) ⌝ }
     ensures { λ r. ⌜ r ≡ found (unknownTarget kind (idsBefore (now (nodes .entry)) (now (pool .entry)) only count)
         (entriesFrom (now (nodes .entry)) (now (pool .entry)) count 0)) ⌝ }
 {
     let mut i = 0;
     while i < count {
-        if dangles(nodes, count, pool, heads, nexts, i, kind, only) {
-            return Found::At(i);
+        if nodes[RECORD * i] as usize == kind {
+            if dangles(nodes, count, pool, heads, nexts, i, kind, only) {
+                return Found::At(i);
+            }
         }
         i += 1;
     }
@@ -199,13 +204,11 @@ fn binder(nodes: &[u32], i: usize) -> usize
     a
 }
 
-// 15: whether node `i` is a row of a table with head and has another number of cells than the head has names.
+// 15: whether node `i`, which is a row, is one of a table with head and has another number of cells than the head has names.
 fn row_differs(nodes: &[u32], i: usize) -> bool
+    requires { ⌜ wordAt (now nodes) i 0 ≡ Class.row ⌝ }
     ensures { λ r. ⌜ ((b : Bool) → Spot (now (nodes .entry)) i b → r ≡ b) ⌝ }
 {
-    if kind_at(nodes, i) != ROW {
-        return false;
-    }
     let t = binder(nodes, i);
     if kind_at(nodes, t) != TABLE {
         return false;
@@ -218,12 +221,15 @@ fn row_differs(nodes: &[u32], i: usize) -> bool
 }
 
 fn first_bad_row(nodes: &[u32], count: usize) -> Found
+    requires { ⌜ 11 * count ≤ length (now nodes) ⌝ }
     ensures { λ r. ⌜ ((f : First) → Searched (now (nodes .entry)) count 0 f → r ≡ found f) ⌝ }
 {
     let mut i = 0;
     while i < count {
-        if row_differs(nodes, i) {
-            return Found::At(i);
+        if nodes[RECORD * i] as usize == ROW {
+            if row_differs(nodes, i) {
+                return Found::At(i);
+            }
         }
         i += 1;
     }
@@ -232,7 +238,7 @@ fn first_bad_row(nodes: &[u32], count: usize) -> Found
 
 // The check of the table of a document with `count` nodes.
 pub fn check_table(nodes: &[u32], count: usize, pool: &[u8]) -> Fault
-    requires { ⌜ count ≤ 4096 ⌝ }
+    requires { ⌜ (count ≤ 4096) × (11 * count ≤ length (now nodes)) ⌝ }
     ensures { λ r. ⌜ ((d : Node) → Holds (now (nodes .entry)) count (now (pool .entry)) d → (r .number ≡ checkNumber (check d)) × (r .node ≡ checkNode (check d))) ⌝ }
 {
     let row = first_bad_row(nodes, count);

@@ -32,7 +32,8 @@ returns-3 c = refused _ _ _ _ (λ hn hm d x. no-both _ (c .if3 .taken) (c .befor
 check-table-requires : tie.Need-check-table-requires
 check-table-requires c κs =
     let (d, x) = c .before .is-draft .ensures .0 (not-false _ (c .if3 .left)) in
-    few-nodes _ _ _ _ (c .before .before .before .before .before .if1 .left) (c .before .before .before .before .if2 .left) d x
+    let hn = c .before .before .before .before .before .if1 .left in
+    (few-nodes _ _ _ _ hn (c .before .before .before .before .if2 .left) d x, rw length-take-le (omega arith))
 
 cast-t15 : tie.Need-cast-t15
 cast-t15 c =

@@ -25,7 +25,7 @@ first-repeated-requires : tie.Need-first-repeated-requires
 first-repeated-requires c κs =
     let pre = c .before .before .before .before .before .before .before .pre in
     let args = c .before .before .before .before .before .before .before .args in
-    (pre, none-entered (args .nodes .now) (args .pool .now))
+    (pre .0, pre .1, none-entered (args .nodes .now) (args .pool .now))
 
 enum-known-id : tie.Need-enum-known-id
 enum-known-id c = search needs
@@ -47,7 +47,8 @@ first-unknown-requires : tie.Need-first-unknown-requires
 first-unknown-requires c κs =
     let first-repeated = c .before .before .before .before .first-repeated in
     let enum-told2 = c .before .before .enum-told2 in
-    first-repeated .ensures .1 (enum-told2 .given .1)
+    let pre = c .before .before .before .before .before .before .before .before .before .before .before .before .pre in
+    (pre .1, first-repeated .ensures .1 (enum-told2 .given .1))
 
 enum-known-link : tie.Need-enum-known-link
 enum-known-link c = search needs
@@ -72,7 +73,8 @@ first-unknown-requires-2 : tie.Need-first-unknown-requires-2
 first-unknown-requires-2 c κs =
     let first-repeated = c .before .before .before .before .before .before .before .before .before .first-repeated in
     let enum-told2 = c .before .before .before .before .before .before .before .enum-told2 in
-    first-repeated .ensures .1 (enum-told2 .given .1)
+    let pre = c .before .before .before .before .before .before .before .before .before .before .before .before .before .before .before .before .before .pre in
+    (pre .1, first-repeated .ensures .1 (enum-told2 .given .1))
 
 enum-known-note : tie.Need-enum-known-note
 enum-known-note c = search needs

@@ -1,11 +1,13 @@
 -- `validate::first_bad_row` meets its contract. The loop's invariant: the first bad row is the first from node `i` on. Assumes nothing.
-use Prim.Native.Nat.{_-_}
+use Prim.Native.Nat.{_*_, _-_}
 use mathlib.Core.Path.{_≡_, _∙_, sym, ap}
+use mathlib.Core.Logic.{⊎-elim}
 use native.Mathlib.Omega.{arith}
 use borrow.Author.Needs.{needs}
 use Rattle.document.specs.WellFormed.{First}
 use Rattle.validate.specs.Words.{found, Searched}
-use Rattle.validate.proofs.Rows.{search-turn, search-end}
+use Rattle.validate.proofs.Ids.{kind-read}
+use Rattle.validate.proofs.Rows.{spot-other, search-turn, search-end}
 use Rattle.validate.proofs.faults.first_bad_row.Statement.{statement}
 use Rattle.validate.proofs.faults.first_bad_row.Tie as tie
 
@@ -20,20 +22,32 @@ loop-holds c = λ f s.
     let e : c .before .args .count - 0 ≡ c .before .args .count = omega arith in
     rw e s
 
+mul-if1 : tie.Need-mul-if1 Inv-loop μ-loop
+mul-if1 c = search needs
+
+mul-if1-2 : tie.Need-mul-if1-2 Inv-loop μ-loop
+mul-if1-2 c = search needs
+
+shared-slice-read-if1 : tie.Need-shared-slice-read-if1 Inv-loop μ-loop
+shared-slice-read-if1 c = search needs
+
+cast-if1 : tie.Need-cast-if1 Inv-loop μ-loop
+cast-if1 c = omega (arith, c .shared-slice-known2 .given (11 * c .before .before .loop .i))
+
 row-differs-requires : tie.Need-row-differs-requires Inv-loop μ-loop
-row-differs-requires c κs = search needs
+row-differs-requires c κs = sym (kind-read _ _) ∙ c .if1 .taken
 
 returns : tie.Need-returns Inv-loop μ-loop
 unfolding found
 returns c =
-    let args = c .before .before .before .before .before .args in
-    let loop = c .before .before .before .loop in
-    let loop-test = c .before .before .loop-test in
+    let args = c .before .before .before .before .before .before .before .args in
+    let loop = c .before .before .before .before .before .loop in
+    let loop-test = c .before .before .before .before .loop-test in
     let row-differs = c .before .row-differs in
     λ f s.
     let t = search-turn (args .nodes .now) (args .count) (loop .i) f (loop-test .taken) (loop .inv f s) in
     let r = row-differs .ensures (t .test) (t .spot) in
-    ap found (sym (t .here (sym r ∙ c .if1 .taken)))
+    ap found (sym (t .here (sym r ∙ c .if2 .taken)))
 
 add-i : tie.Need-add-i Inv-loop μ-loop
 add-i c = search needs
@@ -46,11 +60,10 @@ loop-again c =
     let args = c .before .before .before .before .before .args in
     let loop = c .before .before .before .loop in
     let loop-test = c .before .before .loop-test in
-    let row-differs = c .before .row-differs in
     λ f s.
     let t = search-turn (args .nodes .now) (args .count) (loop .i) f (loop-test .taken) (loop .inv f s) in
-    let r = row-differs .ensures (t .test) (t .spot) in
-    t .on (sym r ∙ c .if1 .left)
+    t .on (⊎-elim (λ w. sym (w .1 .ensures (t .test) (t .spot)) ∙ w .2 .left)
+    (λ w. sym (spot-other _ _ _ (t .spot) (λ k. w .left (kind-read _ _ ∙ k)))) (c .if1 .came))
 
 returns-2 : tie.Need-returns-2 Inv-loop μ-loop
 unfolding found
@@ -66,6 +79,10 @@ first-bad-row-spec =
     Inv-loop
     μ-loop
     loop-holds
+    mul-if1
+    mul-if1-2
+    shared-slice-read-if1
+    cast-if1
     row-differs-requires
     returns
     add-i

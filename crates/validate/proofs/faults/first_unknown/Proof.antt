@@ -1,11 +1,13 @@
 -- `validate::first_unknown` meets its contract. The loop's invariant: the first unknown target from node `i` on is the first of all. Assumes nothing.
-use Prim.Native.Nat.{_-_}
+use Prim.Native.Nat.{_*_, _-_}
 use mathlib.Core.Path.{_≡_, _∙_, sym, ap}
+use mathlib.Core.Logic.{⊎-elim}
 use native.Mathlib.Omega.{arith}
 use borrow.Author.Needs.{needs}
+use borrow.Author.Tests.{ne-eqb}
 use Rattle.document.specs.WellFormed.{unknownTarget}
 use Rattle.validate.specs.Words.{entriesFrom, idsBefore, found}
-use Rattle.validate.proofs.Ids.{rest, unknown-here, unknown-on, unknown-end}
+use Rattle.validate.proofs.Ids.{kind-read, rest, unknown-here, unknown-on, unknown-end}
 use Rattle.validate.proofs.faults.first_unknown.Statement.{statement}
 use Rattle.validate.proofs.faults.first_unknown.Tie as tie
 
@@ -22,16 +24,28 @@ loop-holds c =
     let e : c .before .before .args .count - 0 ≡ c .before .before .args .count = omega arith in
     rw e
 
+mul-if1 : tie.Need-mul-if1 Inv-loop μ-loop
+mul-if1 c = search needs
+
+mul-if1-2 : tie.Need-mul-if1-2 Inv-loop μ-loop
+mul-if1-2 c = search needs
+
+shared-slice-read-if1 : tie.Need-shared-slice-read-if1 Inv-loop μ-loop
+shared-slice-read-if1 c = search needs
+
+cast-if1 : tie.Need-cast-if1 Inv-loop μ-loop
+cast-if1 c = omega (arith, c .shared-slice-known3 .given (11 * c .before .before .loop .i))
+
 dangles-requires : tie.Need-dangles-requires Inv-loop μ-loop
-dangles-requires c κs = search needs
+dangles-requires c κs = (sym (kind-read _ _) ∙ c .if1 .taken, c .before .before .before .before .before .before .pre .1)
 
 returns : tie.Need-returns Inv-loop μ-loop
 unfolding found
 returns c =
-    let loop = c .before .before .before .loop in
-    let loop-test = c .before .before .loop-test in
+    let loop = c .before .before .before .before .before .loop in
+    let loop-test = c .before .before .before .before .loop-test in
     let dangles = c .before .dangles in
-    ap found (sym (unknown-here _ _ _ _ _ _ (loop-test .taken) (sym (dangles .ensures) ∙ c .if1 .taken)) ∙ loop .inv)
+    ap found (sym (unknown-here _ _ _ _ _ _ (loop-test .taken) (sym (dangles .ensures) ∙ c .if2 .taken)) ∙ loop .inv)
 
 add-i : tie.Need-add-i Inv-loop μ-loop
 add-i c = search needs
@@ -43,8 +57,9 @@ loop-again : tie.Need-loop-again Inv-loop μ-loop
 loop-again c =
     let loop = c .before .before .before .loop in
     let loop-test = c .before .before .loop-test in
-    let dangles = c .before .dangles in
-    unknown-on _ _ _ _ _ _ (loop-test .taken) (sym (dangles .ensures) ∙ c .if1 .left) ∙ loop .inv
+    unknown-on _ _ _ _ _ _ (loop-test .taken)
+    (⊎-elim (λ w. sym (w .1 .ensures) ∙ w .2 .left) (λ w. rw (ne-eqb _ _ (λ e. w .left (kind-read _ _ ∙ e)))) (c .if1 .came))
+    ∙ loop .inv
 
 returns-2 : tie.Need-returns-2 Inv-loop μ-loop
 unfolding found
@@ -59,6 +74,10 @@ first-unknown-spec =
     Inv-loop
     μ-loop
     loop-holds
+    mul-if1
+    mul-if1-2
+    shared-slice-read-if1
+    cast-if1
     dangles-requires
     returns
     add-i

@@ -1,34 +1,24 @@
 -- `validate::row_differs` meets its contract. Assumes nothing.
 use mathlib.Core.Path.{_∙_, sym}
 use borrow.Author.Needs.{needs}
-use Rattle.validate.proofs.Rows.{spot-other, spot-free, spot-no-head, spot-head}
+use Rattle.validate.proofs.Rows.{spot-free, spot-no-head, spot-head}
 use Rattle.validate.proofs.faults.row_differs.Statement.{statement}
 use Rattle.validate.proofs.faults.row_differs.Tie as tie
+
+binder-requires : tie.Need-binder-requires
+binder-requires c κs = search needs
 
 kind-at-requires : tie.Need-kind-at-requires
 kind-at-requires c κs = search needs
 
 returns : tie.Need-returns
 returns c =
-    let kind = c .before .kind-at in
-    λ b s.
-    spot-other _ _ b s (λ k. c .if1 .taken (kind .ensures ∙ k))
-
-binder-requires : tie.Need-binder-requires
-binder-requires c κs = search needs
-
-kind-at-requires-2 : tie.Need-kind-at-requires-2
-kind-at-requires-2 c κs = search needs
-
-returns-2 : tie.Need-returns-2
-returns-2 c =
-    let kind = c .before .before .before .before .kind-at in
-    let if1 = c .before .before .before .if1 in
     let binder = c .before .before .binder in
-    let kind2 = c .before .kind-at2 in
+    let kind = c .before .kind-at in
+    let pre = c .before .before .before .before .pre in
     λ b s.
-    spot-free _ _ b s (sym (kind .ensures) ∙ if1 .left) _
-    (binder .ensures) (λ t. c .if2 .taken (kind2 .ensures ∙ t))
+    spot-free _ _ b s pre _
+    (binder .ensures) (λ t. c .if1 .taken (kind .ensures ∙ t))
 
 head-names-requires : tie.Need-head-names-requires
 head-names-requires c κs = search needs
@@ -39,34 +29,32 @@ enum-known-names c = search needs
 enum-told : tie.Need-enum-told
 enum-told c = search needs
 
-returns-3 : tie.Need-returns-3
-returns-3 c =
-    let kind = c .before .before .before .before .before .before .before .kind-at in
-    let if1 = c .before .before .before .before .before .before .if1 in
+returns-2 : tie.Need-returns-2
+returns-2 c =
     let binder = c .before .before .before .before .before .binder in
-    let kind2 = c .before .before .before .before .kind-at2 in
-    let if2 = c .before .before .before .if2 in
+    let kind = c .before .before .before .before .kind-at in
+    let if1 = c .before .before .before .if1 in
     let head-names = c .before .before .head-names in
+    let pre = c .before .before .before .before .before .before .before .pre in
     λ b s.
-    spot-no-head _ _ b s (sym (kind .ensures) ∙ if1 .left) _
-    (binder .ensures) (sym (kind2 .ensures) ∙ if2 .left) _
+    spot-no-head _ _ b s pre _
+    (binder .ensures) (sym (kind .ensures) ∙ if1 .left) _
     (head-names .ensures) (c .enum-told .given .1)
 
 child-count-requires : tie.Need-child-count-requires
 child-count-requires c κs = search needs
 
-returns-4 : tie.Need-returns-4
-returns-4 c =
-    let kind = c .before .before .before .before .before .before .before .before .before .kind-at in
-    let if1 = c .before .before .before .before .before .before .before .before .if1 in
+returns-3 : tie.Need-returns-3
+returns-3 c =
     let binder = c .before .before .before .before .before .before .before .binder in
-    let kind2 = c .before .before .before .before .before .before .kind-at2 in
-    let if2 = c .before .before .before .before .before .if2 in
+    let kind = c .before .before .before .before .before .before .kind-at in
+    let if1 = c .before .before .before .before .before .if1 in
     let head-names = c .before .before .before .before .head-names in
     let names = c .before .before .names in
+    let pre = c .before .before .before .before .before .before .before .before .before .pre in
     λ b s.
-    spot-head _ _ b s (sym (kind .ensures) ∙ if1 .left) _
-    (binder .ensures) (sym (kind2 .ensures) ∙ if2 .left) _
+    spot-head _ _ b s pre _
+    (binder .ensures) (sym (kind .ensures) ∙ if1 .left) _
     (head-names .ensures) _ _
     (names .given .1) (c .child-count .ensures)
 
@@ -74,14 +62,12 @@ pub row-differs-spec : {M : Type 1} → statement M
 row-differs-spec =
     tie.close
     (tie.spec
+    binder-requires
     kind-at-requires
     returns
-    binder-requires
-    kind-at-requires-2
-    returns-2
     head-names-requires
     enum-known-names
     enum-told
-    returns-3
+    returns-2
     child-count-requires
-    returns-4)
+    returns-3)
