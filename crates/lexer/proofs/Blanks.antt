@@ -92,11 +92,3 @@ run-part (b ∷ s) = go (isOrdinary b) (run-part s)
     go : (t : Bool) → take (length (ordinaryRun s)) s ≡ ordinaryRun s → take (length (cond t (b ∷ ordinaryRun s) [])) (b ∷ s) ≡ cond t (b ∷ ordinaryRun s) []
     go true e = ap (λ (l : List ℕ). b ∷ l) e
     go false e = refl
-
--- A symbol that is not empty begins with the byte at its place.
-pub run-some : (text : List ℕ) (i : ℕ) → 0 < length (ordinaryRun (drop i text))
-    → (i < length text) × (ordinaryRun (drop i text) ≡ getD text i 0 ∷ ordinaryRun (drop (i + 1) text))
-unfolding ordinaryRun
-run-some text i h =
-    let inside : i < length text = omega (arith, run-fits (drop i text), length-drop i text) in
-    (inside, bool-case (isOrdinary (getD text i 0)) (run-turn text i inside) (λ e. absurd (omega (arith, ap length (run-stop text i inside e)))))

@@ -12,9 +12,11 @@ use Rattle.utf8.specs.Scalar.{encode}
 use Rattle.elements.specs.Characters.{characterOf}
 use Rattle.syntax.specs.Syntax.{Piece, raw, letter, number, hexValue, isPiece, pieceValue, piecesValue}
 use Rattle.syntax.specs.Scan.{Quoted, closed, unclosed, bad-escape, piece, ordinaryRun, quotedFrom}
-use Rattle.lexer.specs.Token.{stringAt, contentOf, pieceAt, fits}
+use Rattle.syntax.specs.Byte.{byteClass}
+use Rattle.lexer.specs.Token.{codeOf, stringAt, contentOf, pieceAt, fits}
 use Rattle.elements.proofs.Characters.{none-high}
-use Rattle.lexer.proofs.Blanks.{run-some}
+use Rattle.lexer.proofs.Blanks.{run-turn, run-stop}
+use Rattle.lexer.proofs.Codes.{ordinary-yes, ordinary-no}
 use Rattle.lexer.proofs.PieceAt.{piece-few, Told, Stands, stands-told, stays, moves, read-on}
 use Rattle.lexer.proofs.Contents.{isClosed, piece-closed, no-piece, closed-string, content-inner, fault-nothing}
 
@@ -48,34 +50,27 @@ piece-fits n (number d₁ d₂ d₃ d₄) = encode-fits n (hexValue d₁ d₂ d�
 
 -- ---- a symbol
 
--- From place i on the same is left to be found of a symbol, which ends at `end`, as at first.
-pub record SymbolLeft (text : List ℕ) (place sort end i : ℕ) : Type 0 where
-  pub size : i + length (ordinaryRun (drop i text)) ≡ end
-  pub same : fits sort (ordinaryRun (drop i text)) ≡ fits sort (ordinaryRun (drop place text))
-
-module _ (text : List ℕ) (place sort end i : ℕ) (c : SymbolLeft text place sort end i) where
-  pub symbol-inside : i < end → i < length text
-  symbol-inside h = run-some text i (omega (arith, c .size)) .0
-
-  module _ (t : Bool) (h : i < end) (e : t ≡ characterOf sort (getD text i 0)) where
-    symbol-first : fits sort (ordinaryRun (drop i text)) ≡ t && fits sort (ordinaryRun (drop (i + 1) text))
-    unfolding fits
-    symbol-first = rw (run-some text i (omega (arith, c .size)) .1, e)
-
-    pub symbol-turn : t ≡ true → SymbolLeft text place sort end (i + 1)
-    symbol-turn f =
-        record { size = omega (arith, ap length (run-some text i (omega (arith, c .size)) .1), c .size); same = rw f at (sym symbol-first) ∙ c .same }
-
-    pub symbol-refused : t ≡ false → false ≡ fits sort (ordinaryRun (drop place text))
-    symbol-refused f = rw f at (sym symbol-first) ∙ c .same
-
-  pub symbol-done : end ≤ i → true ≡ fits sort (ordinaryRun (drop place text))
+-- The byte at place i of a text has the class of this number.
+module _ (text : List ℕ) (sort i class : ℕ) (h : i < length text) (e : class ≡ codeOf (byteClass (getD text i 0))) where
+  pub symbol-done : (class ≡ 4 → ⊥) → fits sort (ordinaryRun (drop i text)) ≡ true
   unfolding fits
-  symbol-done h = go (ordinaryRun (drop i text)) (omega (arith, c .size)) (c .same)
-    where
-      go : (r : List ℕ) → length r ≡ 0 → fits sort r ≡ fits sort (ordinaryRun (drop place text)) → true ≡ fits sort (ordinaryRun (drop place text))
-      go [] n e = e
-      go (b ∷ r) n e = absurd (omega arith)
+  symbol-done f = rw (run-stop text i h (ordinary-no _ _ e f))
+
+  symbol-first : class ≡ 4
+      → fits sort (ordinaryRun (drop i text)) ≡ characterOf sort (getD text i 0) && fits sort (ordinaryRun (drop (i + 1) text))
+  unfolding fits
+  symbol-first f = rw (run-turn text i h (ordinary-yes _ _ e f))
+
+  pub symbol-turn : class ≡ 4 → characterOf sort (getD text i 0) ≡ true
+      → fits sort (ordinaryRun (drop (i + 1) text)) ≡ fits sort (ordinaryRun (drop i text))
+  symbol-turn f t = rw t at (sym (symbol-first f))
+
+  -- At a byte that is no such character the symbol does not fit, if it goes on there.
+  pub symbol-refused : characterOf sort (getD text i 0) ≡ false → not (eqb class 4) ≡ fits sort (ordinaryRun (drop i text))
+  symbol-refused t =
+      bool-case (eqb class 4)
+      (λ y. rw y (rw t at (sym (symbol-first (eqb-true class 4 y)))))
+      (λ n. rw n (sym (symbol-done (eqb-false class 4 n))))
 
 -- ---- a string
 

@@ -5,7 +5,7 @@ use Prim.Native.Nat.{ℕ, _≤_, _<_}
 use native.Mathlib.Omega.{arith}
 use lib.Dec.{eqb}
 use borrow.Author.Tests.{eq-eqb, ne-eqb, eqb-false, lt-ltb, le-ltb}
-use Rattle.laws.proofs.Booleans.{bool-case}
+use Rattle.laws.proofs.Booleans.{bool-case, cond-case}
 use Rattle.syntax.specs.Byte.{round, square, ByteClass, blank, return, quote, forbidden, ordinary, opening, closing, byteClass, blankClass, ordinaryClass, isBlank, isOrdinary}
 use Rattle.lexer.specs.Token.{codeOf}
 
@@ -24,6 +24,20 @@ forbidden-byte b h p q r = rw (ne-eqb b 0x09 p, ne-eqb b 0x0A q, ne-eqb b 0x20 (
 pub blank-byte : (b : ℕ) → 0x09 ≤ b → b < 0x0B → codeOf (byteClass b) ≡ 0
 unfolding byteClass codeOf
 blank-byte b h k = bool-case (eqb b 0x09) (λ e. rw e) (λ e. rw (e, eq-eqb b 0x0A (omega (arith, eqb-false b 0x09 e))))
+
+abbrev NoBlank : ByteClass → Type 0
+NoBlank c = 0 < codeOf c
+
+-- A byte above the space is no white space.
+pub above-space : (b : ℕ) → 0x20 < b → NoBlank (byteClass b)
+unfolding byteClass codeOf
+above-space b h =
+    rw (ne-eqb b 0x09 (omega arith), ne-eqb b 0x0A (omega arith), ne-eqb b 0x20 (omega arith), ne-eqb b 0x0D (omega arith), le-ltb b 0x20 (omega arith))
+    (cond-case NoBlank (eqb b 0x22) (λ e. omega arith)
+    (λ e. cond-case NoBlank (eqb b 0x28) (λ e. omega arith)
+    (λ e. cond-case NoBlank (eqb b 0x29) (λ e. omega arith)
+    (λ e. cond-case NoBlank (eqb b 0x5B) (λ e. omega arith)
+    (λ e. cond-case NoBlank (eqb b 0x5D) (λ e. omega arith) (λ e. omega arith))))))
 
 -- The class that has a number.
 unfoldable pub classBy : ℕ → ByteClass

@@ -11,7 +11,7 @@ use Rattle.elements.specs.Class.{classOf}
 use Rattle.syntax.specs.Byte.{round, square, ByteClass, blank, return, quote, forbidden, ordinary, opening, closing, byteClass}
 use Rattle.syntax.specs.Scan.{ordinaryRun}
 use Rattle.lexer.specs.Token.{codeOf, blanks, stringAt, leadClassAt, leadLength, Seen, seenEnd, seenBy, seenFirst, seen}
-use Rattle.lexer.proofs.Blanks.{blanks-end, blank-stop, blanks-fit, run-fits, run-part}
+use Rattle.lexer.proofs.Blanks.{blank-stop, blanks-fit, run-fits, run-part}
 use Rattle.lexer.proofs.Codes.{classBy, code-class}
 
 -- What is seen has these fields.
@@ -83,20 +83,14 @@ pub seen-after : (text : List ℕ) (n at : ℕ) → at ≡ n + blanks (drop n te
 unfolding seen
 seen-after text n at e = rw (e, drop-drop (blanks (drop n text)) n text)
 
--- No white space stands at the text's end or at a closing bracket, where the run ends.
-seen-here : (text : List ℕ) (n : ℕ) → blanks (drop n text) ≡ 0 → seenFirst n (drop n text) ≡ seen n (drop n text)
-seen-here text n e = seen-after text n n (omega arith)
-
-pub seen-at-end : (text : List ℕ) (n : ℕ) → length text ≤ n → Fields 0 n 0 n 0 (seen n (drop n text))
-seen-at-end text n h = rw (seen-here text n (blanks-end text n h)) at (seen-past text n h)
-
+-- No white space stands at a closing bracket, where the run ends.
 pub seen-closing : (text : List ℕ) (n class : ℕ) → n < length text → class ≡ codeOf (byteClass (getD text n 0)) → 7 ≤ class
     → Fields 0 n 0 n 0 (seen n (drop n text))
 unfolding byteClass codeOf
 seen-closing text n class h e k =
     let not-return : getD text n 0 ≡ 0x0D → ⊥ = λ g. let one : class ≡ 1 = rw g at e in omega arith in
     let none : blanks (drop n text) ≡ 0 = blank-stop text n class h e (λ f. omega arith) not-return in
-    rw (seen-here text n none) at (seen-other text n class h e (λ f. omega arith) (λ f. omega arith) (inr k))
+    rw (seen-after text n n (omega arith)) at (seen-other text n class h e (λ f. omega arith) (λ f. omega arith) (inr k))
 
 -- The name that leads a list, whose bracket stands before place n.
 module _ (text : List ℕ) (n from next : ℕ) (e : from ≡ n + blanks (drop n text)) (f : next ≡ from + length (ordinaryRun (drop from text))) where

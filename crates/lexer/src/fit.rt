@@ -1,22 +1,28 @@
 // Whether what a symbol or string stands for are characters of a sort: of a type, of an id or of a URI.
+use super::class::ORDINARY;
 use super::class::byte_at;
+use super::class::byte_class;
 use super::pieces::piece;
 use super::string::string_at;
-use super::token::symbol_end;
 use kind::character;
 ghost use mathlib.Core.Path.{_≡_};
 ghost use lib.ListN.{drop};
 ghost use Rattle.syntax.specs.Scan.{ordinaryRun, quotedFrom};
 ghost use Rattle.lexer.specs.Token.{atomValue, contentOf, fits};
 
+// The symbol ends at the first byte that is no part of one, which may be a character of a URI.
 fn symbol_fits(text: &[u8], place: usize, sort: u8) -> bool
     ensures { λ r. ⌜ r ≡ fits sort (ordinaryRun (drop place (now (text .entry)))) ⌝ }
 {
-    let end = symbol_end(text, place);
     let mut i = place;
-    while i < end {
-        if !character(sort, text[i]) {
-            return false;
+    while i < text.len() {
+        let b = text[i];
+        let class = byte_class(b);
+        if !character(sort, b) {
+            return class != ORDINARY;
+        }
+        if class != ORDINARY {
+            return true;
         }
         i += 1;
     }

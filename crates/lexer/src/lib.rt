@@ -10,14 +10,11 @@ mod stores; // stores.rt: what a symbol or string stands for, written out
 mod string; // string.rt: quoted strings
 mod token; // token.rt: white space, symbols and what is seen at a place
 
+pub use class::ROUND_END;
 pub use class::byte_class;
 pub use fit::atom_fits;
 pub use scanner::Scanned;
 pub use scanner::scan;
 pub use stores::put_atom;
-pub use string::StringEnd;
-pub use string::string_at;
 pub use token::Seen;
 pub use token::look;
-pub use token::skip_blanks;
-pub use token::symbol_end;

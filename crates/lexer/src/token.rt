@@ -17,13 +17,17 @@ pub struct Seen {
     pub length: usize,
 }
 
-// The place after white space: a carriage return is white space where a line feed follows.
+// The place after white space: a carriage return is white space where a line feed follows. Bytes above the space, as most are,
+// are told by one test.
 pub fn skip_blanks(text: &[u8], place: usize) -> usize
     ensures { λ r. ⌜ r ≡ place + blanks (drop place (now (text .entry))) ⌝ }
 {
     let mut at = place;
     while at < text.len() {
         let b = text[at];
+        if 0x20 < b {
+            return at;
+        }
         if class::byte_class(b) != class::BLANK {
             if b != 0x0D {
                 return at;
@@ -148,19 +152,7 @@ fn first_seen(text: &[u8], place: usize) -> Seen
     list_seen(text, place)
 }
 
-// What is seen from a place on, whatever stands there.
-fn look_on(text: &[u8], place: usize) -> Seen
-    ensures { λ r. ⌜ (r .sort ≡ seen place (drop place (now (text .entry))) .sort)
-        × (r .place ≡ seen place (drop place (now (text .entry))) .place)
-        × (r .class ≡ seen place (drop place (now (text .entry))) .class)
-        × (r .next ≡ seen place (drop place (now (text .entry))) .next)
-        × (r .length ≡ seen place (drop place (now (text .entry))) .length) ⌝ }
-{
-    first_seen(text, skip_blanks(text, place))
-}
-
-// What is seen from a place on. Where the run ends without white space, as most do, that is told at once: a function this small
-// is inlined.
+// What is seen from a place on.
 pub fn look(text: &[u8], place: usize) -> Seen
     ensures { λ r. ⌜ (r .sort ≡ seen place (drop place (now (text .entry))) .sort)
         × (r .place ≡ seen place (drop place (now (text .entry))) .place)
@@ -168,11 +160,5 @@ pub fn look(text: &[u8], place: usize) -> Seen
         × (r .next ≡ seen place (drop place (now (text .entry))) .next)
         × (r .length ≡ seen place (drop place (now (text .entry))) .length) ⌝ }
 {
-    if text.len() <= place {
-        return nothing_seen(place);
-    }
-    if class::ROUND_END <= class::byte_class(text[place]) {
-        return nothing_seen(place);
-    }
-    look_on(text, place)
+    first_seen(text, skip_blanks(text, place))
 }

@@ -1,32 +1,39 @@
--- `fit::symbol_fits` meets its contract. The loop's invariant is `SymbolLeft`. Assumes nothing.
-use mathlib.Core.Path.{refl, sym}
+-- `fit::symbol_fits` meets its contract. The loop's invariant: what is left of the symbol from `i` on fits if the whole does. Assumes nothing.
+use mathlib.Core.Path.{_≡_, refl, sym, _∙_}
 use Prim.Native.Nat.{_-_}
 use borrow.Author.Needs.{needs}
 use borrow.Author.Tests.{not-true, not-false}
-use Rattle.lexer.proofs.Characters.{SymbolLeft, symbol-inside, symbol-turn, symbol-refused, symbol-done}
+use lib.ListN.{length, drop, drop-of-length-le}
+use Rattle.syntax.specs.Scan.{ordinaryRun}
+use Rattle.lexer.specs.Token.{fits}
+use Rattle.lexer.proofs.Characters.{symbol-done, symbol-turn, symbol-refused}
 use Rattle.lexer.proofs.fit.symbol_fits.Statement.{statement}
 use Rattle.lexer.proofs.fit.symbol_fits.Tie as tie
 
 abbrev Inv-loop : tie.InvT-loop
-Inv-loop text place sort end i₀ i = SymbolLeft text place sort end i
+Inv-loop text place sort i₀ i = fits sort (ordinaryRun (drop i text)) ≡ fits sort (ordinaryRun (drop place text))
 
 abbrev μ-loop : tie.MeasureT-loop
-μ-loop text place sort end i₀ i = end - i
-
-symbol-end-requires : tie.Need-symbol-end-requires Inv-loop μ-loop
-symbol-end-requires c κs = search needs
+μ-loop text place sort i₀ i = length text - i
 
 loop-holds : tie.Need-loop-holds Inv-loop μ-loop
-loop-holds c = record { size = sym (c .symbol-end .ensures); same = refl }
+loop-holds c = refl
 
-shared-slice-read-character : tie.Need-shared-slice-read-character Inv-loop μ-loop
-shared-slice-read-character c = symbol-inside (c .before .before .before .before .before .args .text .now) (c .before .before .before .before .before .args .place) (c .before .before .before .before .before .args .sort) (c .before .before .before .symbol-end .result) (c .before .before .loop .i) (c .before .before .loop .inv) (c .before .loop-test .taken)
+shared-slice-read-b : tie.Need-shared-slice-read-b Inv-loop μ-loop
+shared-slice-read-b c = search needs
+
+byte-class-requires : tie.Need-byte-class-requires Inv-loop μ-loop
+byte-class-requires c κs = search needs
 
 character-requires : tie.Need-character-requires Inv-loop μ-loop
 character-requires c κs = search needs
 
 returns : tie.Need-returns Inv-loop μ-loop
-returns c = symbol-refused (c .before .before .before .before .before .before .before .args .text .now) (c .before .before .before .before .before .before .before .args .place) (c .before .before .before .before .before .before .before .args .sort) (c .before .before .before .before .before .symbol-end .result) (c .before .before .before .before .loop .i) (c .before .before .before .before .loop .inv) (c .before .character .result) (c .before .before .before .loop-test .taken) (c .before .character .ensures) (not-true _ (c .if1 .taken))
+returns c =
+    symbol-refused _ _ (c .before .before .before .before .before .loop .i) _ (c .before .before .before .before .loop-test .taken) (c .before .before .byte-class .ensures) (sym (c .before .character .ensures) ∙ not-true _ (c .if1 .taken)) ∙ c .before .before .before .before .before .loop .inv
+
+returns-2 : tie.Need-returns-2 Inv-loop μ-loop
+returns-2 c = sym (symbol-done _ _ (c .before .before .before .before .before .before .loop .i) _ (c .before .before .before .before .before .loop-test .taken) (c .before .before .before .byte-class .ensures) (c .if2 .taken)) ∙ c .before .before .before .before .before .before .loop .inv
 
 add-i : tie.Need-add-i Inv-loop μ-loop
 add-i c = search needs
@@ -35,10 +42,13 @@ loop-less : tie.Need-loop-less Inv-loop μ-loop
 loop-less c = search needs
 
 loop-again : tie.Need-loop-again Inv-loop μ-loop
-loop-again c = symbol-turn (c .before .before .before .before .before .before .before .args .text .now) (c .before .before .before .before .before .before .before .args .place) (c .before .before .before .before .before .before .before .args .sort) (c .before .before .before .before .before .symbol-end .result) (c .before .before .before .before .loop .i) (c .before .before .before .before .loop .inv) (c .before .character .result) (c .before .before .before .loop-test .taken) (c .before .character .ensures) (not-false _ (c .if1 .left))
+loop-again c =
+    symbol-turn _ _ (c .before .before .before .before .before .before .loop .i) _ (c .before .before .before .before .before .loop-test .taken) (c .before .before .before .byte-class .ensures) (c .if2 .left) (sym (c .before .before .character .ensures) ∙ not-false _ (c .before .if1 .left))
+    ∙ c .before .before .before .before .before .before .loop .inv
 
-returns-2 : tie.Need-returns-2 Inv-loop μ-loop
-returns-2 c = symbol-done (c .before .before .before .before .args .text .now) (c .before .before .before .before .args .place) (c .before .before .before .before .args .sort) (c .before .before .symbol-end .result) (c .before .loop .i) (c .before .loop .inv) (c .loop-test .left)
+returns-3 : tie.Need-returns-3 Inv-loop μ-loop
+unfolding ordinaryRun fits
+returns-3 c = rw (drop-of-length-le _ (c .loop-test .left)) at (c .before .loop .inv)
 
 pub symbol-fits-spec : {M : Type 1} → statement M
 symbol-fits-spec =
@@ -46,12 +56,13 @@ symbol-fits-spec =
     (tie.spec
     Inv-loop
     μ-loop
-    symbol-end-requires
     loop-holds
-    shared-slice-read-character
+    shared-slice-read-b
+    byte-class-requires
     character-requires
     returns
+    returns-2
     add-i
     loop-less
     loop-again
-    returns-2)
+    returns-3)

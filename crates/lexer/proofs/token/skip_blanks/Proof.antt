@@ -7,6 +7,7 @@ use borrow.Author.Needs.{needs}
 use lib.ListN.{length, drop}
 use Rattle.lexer.specs.Token.{blanks}
 use Rattle.lexer.proofs.Blanks.{blanks-end, blank-on, blank-stop, return-on, return-stop}
+use Rattle.lexer.proofs.Codes.{above-space}
 use Rattle.lexer.proofs.token.skip_blanks.Statement.{statement}
 use Rattle.lexer.proofs.token.skip_blanks.Tie as tie
 
@@ -22,11 +23,22 @@ loop-holds c = refl
 shared-slice-read-b : tie.Need-shared-slice-read-b Inv-loop μ-loop
 shared-slice-read-b c = search needs
 
+returns : tie.Need-returns Inv-loop μ-loop
+returns c =
+    let args = c .before .before .before .before .before .args in
+    let loop = c .before .before .before .loop in
+    let not-blank = above-space _ (c .if1 .taken) in
+    omega (arith, blank-stop (args .text .now) (loop .at) _ (c .before .before .loop-test .taken) refl (λ f. omega arith) (λ f. omega arith), loop .inv)
+
 byte-class-requires : tie.Need-byte-class-requires Inv-loop μ-loop
 byte-class-requires c κs = search needs
 
-returns : tie.Need-returns Inv-loop μ-loop
-returns c = omega (arith, blank-stop (c .before .before .before .before .before .before .before .args .text .now) (c .before .before .before .before .before .loop .at) (c .before .before .byte-class .result) (c .before .before .before .before .loop-test .taken) (c .before .before .byte-class .ensures) (c .before .if1 .taken) (c .if2 .taken), c .before .before .before .before .before .loop .inv)
+returns-2 : tie.Need-returns-2 Inv-loop μ-loop
+returns-2 c =
+    let args = c .before .before .before .before .before .before .before .before .args in
+    let loop = c .before .before .before .before .before .before .loop in
+    let class = c .before .before .byte-class in
+    omega (arith, blank-stop (args .text .now) (loop .at) (class .result) (c .before .before .before .before .before .loop-test .taken) (class .ensures) (c .before .if2 .taken) (c .if3 .taken), loop .inv)
 
 add-byte-at : tie.Need-add-byte-at Inv-loop μ-loop
 add-byte-at c = search needs
@@ -34,8 +46,15 @@ add-byte-at c = search needs
 byte-at-requires : tie.Need-byte-at-requires Inv-loop μ-loop
 byte-at-requires c κs = search needs
 
-returns-2 : tie.Need-returns-2 Inv-loop μ-loop
-returns-2 c = omega (arith, return-stop (c .before .before .before .before .before .before .before .before .before .args .text .now) (c .before .before .before .before .before .before .before .loop .at) (c .before .before .before .before .byte-class .result) (c .before .before .before .before .before .before .loop-test .taken) (c .before .before .before .before .byte-class .ensures) (c .before .byte-at .result) (c .before .before .before .if1 .taken) (c .before .before .if2 .left) (c .before .byte-at .ensures) (c .if3 .taken), c .before .before .before .before .before .before .before .loop .inv)
+returns-3 : tie.Need-returns-3 Inv-loop μ-loop
+returns-3 c =
+    let args = c .before .before .before .before .before .before .before .before .before .before .args in
+    let loop = c .before .before .before .before .before .before .before .before .loop in
+    let loop-test = c .before .before .before .before .before .before .before .loop-test in
+    let class = c .before .before .before .before .byte-class in
+    let if2 = c .before .before .before .if2 in
+    let next = c .before .byte-at in
+    omega (arith, return-stop (args .text .now) (loop .at) (class .result) (loop-test .taken) (class .ensures) (next .result) (if2 .taken) (c .before .before .if3 .left) (next .ensures) (c .if4 .taken), loop .inv)
 
 add-at : tie.Need-add-at Inv-loop μ-loop
 add-at c = search needs
@@ -45,13 +64,17 @@ loop-less c = search needs
 
 loop-again : tie.Need-loop-again Inv-loop μ-loop
 loop-again c =
+    let args = c .before .before .before .before .before .before .before .args in
+    let loop = c .before .before .before .before .before .loop in
+    let loop-test = c .before .before .before .before .loop-test in
+    let class = c .before .byte-class in
     ⊎-elim
-    (λ w. return-on (c .before .before .before .before .before .before .args .text .now) (c .before .before .before .before .loop .at) (c .before .byte-class .result) (c .before .before .before .loop-test .taken) (c .before .byte-class .ensures) (w .2 .result) (w .0 .taken) (w .1 .left) (w .2 .ensures) (w .3 .left) ∙ c .before .before .before .before .loop .inv)
-    (λ w. blank-on (c .before .before .before .before .before .before .args .text .now) (c .before .before .before .before .loop .at) (c .before .byte-class .result) (c .before .before .before .loop-test .taken) (c .before .byte-class .ensures) (w .left) ∙ c .before .before .before .before .loop .inv)
-    (c .if1 .came)
+    (λ w. return-on (args .text .now) (loop .at) (class .result) (loop-test .taken) (class .ensures) (w .2 .result) (w .0 .taken) (w .1 .left) (w .2 .ensures) (w .3 .left))
+    (λ w. blank-on (args .text .now) (loop .at) (class .result) (loop-test .taken) (class .ensures) (w .left)) (c .if2 .came)
+    ∙ loop .inv
 
-returns-3 : tie.Need-returns-3 Inv-loop μ-loop
-returns-3 c = omega (arith, blanks-end (c .before .before .before .args .text .now) (c .before .loop .at) (c .loop-test .left), c .before .loop .inv)
+returns-4 : tie.Need-returns-4 Inv-loop μ-loop
+returns-4 c = omega (arith, blanks-end (c .before .before .before .args .text .now) (c .before .loop .at) (c .loop-test .left), c .before .loop .inv)
 
 pub skip-blanks-spec : {M : Type 1} → statement M
 skip-blanks-spec =
@@ -61,12 +84,13 @@ skip-blanks-spec =
     μ-loop
     loop-holds
     shared-slice-read-b
-    byte-class-requires
     returns
+    byte-class-requires
+    returns-2
     add-byte-at
     byte-at-requires
-    returns-2
+    returns-3
     add-at
     loop-less
     loop-again
-    returns-3)
+    returns-4)
