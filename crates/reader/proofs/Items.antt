@@ -16,7 +16,7 @@ use Rattle.elements.specs.Inside.{State, expecting, holding}
 use Rattle.kind.specs.Machine.{stateOf}
 use Rattle.document.specs.Faults.{Begun, Next, Taken, Allowed}
 use Rattle.document.proofs.Steps.{begunOf, stepped as step-says}
-use Rattle.reader.specs.Turn.{Takes, Opens, Passes}
+use Rattle.reader.specs.Turn.{Takes}
 
 -- No parameter may come.
 abbrev pub Bare : State → Type 0
@@ -54,19 +54,10 @@ none-next e (Next.passed-over f r) = omega (arith, ap length e)
 none-next e (Next.both-passed-over f g r) = omega (arith, ap length e)
 
 -- What a list takes is an item, and after it no parameter may come.
-item-taken : (k st c st′ : ℕ) → IsList k → Bare (stateOf k st) → Takes k st c st′ → (c ≡ 18) × Bare (stateOf k st′)
+pub item-taken : (k st c st′ : ℕ) → IsList k → Bare (stateOf k st) → Takes k st c st′ → (c ≡ 18) × Bare (stateOf k st′)
 item-taken k st c st′ l b e = by (stateOf k st) (stateOf k st′) b (rw e at (step-says k (stateOf k st) c))
   where
     by : (s s′ : State) → Bare s → Taken k c (begunOf s) (begunOf s′) → (c ≡ 18) × Bare s′
     by (expecting ps) (expecting qs) b (Taken.parameter r) = absurd (none-next b r)
     by (expecting ps) (holding q) b (Taken.first-child d i a) = (an-item (list-content k l) a, tt)
     by (holding q) (holding q′) b (Taken.next-child i a f) = (an-item (list-content k l) a, tt)
-
--- So a list in it is an item.
-pub opens-item : {s : List ℕ} {k i st place c j st′ : ℕ} → IsList k → Bare (stateOf k st) → Opens s k i st place c j st′
-    → (c ≡ 18) × Bare (stateOf k st′)
-opens-item {k} {st} {c} {st′} l b o = item-taken k st c st′ l b (o .taken)
-
-pub still-bare : {s t t′ : List ℕ} {at k i st n p node j st′ n′ p′ : ℕ} → IsList k → Bare (stateOf k st)
-    → Passes s at k i st n p node t j st′ n′ p′ t′ → Bare (stateOf k st′)
-still-bare {k} {st} {st′} l b o = item-taken k st (o .class) st′ l b (o .taken) .1

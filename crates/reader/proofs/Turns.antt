@@ -99,6 +99,11 @@ Looked s i sort q c j l =
     (sort ≡ seen i (drop i s) .sort) × (q ≡ seen i (drop i s) .place) × (c ≡ seen i (drop i s) .class)
     × (j ≡ seen i (drop i s) .next) × (l ≡ seen i (drop i s) .length)
 
+-- The run ends at place i itself.
+pub ended-here : (s : List ℕ) (i : ℕ) → (seen i (drop i s) .sort ≡ 0) × (seen i (drop i s) .place ≡ i)
+    → Looked s i 0 i (seen i (drop i s) .class) (seen i (drop i s) .next) (seen i (drop i s) .length)
+ended-here s i e = (sym (e .0), sym (e .1), refl, refl, refl)
+
 module _ {s : List ℕ} {r : Seen} where
   answer-end : (at k st n p : ℕ) {es : Exprs} {e : ℕ} → SeenAs s r es e → r .sort ≡ 0
       → walkedTo (r .place) n p (cond (ended k (stateOf k st)) fine (fault 9 at)) ≡ whole at k st n p e es
@@ -152,6 +157,13 @@ module _ {s : List ℕ} {r : Seen} where
   tapes-end n node t (saw-symbol h c l f u) z = let o : _≡_ {A = ℕ} 0 1 = cc in absurd (omega arith)
   tapes-end n node t (saw-string h c l f u) z = let o : _≡_ {A = ℕ} 0 1 = cc in absurd (omega arith)
   tapes-end n node t (saw-list x h c f u d b v) z = let o : _≡_ {A = ℕ} 0 1 = cc in absurd (omega arith)
+
+  -- No symbol and no string is an item.
+  item-list : {es : Exprs} {e : ℕ} → SeenAs s r es e → (r .sort ≡ 0 → ⊥) → r .class ≡ Class.item → r .sort ≡ 3
+  item-list (saw-end h) z a = absurd (z h)
+  item-list (saw-symbol h c l f t) z a = absurd (omega (arith, sym c ∙ a))
+  item-list (saw-string h c l f t) z a = absurd (omega (arith, sym c ∙ a))
+  item-list (saw-list x h c f t d b u) z a = h
 
   pub open-list : {es : Exprs} {e : ℕ} → SeenAs s r es e → r .sort ≡ 3 → (r .class ≡ 0 → ⊥) → Opened s (r .place) (r .class) (r .next) es e
   open-list (saw-end h) z a = let w : _≡_ {A = ℕ} 0 1 = cc in absurd (omega arith)
@@ -245,14 +257,23 @@ module _ {s : List ℕ} {k i st sort q c j l : ℕ} (looked : Looked s i sort q 
           },
         )
 
-    pub turn-list : f ≡ 0 → i < j → sort ≡ 3 → ((i < j) × (j ≤ length s) × (q ≤ length s)) × Opens s k i st q c j st′
-    turn-list h v a =
+    -- A list is taken; where what is taken is an item, it is one.
+    opened-list : ((es : Exprs) (e : ℕ) → SeenAs s (seen i (drop i s)) es e → seen i (drop i s) .sort ≡ 3) → f ≡ 0 → i < j
+        → ((i < j) × (j ≤ length s) × (q ≤ length s)) × Opens s k i st q c j st′
+    opened-list a h v =
         let taken = step-goes k f st′ _ h step in (
           omega (arith, seen-within s i looked within some v, seen-bounds s i within .place-within, looked .1),
           record {
             taken = taken;
             opened = λ es e u.
+                let first = look-stands s i e es u in
                 rw (looked .1, looked .2, looked .3)
-                (open-list (look-stands s i e es u) (sym (looked .0) ∙ a) (λ e. none-taken k st st′ (rw (looked .2 ∙ e) at taken)));
+                (open-list first (a es e first) (λ e. none-taken k st st′ (rw (looked .2 ∙ e) at taken)));
           },
         )
+
+    pub turn-list : f ≡ 0 → i < j → sort ≡ 3 → ((i < j) × (j ≤ length s) × (q ≤ length s)) × Opens s k i st q c j st′
+    turn-list h v a = opened-list (λ es e first. sym (looked .0) ∙ a) h v
+
+    pub turn-item : f ≡ 0 → i < j → c ≡ Class.item → ((i < j) × (j ≤ length s) × (q ≤ length s)) × Opens s k i st q c j st′
+    turn-item h v a = opened-list (λ es e first. item-list first (λ z. some (looked .0 ∙ z)) (sym (looked .2) ∙ a)) h v

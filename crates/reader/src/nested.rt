@@ -1,7 +1,7 @@
 // Judging a nested text that was scanned: first 7, for no expression or a second one, then 8 to 12 of the one there is.
 use super::tape::enter;
 use super::walk::Walked;
-use super::walk::element;
+use super::walk::inline;
 use super::walk::leave;
 use super::walk::past_bracket;
 use super::walk::refusal;
@@ -128,7 +128,7 @@ fn judge_first(text: &[u8], tape: &mut [u32; 32768]) -> Walked
         return refusal(8, place);
     }
     enter(tape, 0, place, 1, 4294967295, 0);
-    let w = element(text, place, next, 1, 1, 0, 0, tape);
+    let w = inline(text, place, next, 1, 1, 0, 0, tape);
     leave(tape, 0, w);
     past_bracket(text, w)
 }

@@ -1,6 +1,7 @@
 // The value of a parameter: of an id, a target or a type one text or symbol, of a size two numbers. What is malformed is refused by 10.
 use super::tape::note;
 use super::walk::Walked;
+use super::walk::closes;
 use super::walk::refusal;
 use lexer::atom_fits;
 use lexer::look;
@@ -55,6 +56,14 @@ fn only(text: &[u8], from: usize, class: u8) -> One
             place: 0,
             length: 0,
             end: 0,
+        };
+    }
+    if closes(text, next) {
+        return One {
+            good: true,
+            place: first.place,
+            length: first.length,
+            end: next,
         };
     }
     let last = look(text, next);

@@ -1,27 +1,28 @@
 // The judging walk over the text, which counts nodes and pool bytes (document 01, numbers 8 to 12) and notes the nodes on the tape.
 // "An item holds inline content, and inline content holds lists of items": the walk over inline content
 // calls the list and item walks, which call it back, and the bytes left fall.
+// Only the walk over inline content takes its turns by `next_turn`, so that the compiler puts that into its loop.
 use super::tape::enter;
 use super::tape::note;
 use super::value::value;
 use kind::may_end;
 use kind::step;
+use lexer::ROUND_END;
+use lexer::byte_class;
 use lexer::look;
 ghost use mathlib.Core.Path.{_≡_};
 ghost use mathlib.Core.Logic.{_⊎_};
-ghost use mathlib.Core.Bool.{cond};
-ghost use Prim.Native.Nat.{ℕ, _+_, _≤_, _<_};
+ghost use mathlib.Core.Bool.{cond, true};
+ghost use Prim.Native.Nat.{_≤_, _<_};
 ghost use lib.Dec.{eqb};
-ghost use lib.ListN.{length};
+ghost use lib.ListN.{length, drop};
 ghost use Rattle.elements.specs.Class.{isElement};
-ghost use Rattle.elements.specs.Inside.{start, ended};
+ghost use Rattle.elements.specs.Inside.{ended};
 ghost use Rattle.kind.specs.Machine.{stateOf};
-ghost use Rattle.syntax.specs.Expression.{Exprs};
-ghost use Rattle.document.specs.Meaning.{Verdict, finish, run};
-ghost use Rattle.reader.specs.Stands.{Stands};
-ghost use Rattle.reader.specs.Sizes.{nodesIn, bytesIn};
+ghost use Rattle.lexer.specs.Token.{seen, the-end};
+ghost use Rattle.document.specs.Meaning.{Verdict};
 ghost use Rattle.reader.specs.Walked.{walkedTo, Bounded};
-ghost use Rattle.reader.specs.Tape.{left, tapedAll};
+ghost use Rattle.reader.specs.Tape.{left};
 ghost use Rattle.reader.specs.Turn.{Answers, Finishes, Judges, Turned, Within, pastBracket};
 
 pub struct Walked {
@@ -80,6 +81,16 @@ pub fn at_end(at: usize, kind: u8, state: u8, place: usize, nodes: usize, pool: 
     refusal(9, at)
 }
 
+// A run of expressions ends at this very place, as most do: a closing bracket stands there.
+pub fn closes(text: &[u8], i: usize) -> bool
+    ensures { λ r. ⌜ (r ≡ true → (seen i (drop i (now (text .entry))) .sort ≡ the-end) × (seen i (drop i (now (text .entry))) .place ≡ i)) ⌝ }
+{
+    if text.len() <= i {
+        return false;
+    }
+    ROUND_END <= byte_class(text[i])
+}
+
 // The next expression in an element of a kind at `at` with number `node`, read so far to this state.
 fn next_turn(
     text: &[u8],
@@ -96,6 +107,9 @@ fn next_turn(
     ensures { λ r. ⌜ Within (now (text .entry)) i r ⌝ }
     ensures { λ r. ⌜ Turned (now (text .entry)) at kind i state nodes pool node (now (tape .entry)) (now (tape .exit)) r ⌝ }
 {
+    if closes(text, i) {
+        return Turn::Done(at_end(at, kind, state, i, nodes, pool));
+    }
     let seen = look(text, i);
     let place = seen.place;
     if seen.sort == 0 {
@@ -205,13 +219,12 @@ fn content_of(
     match kind {
         16 | 17 => list(text, at, from, kind, nodes, pool, node, tape),
         18 => item(text, at, from, nodes, pool, node, tape),
-        5 | 6 | 7 | 25 => inline(text, at, from, kind, nodes, pool, node, tape),
-        _ => element(text, at, from, kind, nodes, pool, node, tape),
+        _ => inline(text, at, from, kind, nodes, pool, node, tape),
     }
 }
 
-// What follows the name in an element that holds inline content.
-fn inline(
+// What follows the name in an element that holds inline content, and in any other but a list: what may stand there is the step's to say.
+pub fn inline(
     text: &[u8],
     at: usize,
     from: usize,
@@ -287,34 +300,32 @@ fn list(
     let mut n = nodes;
     let mut p = pool;
     loop {
-        let t = next_turn(text, at, i, kind, state, n, p, node, tape);
-        match t {
-            Turn::Done(w) => {
-                return w;
-            }
-            Turn::Atom(next, n2, p2, s) => {
-                i = next;
-                n = n2;
-                p = p2;
-                state = s;
-                continue;
-            }
-            // An item: the step takes nothing else.
-            Turn::List(place, _, next, s) => {
-                enter(tape, n, place, 18, node, 0);
-                let child = item(text, place, next, n + 1, p, n, tape);
-                leave(tape, n, child);
-                let w = past_bracket(text, child);
-                if w.number != 0 {
-                    return w;
-                }
-                i = w.next;
-                n = w.nodes;
-                p = w.pool;
-                state = s;
-                continue;
-            }
+        let seen = look(text, i);
+        let place = seen.place;
+        let next = seen.next;
+        if seen.sort == 0 {
+            return at_end(at, kind, state, place, n, p);
         }
+        let taken = step(kind, state, seen.class);
+        if taken.fault != 0 {
+            return fault_at(taken.fault, at, place);
+        }
+        // Not where expressions stand.
+        if next <= i {
+            return refusal(8, place);
+        }
+        // An item: the step takes nothing else.
+        enter(tape, n, place, 18, node, 0);
+        let child = item(text, place, next, n + 1, p, n, tape);
+        leave(tape, n, child);
+        let w = past_bracket(text, child);
+        if w.number != 0 {
+            return w;
+        }
+        i = w.next;
+        n = w.nodes;
+        p = w.pool;
+        state = taken.state;
     }
 }
 
@@ -333,55 +344,4 @@ fn item(
     ensures { λ r. ⌜ Answers (now (text .entry)) at 18 from 0 nodes pool node (now (tape .entry)) (now (tape .exit)) r ⌝ }
 {
     inline(text, at, from, 18, nodes, pool, node, tape)
-}
-
-// What follows the name in an element of a kind whose bracket is at `at`.
-pub fn element(
-    text: &[u8],
-    at: usize,
-    from: usize,
-    kind: u8,
-    nodes: usize,
-    pool: usize,
-    node: usize,
-    tape: &mut [u32; 32768],
-) -> Walked
-    requires { ⌜ (from ≤ length (now text)) × (nodes ≤ from) × (pool ≤ from) × (length (now text) ≤ 65536) × (node ≤ 4294967295) ⌝ }
-    ensures { λ r. ⌜ Bounded (now (text .entry)) from r ⌝ }
-    ensures { λ r. ⌜ ((es : Exprs) (e : ℕ) → Stands (now (text .entry)) from es e
-        → r ≡ walkedTo e (nodes + nodesIn es) (pool + bytesIn es) (finish at kind (run at kind (start kind) es))) ⌝ }
-    ensures { λ r. ⌜ ((es : Exprs) (e : ℕ) → Stands (now (text .entry)) from es e → r .number ≡ 0 → length (now (tape .entry)) ≡ 32768
-        → now (tape .exit) ≡ tapedAll (now (tape .entry)) nodes node es) ⌝ }
-{
-    let mut i = from;
-    let mut state: u8 = 0;
-    let mut n = nodes;
-    let mut p = pool;
-    loop {
-        let t = next_turn(text, at, i, kind, state, n, p, node, tape);
-        match t {
-            Turn::Done(w) => {
-                return w;
-            }
-            Turn::Atom(next, n2, p2, s) => {
-                i = next;
-                n = n2;
-                p = p2;
-                state = s;
-                continue;
-            }
-            Turn::List(place, class, next, s) => {
-                let child = inside(text, place, next, kind, class, n, p, node, tape);
-                let w = past_bracket(text, child);
-                if w.number != 0 {
-                    return w;
-                }
-                i = w.next;
-                n = w.nodes;
-                p = w.pool;
-                state = s;
-                continue;
-            }
-        }
-    }
 }

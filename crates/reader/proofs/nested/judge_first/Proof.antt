@@ -1,15 +1,10 @@
 -- `judge_first` meets its contract: each way out is one law of `Tops`. Assumes nothing.
 use native.Mathlib.Omega.{arith}
 use Rattle.reader.proofs.Tops.{first-none, first-other, first-stuck, first-root, first-tape, refused-number, looked-within}
+use Rattle.reader.proofs.Loops.{to-start}
 use borrow.Author.Needs.{needs}
 use Rattle.reader.proofs.nested.judge_first.Statement.{statement}
 use Rattle.reader.proofs.nested.judge_first.Tie as tie
-use Rattle.lexer.proofs.look.Reads as look-reads
-use Rattle.reader.proofs.tape.enter.Reads as enter-reads
-use Rattle.reader.proofs.walk.element.Reads as element-reads
-use Rattle.reader.proofs.walk.leave.Reads as leave-reads
-use Rattle.reader.proofs.walk.past_bracket.Reads as past-bracket-reads
-use Rattle.reader.proofs.walk.refusal.Reads as refusal-reads
 
 look-requires : tie.Need-look-requires
 look-requires c κs = search needs
@@ -48,8 +43,8 @@ enter-requires c κs = let b = looked-within (c .before .before .before .before 
     (c .before .before .before .before .before .before .look .ensures) (omega arith) in
     (omega (arith, b .1, c .before .before .before .before .before .before .before .before .pre), omega arith, omega arith)
 
-element-requires : tie.Need-element-requires
-element-requires c κs = let b = looked-within (c .before .before .before .before .before .before .before .before .before .before .args .text .now) 0
+inline-requires : tie.Need-inline-requires
+inline-requires c κs = let b = looked-within (c .before .before .before .before .before .before .before .before .before .before .args .text .now) 0
     (c .before .before .before .before .before .before .before .before .look .ensures) (omega arith) .2
     (c .before .before .before .before .before .before .if1 .left) (omega (arith, c .before .before .before .if3 .left)) in (
       b .1,
@@ -62,7 +57,7 @@ element-requires c κs = let b = looked-within (c .before .before .before .befor
 leave-requires : tie.Need-leave-requires
 leave-requires c κs = λ y. omega (
   arith,
-  c .before .element .ensures .0 .bounds y,
+  c .before .inline .ensures .0 .bounds y,
   c .before .before .before .before .before .before .before .before .before .before .before .before .pre,
 )
 
@@ -74,12 +69,12 @@ returns-4 c = (
   first-root (c .before .before .before .before .before .before .before .before .before .before .before .before .look .ensures)
       (c .before .before .before .before .before .before .before .before .before .before .if1 .left) _ _
       (c .before .before .before .before .before .before .before .before .if2 .left)
-      (omega (arith, c .before .before .before .before .before .before .before .if3 .left)) (c .before .before .before .element .ensures)
+      (omega (arith, c .before .before .before .before .before .before .before .if3 .left)) (to-start (c .before .before .before .inline .ensures))
       (c .past-bracket .ensures),
   first-tape (c .before .before .before .before .before .before .before .before .before .before .before .before .look .ensures)
       (c .before .before .before .before .before .before .before .before .before .before .if1 .left) _ _
       (c .before .before .before .before .before .before .before .before .if2 .left)
-      (omega (arith, c .before .before .before .before .before .before .before .if3 .left)) (c .before .before .before .element .ensures)
+      (omega (arith, c .before .before .before .before .before .before .before .if3 .left)) (to-start (c .before .before .before .inline .ensures))
       (c .past-bracket .ensures) _ (c .before .before .before .before .before .enter .ensures) (c .before .leave .ensures),
 )
 
@@ -95,7 +90,7 @@ judge-first-spec =
     refusal-requires-3
     returns-3
     enter-requires
-    element-requires
+    inline-requires
     leave-requires
     past-bracket-requires
     returns-4)

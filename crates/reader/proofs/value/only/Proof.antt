@@ -1,6 +1,7 @@
 -- `only` meets its contract: each way out is one law of `Values`. Assumes nothing.
 use mathlib.Core.Path.{sym, _∙_}
 use borrow.Author.Tests.{not-true, not-false}
+use Rattle.reader.proofs.Turns.{ended-here}
 use Rattle.reader.proofs.Values.{only-nothing, only-stuck, only-one}
 use borrow.Author.Needs.{needs}
 use Rattle.reader.proofs.value.only.Statement.{statement}
@@ -13,25 +14,24 @@ is-held-requires : tie.Need-is-held-requires
 is-held-requires c κs = search needs
 
 returns : tie.Need-returns
-returns c =
-    let at = c .before .before in
-    only-nothing _ (at .look .ensures) (at .before .before .pre) (sym (c .before .is-held .ensures) ∙ not-true _ (c .if1 .taken))
+returns c = only-nothing _ (c .before .before .look .ensures) (c .before .before .before .before .pre) (sym (c .before .is-held .ensures) ∙ not-true _ (c .if1 .taken))
 
 returns-2 : tie.Need-returns-2
-returns-2 c =
-    let at = c .before .before .before in
-    only-stuck _ (at .look .ensures) (at .before .before .pre) (sym (c .before .before .is-held .ensures) ∙ not-false _ (c .before .if1 .left)) (c .if2 .taken)
+returns-2 c = only-stuck _ (c .before .before .before .look .ensures) (c .before .before .before .before .before .pre) (sym (c .before .before .is-held .ensures) ∙ not-false _ (c .before .if1 .left)) (c .if2 .taken)
+
+closes-requires : tie.Need-closes-requires
+closes-requires c κs = search needs
+
+returns-3 : tie.Need-returns-3
+returns-3 c = only-one _ (c .before .before .before .before .before .look .ensures) (c .before .before .before .before .before .before .before .pre) (sym (c .before .before .before .before .is-held .ensures) ∙ not-false _ (c .before .before .before .if1 .left)) (c .before .before .if2 .left)
+    (ended-here _ _ (c .before .closes .ensures (c .if3 .taken)))
 
 look-requires-2 : tie.Need-look-requires-2
 look-requires-2 c κs = search needs
 
-returns-3 : tie.Need-returns-3
-returns-3 c =
-    let past = c .before .before .before in
-    let at = past .before .before in
-    only-one _ (at .look .ensures) (at .before .before .pre) (sym (past .before .is-held .ensures) ∙ not-false _ (past .if1 .left))
-    (c .before .before .if2 .left) (c .before .look2 .ensures)
+returns-4 : tie.Need-returns-4
+returns-4 c = only-one _ (c .before .before .before .before .before .before .before .look .ensures) (c .before .before .before .before .before .before .before .before .before .pre) (sym (c .before .before .before .before .before .before .is-held .ensures) ∙ not-false _ (c .before .before .before .before .before .if1 .left)) (c .before .before .before .before .if2 .left) (c .before .look2 .ensures)
 
 pub only-spec : {M : Type 1} → statement M
 only-spec =
-    tie.close (tie.spec look-requires is-held-requires returns returns-2 look-requires-2 returns-3)
+    tie.close (tie.spec look-requires is-held-requires returns returns-2 closes-requires returns-3 look-requires-2 returns-4)

@@ -1,7 +1,7 @@
 -- The walks over an element's content meet their contracts. The invariant of a loop is `Walking`; each way through a loop's body is one law of `Loops`.
 -- The measure is five times the bytes left, and a rank: `inside` hands the bytes on to `content_of`, that to a walk, and `item` to `inline`.
 -- Assumes nothing.
-use mathlib.Core.Path.{sym, _∙_}
+use mathlib.Core.Path.{refl, sym, _∙_}
 use mathlib.Core.Logic.{⊎-elim}
 use Prim.Native.Nat.{_+_, _*_, _-_}
 use native.Mathlib.Omega.{arith}
@@ -13,42 +13,42 @@ use Rattle.reader.specs.Walked.{Bounded}
 use Rattle.reader.specs.Turn.{Judges}
 use Rattle.reader.proofs.Loops.{Walking, begun, answered, passed, list-answered, list-forward, list-gone-on}
 use Rattle.reader.proofs.Loops.{to-start, item-start, element-judges, item-judges, list-judges, value-judges}
-use Rattle.reader.proofs.Items.{Bare, is-list, bare-start, opens-item, still-bare}
+use Rattle.reader.proofs.Items.{Bare, is-list, bare-start, item-taken}
+use Rattle.reader.proofs.Turns.{step-goes, turn-end, turn-fault, turn-stuck, turn-item}
 use Prim.Native.Nat.{ℕ, _<_}
 use borrow.Fn.Kinds.{In}
 use borrow.Fn.PlainCycle.{Measures, is, falls, and}
 use Rattle.reader.proofs.walk.content_of.Reads as content-of
 use Rattle.reader.proofs.walk.content_of.Kinds as content-of-kinds
-use Rattle.reader.proofs.walk.+content_of+element+inline+inside+item+list.Lts-content_of as content-of-lts
-use Rattle.reader.proofs.walk.element.Reads as element
-use Rattle.reader.proofs.walk.element.Kinds as element-kinds
-use Rattle.reader.proofs.walk.+content_of+element+inline+inside+item+list.Lts-element as element-lts
+use Rattle.reader.proofs.walk.+content_of+inline+inside+item+list.Lts-content_of as content-of-lts
 use Rattle.reader.proofs.walk.inline.Reads as inline
 use Rattle.reader.proofs.walk.inline.Kinds as inline-kinds
-use Rattle.reader.proofs.walk.+content_of+element+inline+inside+item+list.Lts-inline as inline-lts
+use Rattle.reader.proofs.walk.+content_of+inline+inside+item+list.Lts-inline as inline-lts
 use Rattle.reader.proofs.walk.inside.Reads as inside
 use Rattle.reader.proofs.walk.inside.Kinds as inside-kinds
-use Rattle.reader.proofs.walk.+content_of+element+inline+inside+item+list.Lts-inside as inside-lts
+use Rattle.reader.proofs.walk.+content_of+inline+inside+item+list.Lts-inside as inside-lts
 use Rattle.reader.proofs.walk.item.Reads as item
 use Rattle.reader.proofs.walk.item.Kinds as item-kinds
-use Rattle.reader.proofs.walk.+content_of+element+inline+inside+item+list.Lts-item as item-lts
+use Rattle.reader.proofs.walk.+content_of+inline+inside+item+list.Lts-item as item-lts
 use Rattle.reader.proofs.walk.list.Reads as list
 use Rattle.reader.proofs.walk.list.Kinds as list-kinds
-use Rattle.reader.proofs.walk.+content_of+element+inline+inside+item+list.Lts-list as list-lts
+use Rattle.reader.proofs.walk.+content_of+inline+inside+item+list.Lts-list as list-lts
+use Rattle.kind.proofs.step.Reads as step-reads
+use Rattle.lexer.proofs.look.Reads as look-reads
 use Rattle.reader.proofs.tape.enter.Reads as enter-reads
 use Rattle.reader.proofs.value.value.Reads as value-reads
+use Rattle.reader.proofs.walk.at_end.Reads as at-end-reads
+use Rattle.reader.proofs.walk.fault_at.Reads as fault-at-reads
 use Rattle.reader.proofs.walk.is_element.Reads as is-element-reads
 use Rattle.reader.proofs.walk.leave.Reads as leave-reads
 use Rattle.reader.proofs.walk.next_turn.Reads as next-turn-reads
 use Rattle.reader.proofs.walk.past_bracket.Reads as past-bracket-reads
-use Rattle.reader.proofs.walk.+content_of+element+inline+inside+item+list.{statement}
-use Rattle.reader.proofs.walk.+content_of+element+inline+inside+item+list.Tie.{close}
+use Rattle.reader.proofs.walk.refusal.Reads as refusal-reads
+use Rattle.reader.proofs.walk.+content_of+inline+inside+item+list.{statement}
+use Rattle.reader.proofs.walk.+content_of+inline+inside+item+list.Tie.{close}
 
 abbrev μ-content-of : Measures 2 content-of-kinds.ps ℕ
 μ-content-of κs a = 5 * (length (a .0 .now) - a .1 .1 .0) + 3
-
-abbrev μ-element : Measures 2 element-kinds.ps ℕ
-μ-element κs a = 5 * (length (a .0 .now) - a .1 .1 .0) + 1
 
 abbrev μ-inline : Measures 2 inline-kinds.ps ℕ
 μ-inline κs a = 5 * (length (a .0 .now) - a .1 .1 .0) + 1
@@ -69,12 +69,6 @@ content-of-at t =
 abbrev content-of-below : ℕ → In 2 content-of-kinds.ps
 content-of-below t =
     and 2 content-of-kinds.ps (falls 2 content-of-kinds.ps _<_ μ-content-of t) content-of.Pre
-
-abbrev element-at : ℕ → In 2 element-kinds.ps
-element-at t = and 2 element-kinds.ps (is 2 element-kinds.ps μ-element t) element.Pre
-
-abbrev element-below : ℕ → In 2 element-kinds.ps
-element-below t = and 2 element-kinds.ps (falls 2 element-kinds.ps _<_ μ-element t) element.Pre
 
 abbrev inline-at : ℕ → In 2 inline-kinds.ps
 inline-at t = and 2 inline-kinds.ps (is 2 inline-kinds.ps μ-inline t) inline.Pre
@@ -101,21 +95,18 @@ abbrev list-below : ℕ → In 2 list-kinds.ps
 list-below t = and 2 list-kinds.ps (falls 2 list-kinds.ps _<_ μ-list t) list.Pre
 
 abbrev content-of-claims : ℕ → content-of-lts.Claims
-content-of-claims t = (item-below t, item.Post, list-below t, list.Post, element-below t, element.Post, inline-below t, inline.Post)
+content-of-claims t = (item-below t, item.Post, list-below t, list.Post, inline-below t, inline.Post)
 
 content-of-item-requires : (t : ℕ) → content-of-lts.Need-item-requires (content-of-claims t) (content-of-at t) content-of.Post
 content-of-item-requires t c κs = (omega (arith, c .before .before .before .pre .0), c .before .before .before .pre .1)
 
 content-of-list-requires : (t : ℕ) → content-of-lts.Need-list-requires (content-of-claims t) (content-of-at t) content-of.Post
 content-of-list-requires t c κs =
-    let pre = c .before .before .before .before .before .before .before .pre in
-    (omega (arith, pre .0), (pre .1 .0, pre .1 .1, pre .1 .2, pre .1 .3, pre .1 .4, is-list _ (c .before .before .if3 .left) (c .before .if4 .taken)))
-
-content-of-element-requires : (t : ℕ) → content-of-lts.Need-element-requires (content-of-claims t) (content-of-at t) content-of.Post
-content-of-element-requires t c κs = (omega (arith, c .before .before .before .before .pre .0), c .before .before .before .before .pre .1)
+    let pre = c .before .before .before .before .before .pre in
+    (omega (arith, pre .0), (pre .1 .0, pre .1 .1, pre .1 .2, pre .1 .3, pre .1 .4, is-list _ (c .before .before .if1 .left) (c .before .if2 .taken)))
 
 content-of-inline-requires : (t : ℕ) → content-of-lts.Need-inline-requires (content-of-claims t) (content-of-at t) content-of.Post
-content-of-inline-requires t c κs = (omega (arith, c .before .before .before .pre .0), c .before .before .before .pre .1)
+content-of-inline-requires t c κs = (omega (arith, c .before .before .before .before .pre .0), c .before .before .before .before .pre .1)
 
 content-of-returns : (t : ℕ) → content-of-lts.Need-returns (content-of-claims t) (content-of-at t) content-of.Post
 content-of-returns t c = item-start (c .before .before .match .keys1) (c .item .ensures)
@@ -124,98 +115,7 @@ content-of-returns-2 : (t : ℕ) → content-of-lts.Need-returns-2 (content-of-c
 content-of-returns-2 t c = to-start (c .list .ensures)
 
 content-of-returns-3 : (t : ℕ) → content-of-lts.Need-returns-3 (content-of-claims t) (content-of-at t) content-of.Post
-content-of-returns-3 t c = c .element .ensures
-
-content-of-returns-4 : (t : ℕ) → content-of-lts.Need-returns-4 (content-of-claims t) (content-of-at t) content-of.Post
-content-of-returns-4 t c = to-start (c .inline .ensures)
-
-abbrev element-claims : ℕ → element-lts.Claims
-element-claims t = (next-turn-reads.Asked, next-turn-reads.Learnt, inside-below t, inside.Post, past-bracket-reads.Asked, past-bracket-reads.Learnt)
-
-abbrev element-Inv-loop : element-lts.InvT-loop
-element-Inv-loop text at from kind nodes pool node tape₀ i₀ state₀ n₀ p₀ tape i state n p = Walking text at kind node from nodes pool tape₀ i state n p tape
-
-abbrev element-μ-loop : element-lts.MeasureT-loop
-element-μ-loop text at from kind nodes pool node tape₀ i₀ state₀ n₀ p₀ tape i state n p = length text - i
-
-element-loop-holds : (t : ℕ) → element-lts.Need-loop-holds (element-claims t) (element-at t) element.Post element-Inv-loop element-μ-loop
-element-loop-holds t c = begun (c .before .pre .1 .0) (c .before .pre .1 .1) (c .before .pre .1 .2)
-
-element-next-turn-requires : (t : ℕ)
-    → element-lts.Need-next-turn-requires (element-claims t) (element-at t) element.Post element-Inv-loop element-μ-loop
-element-next-turn-requires t c κs = (
-  c .before .loop .inv .within,
-  c .before .loop .inv .nodes-within,
-  c .before .loop .inv .pool-within,
-  c .before .before .before .pre .1 .3,
-  c .before .before .before .pre .1 .4,
-)
-
-element-enum-known-t : (t : ℕ) → element-lts.Need-enum-known-t (element-claims t) (element-at t) element.Post element-Inv-loop element-μ-loop
-element-enum-known-t t c = search needs
-
-element-returns : (t : ℕ) → element-lts.Need-returns (element-claims t) (element-at t) element.Post element-Inv-loop element-μ-loop
-element-returns t c = to-start
-    (answered (c .before .before .before .before .before .loop .inv) (rw (c .before .t .given .1) at (c .before .before .before .next-turn .ensures)))
-
-element-enum-known-t-2 : (t : ℕ) → element-lts.Need-enum-known-t-2 (element-claims t) (element-at t) element.Post element-Inv-loop element-μ-loop
-element-enum-known-t-2 t c = search needs
-
-element-loop-less : (t : ℕ) → element-lts.Need-loop-less (element-claims t) (element-at t) element.Post element-Inv-loop element-μ-loop
-element-loop-less t c =
-    let turn = rw (c .before .t2 .given .1) at (c .before .before .before .next-turn .ensures) in
-    omega (arith, turn .0)
-
-element-loop-again : (t : ℕ) → element-lts.Need-loop-again (element-claims t) (element-at t) element.Post element-Inv-loop element-μ-loop
-element-loop-again t c =
-    let turn = rw (c .before .t2 .given .1) at (c .before .before .before .next-turn .ensures) in
-    passed (c .before .before .before .before .before .loop .inv) turn
-
-element-enum-known-t-3 : (t : ℕ) → element-lts.Need-enum-known-t-3 (element-claims t) (element-at t) element.Post element-Inv-loop element-μ-loop
-element-enum-known-t-3 t c = search needs
-
-element-inside-requires : (t : ℕ) → element-lts.Need-inside-requires (element-claims t) (element-at t) element.Post element-Inv-loop element-μ-loop
-element-inside-requires t c κs =
-    let turn = rw (c .before .before .t3 .given .1) at (c .before .before .before .before .next-turn .ensures) in
-    let loop = c .before .before .before .before .before .before .loop .inv in (
-      omega (arith, turn .0, c .before .before .before .before .before .before .before .before .pre .0),
-      (
-        turn .0 .1,
-        omega (arith, turn .0, loop),
-        omega (arith, turn .0, loop),
-        c .before .before .before .before .before .before .before .before .pre .1 .3,
-        c .before .before .before .before .before .before .before .before .pre .1 .4,
-        turn .0 .2,
-      ),
-    )
-
-element-past-bracket-requires : (t : ℕ)
-    → element-lts.Need-past-bracket-requires (element-claims t) (element-at t) element.Post element-Inv-loop element-μ-loop
-element-past-bracket-requires t c κs = search needs
-
-element-returns-2 : (t : ℕ) → element-lts.Need-returns-2 (element-claims t) (element-at t) element.Post element-Inv-loop element-μ-loop
-element-returns-2 t c =
-    let turn = rw (c .before .before .before .before .before .before .t3 .given .1) at
-    (c .before .before .before .before .before .before .before .before .next-turn .ensures) in
-    to-start (list-answered (c .before .before .before .before .before .before .before .before .before .before .loop .inv) turn
-    (c .before .before .before .inside .ensures) (c .before .before .past-bracket .ensures) (c .if1 .taken))
-
-element-loop-less-2 : (t : ℕ) → element-lts.Need-loop-less-2 (element-claims t) (element-at t) element.Post element-Inv-loop element-μ-loop
-element-loop-less-2 t c =
-    let turn = rw (c .before .before .before .before .before .before .t3 .given .1) at
-    (c .before .before .before .before .before .before .before .before .next-turn .ensures) in
-    omega (
-      arith,
-      list-forward (c .before .before .before .before .before .before .before .before .before .before .loop .inv) turn
-          (c .before .before .before .inside .ensures) (c .before .before .past-bracket .ensures) (c .if1 .left),
-    )
-
-element-loop-again-2 : (t : ℕ) → element-lts.Need-loop-again-2 (element-claims t) (element-at t) element.Post element-Inv-loop element-μ-loop
-element-loop-again-2 t c =
-    let turn = rw (c .before .before .before .before .before .before .t3 .given .1) at
-    (c .before .before .before .before .before .before .before .before .next-turn .ensures) in
-    list-gone-on (c .before .before .before .before .before .before .before .before .before .before .loop .inv) turn
-    (c .before .before .before .inside .ensures) (c .before .before .past-bracket .ensures) (c .if1 .left)
+content-of-returns-3 t c = to-start (c .inline .ensures)
 
 abbrev inline-claims : ℕ → inline-lts.Claims
 inline-claims t = (
@@ -440,8 +340,16 @@ item-returns t c = c .inline .ensures
 
 abbrev list-claims : ℕ → list-lts.Claims
 list-claims t = (
-  next-turn-reads.Asked,
-  next-turn-reads.Learnt,
+  look-reads.Asked,
+  look-reads.Learnt,
+  at-end-reads.Asked,
+  at-end-reads.Learnt,
+  step-reads.Asked,
+  step-reads.Learnt,
+  fault-at-reads.Asked,
+  fault-at-reads.Learnt,
+  refusal-reads.Asked,
+  refusal-reads.Learnt,
   enter-reads.Asked,
   enter-reads.Learnt,
   item-below t,
@@ -460,162 +368,84 @@ abbrev list-μ-loop : list-lts.MeasureT-loop
 list-μ-loop text at from kind nodes pool node tape₀ i₀ state₀ n₀ p₀ tape i state n p = length text - i
 
 list-loop-holds : (t : ℕ) → list-lts.Need-loop-holds (list-claims t) (list-at t) list.Post list-Inv-loop list-μ-loop
-list-loop-holds t c = (
-  begun (c .before .pre .1 .0) (c .before .pre .1 .1) (c .before .pre .1 .2),
-  bare-start (c .before .args .kind)
-      (c .before .pre .1 .5),
-)
+list-loop-holds t c = (begun (c .before .pre .1 .0) (c .before .pre .1 .1) (c .before .pre .1 .2), bare-start (c .before .args .kind) (c .before .pre .1 .5))
 
-list-next-turn-requires : (t : ℕ) → list-lts.Need-next-turn-requires (list-claims t) (list-at t) list.Post list-Inv-loop list-μ-loop
-list-next-turn-requires t c κs = (
-  c .before .loop .inv .0 .within,
-  c .before .loop .inv .0 .nodes-within,
-  c .before .loop .inv .0 .pool-within,
-  c .before .before .before .pre .1 .3,
-  c .before .before .before .pre .1 .4,
-)
+list-look-requires : (t : ℕ) → list-lts.Need-look-requires (list-claims t) (list-at t) list.Post list-Inv-loop list-μ-loop
+list-look-requires t c κs = search needs
 
-list-enum-known-t : (t : ℕ) → list-lts.Need-enum-known-t (list-claims t) (list-at t) list.Post list-Inv-loop list-μ-loop
-list-enum-known-t t c = search needs
+list-at-end-requires : (t : ℕ) → list-lts.Need-at-end-requires (list-claims t) (list-at t) list.Post list-Inv-loop list-μ-loop
+list-at-end-requires t c κs = search needs
 
 list-returns : (t : ℕ) → list-lts.Need-returns (list-claims t) (list-at t) list.Post list-Inv-loop list-μ-loop
-list-returns t c = answered (c .before .before .before .before .before .loop .inv .0)
-    (rw (c .before .t .given .1) at (c .before .before .before .next-turn .ensures))
+list-returns t c = answered (c .before .before .before .before .loop .inv .0)
+    (rw (c .at-end .ensures) (turn-end (c .before .before .before .look .ensures) (c .before .before .before .before .loop .inv .0 .within) (c .before .before .before .before .loop .inv .0 .nodes-within) (c .before .before .before .before .loop .inv .0 .pool-within) (c .before .if1 .taken)))
 
-list-enum-known-t-2 : (t : ℕ) → list-lts.Need-enum-known-t-2 (list-claims t) (list-at t) list.Post list-Inv-loop list-μ-loop
-list-enum-known-t-2 t c = search needs
+list-step-requires : (t : ℕ) → list-lts.Need-step-requires (list-claims t) (list-at t) list.Post list-Inv-loop list-μ-loop
+list-step-requires t c κs = search needs
 
-list-loop-less : (t : ℕ) → list-lts.Need-loop-less (list-claims t) (list-at t) list.Post list-Inv-loop list-μ-loop
-list-loop-less t c =
-    let turn = rw (c .before .t2 .given .1) at (c .before .before .before .next-turn .ensures) in
-    omega (arith, turn .0)
+list-fault-at-requires : (t : ℕ) → list-lts.Need-fault-at-requires (list-claims t) (list-at t) list.Post list-Inv-loop list-μ-loop
+list-fault-at-requires t c κs = search needs
 
-list-loop-again : (t : ℕ) → list-lts.Need-loop-again (list-claims t) (list-at t) list.Post list-Inv-loop list-μ-loop
-list-loop-again t c =
-    let turn = rw (c .before .t2 .given .1) at (c .before .before .before .next-turn .ensures) in (
-      passed (c .before .before .before .before .before .loop .inv .0) turn,
-      still-bare
-          (c .before .before .before .before .before .before .before .pre .1 .5) (c .before .before .before .before .before .loop .inv .1) (turn .1),
-    )
+list-returns-2 : (t : ℕ) → list-lts.Need-returns-2 (list-claims t) (list-at t) list.Post list-Inv-loop list-μ-loop
+list-returns-2 t c = answered (c .before .before .before .before .before .before .before .loop .inv .0)
+    (rw (c .fault-at .ensures) (turn-fault (c .before .before .before .before .before .before .look .ensures) (c .before .before .before .before .before .before .before .loop .inv .0 .within) _ _ (c .before .before .before .step .ensures) (c .before .before .before .before .if1 .left) (c .before .if2 .taken)))
 
-list-enum-known-t-3 : (t : ℕ) → list-lts.Need-enum-known-t-3 (list-claims t) (list-at t) list.Post list-Inv-loop list-μ-loop
-list-enum-known-t-3 t c = search needs
+list-refusal-requires : (t : ℕ) → list-lts.Need-refusal-requires (list-claims t) (list-at t) list.Post list-Inv-loop list-μ-loop
+list-refusal-requires t c κs = search needs
+
+list-returns-3 : (t : ℕ) → list-lts.Need-returns-3 (list-claims t) (list-at t) list.Post list-Inv-loop list-μ-loop
+list-returns-3 t c = answered (c .before .before .before .before .before .before .before .before .loop .inv .0)
+    (rw (c .refusal .ensures) (turn-stuck (c .before .before .before .before .before .before .before .look .ensures) (c .before .before .before .before .before .before .before .before .loop .inv .0 .within) (c .before .before .before .before .before .if1 .left) (c .before .if3 .taken)))
 
 list-enter-requires : (t : ℕ) → list-lts.Need-enter-requires (list-claims t) (list-at t) list.Post list-Inv-loop list-μ-loop
-list-enter-requires t c κs =
-    let turn = rw (c .before .before .t3 .given .1) at (c .before .before .before .before .next-turn .ensures) in (
-      omega (arith, turn .0, c .before .before .before .before .before .before .before .before .pre .1),
-      c .before .before .before .before .before .before .before .before .pre .1 .4,
-      omega arith,
-    )
+list-enter-requires t c κs = let taken = item-taken _ _ _ _ (c .before .before .before .before .before .before .before .before .before .before .pre .1 .5) (c .before .before .before .before .before .before .before .before .loop .inv .1) (step-goes _ _ _ _ (c .before .before .if2 .left) (c .before .before .before .before .step .ensures)) in
+    let turn = turn-item (c .before .before .before .before .before .before .before .look .ensures) (c .before .before .before .before .before .before .before .before .loop .inv .0 .within) _ _ (c .before .before .before .before .step .ensures) (c .before .before .before .before .before .if1 .left) (c .before .before .if2 .left) (c .before .if3 .left) (taken .0) in
+    (omega (arith, turn .0, c .before .before .before .before .before .before .before .before .before .before .pre .1), c .before .before .before .before .before .before .before .before .before .before .pre .1 .4, omega arith)
 
 list-add-item : (t : ℕ) → list-lts.Need-add-item (list-claims t) (list-at t) list.Post list-Inv-loop list-μ-loop
-list-add-item t c =
-    let turn = rw (c .before .before .before .t3 .given .1) at (c .before .before .before .before .before .next-turn .ensures) in
-    omega (
-      arith,
-      turn .0,
-      c .before .before .before .before .before .before .before .loop .inv,
-      c .before .before .before .before .before .before .before .before .before .good,
-    )
+list-add-item t c = let taken = item-taken _ _ _ _ (c .before .before .before .before .before .before .before .before .before .before .before .pre .1 .5) (c .before .before .before .before .before .before .before .before .before .loop .inv .1) (step-goes _ _ _ _ (c .before .before .before .if2 .left) (c .before .before .before .before .before .step .ensures)) in
+    let turn = turn-item (c .before .before .before .before .before .before .before .before .look .ensures) (c .before .before .before .before .before .before .before .before .before .loop .inv .0 .within) _ _ (c .before .before .before .before .before .step .ensures) (c .before .before .before .before .before .before .if1 .left) (c .before .before .before .if2 .left) (c .before .before .if3 .left) (taken .0) in
+    omega (arith, turn .0, c .before .before .before .before .before .before .before .before .before .loop .inv .0, c .before .before .before .before .before .before .before .before .before .before .before .good)
 
 list-item-requires : (t : ℕ) → list-lts.Need-item-requires (list-claims t) (list-at t) list.Post list-Inv-loop list-μ-loop
-list-item-requires t c κs =
-    let turn = rw (c .before .before .before .before .t3 .given .1) at (c .before .before .before .before .before .before .next-turn .ensures) in
-    let loop = c .before .before .before .before .before .before .before .before .loop .inv .0 in (
-      omega (arith, turn .0, c .before .before .before .before .before .before .before .before .before .before .pre .0),
-      (
-        turn .0 .1,
-        omega (arith, turn .0, loop),
-        omega (arith, turn .0, loop),
-        c .before .before .before .before .before .before .before .before .before .before .pre .1 .3,
-        omega (arith, turn .0, loop, c .before .before .before .before .before .before .before .before .before .before .pre .1),
-      ),
+list-item-requires t c κs = let taken = item-taken _ _ _ _ (c .before .before .before .before .before .before .before .before .before .before .before .before .pre .1 .5) (c .before .before .before .before .before .before .before .before .before .before .loop .inv .1) (step-goes _ _ _ _ (c .before .before .before .before .if2 .left) (c .before .before .before .before .before .before .step .ensures)) in
+    let turn = turn-item (c .before .before .before .before .before .before .before .before .before .look .ensures) (c .before .before .before .before .before .before .before .before .before .before .loop .inv .0 .within) _ _ (c .before .before .before .before .before .before .step .ensures) (c .before .before .before .before .before .before .before .if1 .left) (c .before .before .before .before .if2 .left) (c .before .before .before .if3 .left) (taken .0) in (
+      omega (arith, turn .0, c .before .before .before .before .before .before .before .before .before .before .before .before .pre .0),
+      (turn .0 .1, omega (arith, turn .0, c .before .before .before .before .before .before .before .before .before .before .loop .inv .0), omega (arith, turn .0, c .before .before .before .before .before .before .before .before .before .before .loop .inv .0), c .before .before .before .before .before .before .before .before .before .before .before .before .pre .1 .3, omega (arith, turn .0, c .before .before .before .before .before .before .before .before .before .before .loop .inv .0, c .before .before .before .before .before .before .before .before .before .before .before .before .pre .1)),
     )
 
 list-leave-requires : (t : ℕ) → list-lts.Need-leave-requires (list-claims t) (list-at t) list.Post list-Inv-loop list-μ-loop
-list-leave-requires t c κs = λ y. omega (
-  arith,
-  c .before .item .ensures .0 .bounds y,
-  c .before .before .before .before .before .before .before .before .before .before .before .before .pre .1,
-)
+list-leave-requires t c κs = λ y. omega (arith, c .before .item .ensures .0 .bounds y, c .before .before .before .before .before .before .before .before .before .before .before .before .before .before .pre .1)
 
 list-past-bracket-requires : (t : ℕ) → list-lts.Need-past-bracket-requires (list-claims t) (list-at t) list.Post list-Inv-loop list-μ-loop
 list-past-bracket-requires t c κs = search needs
 
-list-returns-2 : (t : ℕ) → list-lts.Need-returns-2 (list-claims t) (list-at t) list.Post list-Inv-loop list-μ-loop
-list-returns-2 t c =
-    let turn = rw (c .before .before .before .before .before .before .before .before .before .before .t3 .given .1) at
-    (c .before .before .before .before .before .before .before .before .before .before .before .before .next-turn .ensures) in
-    let taken = opens-item
-    (c .before .before .before .before .before .before .before .before .before .before .before .before .before .before .before .before .pre .1 .5)
-    (c .before .before .before .before .before .before .before .before .before .before .before .before .before .before .loop .inv .1) (turn .1 .0) in
-    list-answered
-    (c .before .before .before .before .before .before .before .before .before .before .before .before .before .before .loop .inv .0) turn
-    (item-judges (taken .0) (omega (arith, turn .0)) (c .before .before .before .before .before .item .ensures)
-    (c .before .before .before .before .before .before .before .enter .ensures) (c .before .before .before .leave .ensures))
-    (c .before .before .past-bracket .ensures) (c .if1 .taken)
+list-returns-4 : (t : ℕ) → list-lts.Need-returns-4 (list-claims t) (list-at t) list.Post list-Inv-loop list-μ-loop
+list-returns-4 t c = let taken = item-taken _ _ _ _ (c .before .before .before .before .before .before .before .before .before .before .before .before .before .before .before .before .before .before .pre .1 .5) (c .before .before .before .before .before .before .before .before .before .before .before .before .before .before .before .before .loop .inv .1) (step-goes _ _ _ _ (c .before .before .before .before .before .before .before .before .before .before .if2 .left) (c .before .before .before .before .before .before .before .before .before .before .before .before .step .ensures)) in
+    let turn = turn-item (c .before .before .before .before .before .before .before .before .before .before .before .before .before .before .before .look .ensures) (c .before .before .before .before .before .before .before .before .before .before .before .before .before .before .before .before .loop .inv .0 .within) _ _ (c .before .before .before .before .before .before .before .before .before .before .before .before .step .ensures) (c .before .before .before .before .before .before .before .before .before .before .before .before .before .if1 .left) (c .before .before .before .before .before .before .before .before .before .before .if2 .left) (c .before .before .before .before .before .before .before .before .before .if3 .left) (taken .0) in
+    list-answered (c .before .before .before .before .before .before .before .before .before .before .before .before .before .before .before .before .loop .inv .0) (turn .0, (turn .1, refl))
+    (item-judges (taken .0) (omega (arith, turn .0)) (c .before .before .before .before .before .item .ensures) (c .before .before .before .before .before .before .before .enter .ensures) (c .before .before .before .leave .ensures)) (c .before .before .past-bracket .ensures) (c .if4 .taken)
 
-list-loop-less-2 : (t : ℕ) → list-lts.Need-loop-less-2 (list-claims t) (list-at t) list.Post list-Inv-loop list-μ-loop
-list-loop-less-2 t c =
-    let turn = rw (c .before .before .before .before .before .before .before .before .before .before .t3 .given .1) at
-    (c .before .before .before .before .before .before .before .before .before .before .before .before .next-turn .ensures) in
-    let taken = opens-item
-    (c .before .before .before .before .before .before .before .before .before .before .before .before .before .before .before .before .pre .1 .5)
-    (c .before .before .before .before .before .before .before .before .before .before .before .before .before .before .loop .inv .1) (turn .1 .0) in
-    omega (
-      arith,
-      list-forward
-          (c .before .before .before .before .before .before .before .before .before .before .before .before .before .before .loop .inv .0) turn
-          (item-judges (taken .0) (omega (arith, turn .0)) (c .before .before .before .before .before .item .ensures)
-          (c .before .before .before .before .before .before .before .enter .ensures) (c .before .before .before .leave .ensures))
-          (c .before .before .past-bracket .ensures) (c .if1 .left),
-    )
+list-loop-less : (t : ℕ) → list-lts.Need-loop-less (list-claims t) (list-at t) list.Post list-Inv-loop list-μ-loop
+list-loop-less t c = let taken = item-taken _ _ _ _ (c .before .before .before .before .before .before .before .before .before .before .before .before .before .before .before .before .before .before .pre .1 .5) (c .before .before .before .before .before .before .before .before .before .before .before .before .before .before .before .before .loop .inv .1) (step-goes _ _ _ _ (c .before .before .before .before .before .before .before .before .before .before .if2 .left) (c .before .before .before .before .before .before .before .before .before .before .before .before .step .ensures)) in
+    let turn = turn-item (c .before .before .before .before .before .before .before .before .before .before .before .before .before .before .before .look .ensures) (c .before .before .before .before .before .before .before .before .before .before .before .before .before .before .before .before .loop .inv .0 .within) _ _ (c .before .before .before .before .before .before .before .before .before .before .before .before .step .ensures) (c .before .before .before .before .before .before .before .before .before .before .before .before .before .if1 .left) (c .before .before .before .before .before .before .before .before .before .before .if2 .left) (c .before .before .before .before .before .before .before .before .before .if3 .left) (taken .0) in
+    omega (arith, list-forward (c .before .before .before .before .before .before .before .before .before .before .before .before .before .before .before .before .loop .inv .0) (turn .0, (turn .1, refl)) (item-judges (taken .0) (omega (arith, turn .0)) (c .before .before .before .before .before .item .ensures) (c .before .before .before .before .before .before .before .enter .ensures) (c .before .before .before .leave .ensures)) (c .before .before .past-bracket .ensures) (c .if4 .left))
 
-list-loop-again-2 : (t : ℕ) → list-lts.Need-loop-again-2 (list-claims t) (list-at t) list.Post list-Inv-loop list-μ-loop
-list-loop-again-2 t c =
-    let turn = rw (c .before .before .before .before .before .before .before .before .before .before .t3 .given .1) at
-    (c .before .before .before .before .before .before .before .before .before .before .before .before .next-turn .ensures) in
-    let taken = opens-item
-    (c .before .before .before .before .before .before .before .before .before .before .before .before .before .before .before .before .pre .1 .5)
-    (c .before .before .before .before .before .before .before .before .before .before .before .before .before .before .loop .inv .1) (turn .1 .0) in (
-      list-gone-on
-          (c .before .before .before .before .before .before .before .before .before .before .before .before .before .before .loop .inv .0) turn
-          (item-judges (taken .0) (omega (arith, turn .0)) (c .before .before .before .before .before .item .ensures)
-          (c .before .before .before .before .before .before .before .enter .ensures) (c .before .before .before .leave .ensures))
-          (c .before .before .past-bracket .ensures) (c .if1 .left),
-      taken .1,
-    )
+list-loop-again : (t : ℕ) → list-lts.Need-loop-again (list-claims t) (list-at t) list.Post list-Inv-loop list-μ-loop
+list-loop-again t c = let taken = item-taken _ _ _ _ (c .before .before .before .before .before .before .before .before .before .before .before .before .before .before .before .before .before .before .pre .1 .5) (c .before .before .before .before .before .before .before .before .before .before .before .before .before .before .before .before .loop .inv .1) (step-goes _ _ _ _ (c .before .before .before .before .before .before .before .before .before .before .if2 .left) (c .before .before .before .before .before .before .before .before .before .before .before .before .step .ensures)) in
+    let turn = turn-item (c .before .before .before .before .before .before .before .before .before .before .before .before .before .before .before .look .ensures) (c .before .before .before .before .before .before .before .before .before .before .before .before .before .before .before .before .loop .inv .0 .within) _ _ (c .before .before .before .before .before .before .before .before .before .before .before .before .step .ensures) (c .before .before .before .before .before .before .before .before .before .before .before .before .before .if1 .left) (c .before .before .before .before .before .before .before .before .before .before .if2 .left) (c .before .before .before .before .before .before .before .before .before .if3 .left) (taken .0) in
+    (list-gone-on (c .before .before .before .before .before .before .before .before .before .before .before .before .before .before .before .before .loop .inv .0) (turn .0, (turn .1, refl)) (item-judges (taken .0) (omega (arith, turn .0)) (c .before .before .before .before .before .item .ensures) (c .before .before .before .before .before .before .before .enter .ensures) (c .before .before .before .leave .ensures)) (c .before .before .past-bracket .ensures) (c .if4 .left), taken .1)
 
-pub +content-of+element+inline+inside+item+list-spec : {M : Type 1} → statement M
-+content-of+element+inline+inside+item+list-spec =
-    close μ-content-of μ-element μ-inline μ-inside μ-item μ-list (λ t. content-of-lts.spec (content-of-claims t) (content-of-at t)
+pub +content-of+inline+inside+item+list-spec : {M : Type 1} → statement M
++content-of+inline+inside+item+list-spec =
+    close μ-content-of μ-inline μ-inside μ-item μ-list (λ t. content-of-lts.spec (content-of-claims t) (content-of-at t)
     content-of.Post
     (content-of-item-requires t)
     (content-of-list-requires t)
-    (content-of-element-requires t)
     (content-of-inline-requires t)
     (content-of-returns t)
     (content-of-returns-2 t)
-    (content-of-returns-3 t)
-    (content-of-returns-4 t))
-    (λ t. element-lts.spec (element-claims t) (element-at t)
-    element.Post
-    element-Inv-loop
-    element-μ-loop
-    (element-loop-holds t)
-    (element-next-turn-requires t)
-    (element-enum-known-t t)
-    (element-returns t)
-    (element-enum-known-t-2 t)
-    (element-loop-less t)
-    (element-loop-again t)
-    (element-enum-known-t-3 t)
-    (element-inside-requires t)
-    (element-past-bracket-requires t)
-    (element-returns-2 t)
-    (element-loop-less-2 t)
-    (element-loop-again-2 t))
+    (content-of-returns-3 t))
     (λ t. inline-lts.spec (inline-claims t) (inline-at t)
     inline.Post
     inline-Inv-loop
@@ -656,18 +486,19 @@ pub +content-of+element+inline+inside+item+list-spec : {M : Type 1} → statemen
     list-Inv-loop
     list-μ-loop
     (list-loop-holds t)
-    (list-next-turn-requires t)
-    (list-enum-known-t t)
+    (list-look-requires t)
+    (list-at-end-requires t)
     (list-returns t)
-    (list-enum-known-t-2 t)
-    (list-loop-less t)
-    (list-loop-again t)
-    (list-enum-known-t-3 t)
+    (list-step-requires t)
+    (list-fault-at-requires t)
+    (list-returns-2 t)
+    (list-refusal-requires t)
+    (list-returns-3 t)
     (list-enter-requires t)
     (list-add-item t)
     (list-item-requires t)
     (list-leave-requires t)
     (list-past-bracket-requires t)
-    (list-returns-2 t)
-    (list-loop-less-2 t)
-    (list-loop-again-2 t)
+    (list-returns-4 t)
+    (list-loop-less t)
+    (list-loop-again t)
