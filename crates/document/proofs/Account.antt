@@ -1,24 +1,23 @@
 -- Reading answers as `specs/Account.antt` tells, and in no other way. Assumes nothing.
-use Prim.Native.Nat.{ℕ, _≤_, _<_}
-use mathlib.Core.Path.{_≡_, refl, sym, _∙_, ap}
-use mathlib.Core.Bool.{Bool, true, false, cond}
-use mathlib.Core.List.{List, [], _∷_}
+use Prim.Native.Nat.{ℕ, _≤_}
+use mathlib.Core.Path.{_≡_, refl, _∙_}
+use mathlib.Core.Bool.{false}
+use mathlib.Core.List.{List}
 use native.Mathlib.Omega.{arith}
 use borrow.Author.Tests.{lt-ltb, le-ltb, ltb-false, ltb-true}
-use lib.Dec.{T, ltb}
-use lib.ListN.{length, getD}
+use lib.Dec.{ltb}
+use lib.ListN.{length}
 use Rattle.laws.proofs.Booleans.{cond-case}
-use Rattle.utf8.specs.Scalar.{IsUtf8, IllFormedAt}
+use Rattle.utf8.specs.Scalar.{IsUtf8}
 use Rattle.utf8.specs.Sequence.{validUpTo}
 use Rattle.utf8.proofs.Walk.{valid-within}
 use Rattle.utf8.proofs.Agree.{valid-utf8, utf8-valid, fault-place, place-fault}
-use Rattle.syntax.specs.Expression.{Expr}
 use Rattle.document.specs.Document.{Node, says}
 use Rattle.document.specs.Spelling.{Spelling, Spells}
 use Rattle.document.specs.Meaning.{treeOf, places}
 use Rattle.document.specs.Table.{count, pool}
 use Rattle.document.specs.WellFormed.{Check, sound, unsound, check}
-use Rattle.document.specs.Answer.{Memory, Outcome, Reading, refused, read, reading, refusal, noRoom, filled, nodeRoom, checked, stored, afterReading, outcome}
+use Rattle.document.specs.Answer.{Memory, Outcome, Reading, refused, read, reading, nodeRoom, checked, stored, afterReading, outcome}
 use Rattle.document.specs.Account as Account
 use Rattle.document.specs.Account.{Answers, too-long, ill-formed, no-node-room, no-pool-room, has-fault, accepted}
 use Rattle.document.proofs.Reading.{Found, found, refused-read, spelled-read, spelled-means}

@@ -1,17 +1,17 @@
 -- Demand 3: reading answers 0 exactly when the text is within the limits and spells a well-formed document that fits the room; node words, pool and counts
 -- are then that document's; and no text spells two documents. Assumes nothing.
-use Prim.Native.Nat.{ℕ, _≤_, _*_, _/_, min}
+use Prim.Native.Nat.{ℕ, _≤_}
 use mathlib.Core.Path.{_≡_, refl}
 use mathlib.Core.List.{List}
 use native.Mathlib.Omega.{arith}
 use lib.ListN.{length}
 use Rattle.document.specs.Document.{Node}
 use Rattle.document.specs.Spelling.{Spelling, Spells}
-use Rattle.document.specs.Table.{count, pool, tableOf}
-use Rattle.document.specs.WellFormed.{First, nowhere, at-node, Check, sound, unsound, checkedBy, check, WellFormed}
+use Rattle.document.specs.Table.{count, pool}
+use Rattle.document.specs.WellFormed.{WellFormed}
 use Rattle.document.specs.Answer.{answerAt, Memory, Outcome, refusal, noRoom, filled, nodeRoom, outcome}
 use Rattle.document.specs.Account as Account
-use Rattle.document.specs.Account.{RefusedFor, no-syntax, no-expression, second-expression, against-rules, too-deep, Answers, too-long, ill-formed}
+use Rattle.document.specs.Account.{Answers, too-long, ill-formed}
 use Rattle.document.specs.Account.{no-node-room, no-pool-room, has-fault, accepted}
 use Rattle.document.specs.Demand.{Fits, Readable, Read}
 use Rattle.document.proofs.Reading.{spelled-once}

@@ -1,10 +1,9 @@
 -- Which numbers a refusal can have: the scan answers 3 to 6, the walk 8 to 12, the check 15 to 18. Assumes nothing.
 use Prim.Native.Nat.{ℕ, _≤_}
-use mathlib.Core.Path.{_≡_, refl}
-use mathlib.Core.Bool.{Bool, true, false, cond}
+use mathlib.Core.Path.{_≡_}
 use mathlib.Core.List.{List, [], _∷_}
 use native.Mathlib.Omega.{arith}
-use lib.Dec.{T, eqb}
+use lib.Dec.{eqb}
 use Rattle.laws.proofs.Booleans.{cond-case}
 use Rattle.elements.specs.Bytes.{among}
 use Rattle.elements.specs.Class as Class

@@ -1,22 +1,22 @@
 -- What the check of a table and printing answer: of the document whose table they are given, and 20 where they are given no document's. Document 01,
 -- "Printing returns number and length." Assumes nothing.
 use Prim.Native.Nat.{ℕ, _*_, _≤_}
-use mathlib.Core.Path.{_≡_, refl, sym, _∙_, ap}
-use mathlib.Core.Bool.{Bool, true, false, cond, _&&_}
+use mathlib.Core.Path.{_≡_, refl, ap}
+use mathlib.Core.Bool.{Bool, true, false, _&&_}
 use mathlib.Core.List.{List}
 use native.Mathlib.Omega.{arith}
-use lib.Dec.{T, eqb, leb, leb→le}
+use lib.Dec.{T, leb, leb→le}
 use borrow.Author.Tests.{le-leb, ne-eqb}
 use lib.ListN.{length, take}
 use lib.Seq.{length-take-le}
 use Rattle.laws.proofs.Booleans.{both, T-true, not-T-false, cond-case, true-T}
 use Rattle.elements.specs.Bytes.{same}
 use Rattle.elements.proofs.Same.{same-equal}
-use Rattle.document.specs.Document.{Tree, Node, isDocument, says, Document}
+use Rattle.document.specs.Document.{Tree, Node, isDocument, says}
 use Rattle.document.specs.Table.{recordLength, tableOf, pool, count}
 use Rattle.document.specs.WellFormed.{Check, sound, unsound, check, WellFormed}
 use Rattle.document.specs.Canonical.{layout, treeLevels, canonical}
-use Rattle.document.specs.Printing.{IsDraft, IsTableOf, hasDraft, rebuild, candidate, treeOfTable, Checked, checkedAs, checking, Printed, written, printing}
+use Rattle.document.specs.Printing.{IsDraft, IsTableOf, hasDraft, treeOfTable, Checked, checkedAs, checking, written, printing}
 use Rattle.document.proofs.Records.{table-length}
 use Rattle.document.proofs.Prose.{same-refl}
 use Rattle.document.proofs.LaidOut.{laid-out}

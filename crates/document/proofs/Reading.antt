@@ -1,30 +1,27 @@
 -- What reading finds in a text that is UTF-8: an expression exactly where the text spells a document, and then that document's; else the fault that the
 -- rules name. Assumes nothing.
-use Prim.Native.Nat.{ℕ, _≤_, _<_, max}
+use Prim.Native.Nat.{ℕ, _≤_, max}
 use mathlib.Core.Path.{_≡_, refl, sym, _∙_, ap}
-use mathlib.Core.Bool.{Bool, true, false, cond, _&&_}
-use mathlib.Core.List.{List, [], _∷_}
+use mathlib.Core.List.{List}
 use native.Mathlib.Omega.{arith}
 use borrow.Author.Tests.{lt-ltb, le-ltb, ltb-false, ltb-true}
-use lib.Dec.{T, ltb, eqb}
+use lib.Dec.{ltb}
 use lib.ListN.{length}
 use Rattle.laws.proofs.Booleans.{cond-case}
 use Rattle.utf8.specs.Scalar.{IsUtf8}
-use Rattle.syntax.specs.Syntax.{Forest, another, Ok, bytesOf, levels}
-use Rattle.syntax.specs.Expression.{Expr, symbol, quoted, list, Exprs, none, and, locate, place, depth, depthAll}
+use Rattle.syntax.specs.Syntax.{levels}
+use Rattle.syntax.specs.Expression.{Expr, Exprs, none, and, locate, depth, depthAll}
 use Rattle.syntax.specs.Scan as Scan
 use Rattle.syntax.specs.Scan.{Scanned, scan}
-use Rattle.syntax.specs.Fault.{Fault}
 use Rattle.syntax.proofs.Accepted.{accepted}
 use Rattle.syntax.proofs.Decided.{accepts, refused-fault}
 use Rattle.syntax.proofs.Refused.{fault-refused}
 use Rattle.syntax.proofs.Located.{located-depth}
 use Rattle.syntax.proofs.Atoms.{AtomsOf}
-use Rattle.document.specs.Document.{Tree, Node, isDocument, says}
-use Rattle.document.specs.Spelling.{Spelling, nested, imperative, Spells, Writes, spelledAs, mostLevels, flatten}
+use Rattle.document.specs.Document.{Node, says}
+use Rattle.document.specs.Spelling.{Spelling, nested, imperative, Spells, spelledAs, mostLevels}
 use Rattle.document.specs.Meaning.{Verdict, fine, fault, judgeRoot, treeOf}
 use Rattle.document.specs.Imperative.{regroup}
-use Rattle.document.specs.Faults.{RootFault}
 use Rattle.document.specs.Answer.{Reading, refused, read, tooDeep, judged, oneExpression, afterScan, reading}
 use Rattle.document.specs.Account.{Scans, NestedForm, as-it-stands, regrouped, RefusedFor, no-syntax, no-expression, second-expression, against-rules, too-deep}
 use Rattle.document.proofs.Nested.{AllText, AllTexts, root-sound, root-complete}

@@ -1,17 +1,17 @@
 -- Demand 2 over the definitions: the canonical spelling of a document is a nested spelling of it, so reading it gives that document back, and the table of a document
 -- that was read is printed. Assumes nothing.
 use Prim.Native.Nat.{ℕ, _≤_}
-use mathlib.Core.Path.{_≡_, refl}
+use mathlib.Core.Path.{refl}
 use mathlib.Core.List.{List}
-use lib.Dec.{T, leb, leb→le}
+use lib.Dec.{leb, leb→le}
 use borrow.Author.Tests.{le-leb}
 use lib.ListN.{length}
 use Rattle.laws.proofs.Booleans.{true-T}
-use Rattle.document.specs.Document.{Node, says, Document}
+use Rattle.document.specs.Document.{Node, Document}
 use Rattle.document.specs.Spelling.{Spelling, nested, Spells}
 use Rattle.document.specs.Table.{count, pool, tableOf}
 use Rattle.document.specs.Canonical.{layout, treeLevels, canonical}
-use Rattle.document.specs.Printing.{IsDraft, IsTableOf}
+use Rattle.document.specs.Printing.{IsTableOf}
 use Rattle.document.specs.Answer.{Memory}
 use Rattle.document.specs.Demand.{Fits, Readable}
 use Rattle.document.proofs.LaidOut.{laid-out}

@@ -1,17 +1,17 @@
 -- The symbols and strings of a text that is UTF-8 are texts: one or more code points. Assumes nothing.
-use mathlib.Core.Path.{_≡_, refl}
+use mathlib.Core.Path.{refl}
 use mathlib.Core.List.{List, [], _∷_}
 use Prim.Native.Nat.{ℕ}
 use borrow.Author.Tests.{eq-eqb}
-use lib.Dec.{T, eqb}
+use lib.Dec.{T}
 use lib.ListN.{length}
 use Rattle.laws.proofs.Booleans.{true-T}
 use Rattle.utf8.specs.Scalar.{IsUtf8}
 use Rattle.utf8.specs.Sequence.{validUpTo}
 use Rattle.utf8.proofs.Agree.{utf8-valid}
 use Rattle.syntax.specs.Syntax.{Forest, another, Ok, bytesOf}
-use Rattle.syntax.specs.Expression.{Exprs, locate}
-use Rattle.syntax.proofs.Atoms.{IsText, AllAtoms, all-atoms-map, atoms-utf8}
+use Rattle.syntax.specs.Expression.{locate}
+use Rattle.syntax.proofs.Atoms.{IsText, all-atoms-map, atoms-utf8}
 use Rattle.document.specs.Value.{nonEmpty, isText}
 use Rattle.document.proofs.Nested.{AllTexts}
 

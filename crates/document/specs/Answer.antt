@@ -1,7 +1,7 @@
 -- What a read answers and leaves in the lent memory, for any text and any lent lengths. Document 01, "Numbers answered": "The first group in this order that applies decides."
 use Prim.Native.Nat.{ℕ, _/_, min}
 use mathlib.Core.Bool.{Bool, false, cond}
-use mathlib.Core.List.{List, [], _∷_, _++_}
+use mathlib.Core.List.{List, _++_}
 use lib.Dec.{ltb}
 use lib.ListN.{length, getD, drop}
 use Rattle.utf8.specs.Sequence.{validUpTo}

@@ -1,7 +1,7 @@
 -- The meaning of a nested expression: its first fault 8 to 12 with the place, or the tree that it writes. Document 01, "Numbers answered":
 -- "8 to 12 by a walk in text order: at a child 12, 8, 11, then its parameters, each judged whole in turn, then its content."
 use Prim.Native.Nat.{ℕ}
-use mathlib.Core.Bool.{Bool, cond}
+use mathlib.Core.Bool.{cond}
 use mathlib.Core.List.{List, [], _∷_, _++_}
 use lib.Dec.{eqb}
 use Rattle.elements.specs.Class as Class

@@ -1,8 +1,8 @@
 -- Which texts spell which documents. Document 01, "Spelling". No reader is in these rules.
 use Prim.Native.Nat.{ℕ, _≤_}
 use mathlib.Core.Path.{_≡_}
-use mathlib.Core.Bool.{Bool, cond, _&&_, _||_}
-use mathlib.Core.List.{List, []}
+use mathlib.Core.Bool.{Bool, cond, _||_}
+use mathlib.Core.List.{List}
 use lib.Dec.{T, eqb}
 use Rattle.utf8.specs.Scalar.{IsUtf8}
 use Rattle.elements.specs.Class as Class

@@ -1,6 +1,6 @@
 -- Each example of `specs/Examples.antt` has its verdict, by computation.
 use mathlib.Core.Path.{_≡_, refl}
-use mathlib.Core.List.{List, map}
+use mathlib.Core.List.{map}
 use Rattle.elements.specs.Bytes.{among}
 use Rattle.elements.specs.Class.{significance}
 use Rattle.elements.specs.Rules.{rules, ruleIn, ruleOf}

@@ -7,9 +7,8 @@ use native.Mathlib.Omega.{arith}
 use native.Mathlib.Numerals.{add-one}
 use lib.Dec.{eqb}
 use borrow.Author.Tests.{eq-eqb, ne-eqb}
-use lib.ListN.{length, take, drop, getD, length-drop, drop-of-length-le}
+use lib.ListN.{length, take, drop, getD, drop-of-length-le}
 use lib.Seq.{drop-cons, getD-drop}
-use Rattle.laws.proofs.Booleans.{bool-case}
 use Rattle.syntax.specs.Byte.{byteClass, isBlank, isOrdinary}
 use Rattle.syntax.specs.Scan.{ordinaryRun}
 use Rattle.lexer.specs.Token.{blanks, codeOf}

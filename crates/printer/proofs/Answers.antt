@@ -1,6 +1,6 @@
 -- The ways through printing. Assumes nothing.
 use Prim.Native.Nat.{ℕ, _*_, _≤_, _<_}
-use mathlib.Core.Path.{_≡_, refl, sym, ap, _∙_}
+use mathlib.Core.Path.{_≡_, refl, sym, _∙_}
 use mathlib.Core.List.{List}
 use native.Mathlib.Omega.{arith}
 use borrow.Author.Tests.{lt-ltb, le-ltb}
@@ -8,7 +8,7 @@ use lib.Dec.{ltb, leb→le}
 use lib.ListN.{length, take}
 use lib.Seq.{sets}
 use Rattle.document.specs.Document.{Node, missing}
-use Rattle.document.specs.Table.{recordLength, count, pool}
+use Rattle.document.specs.Table.{recordLength}
 use Rattle.document.specs.Canonical.{canonical}
 use Rattle.document.specs.Printing.{IsTableOf, checking, written, printing}
 use Rattle.document.proofs.PrintingDecided.{sound-table, prints, refuses}
@@ -16,7 +16,6 @@ use Rattle.table.specs.Stored.{Stored}
 use Rattle.table.proofs.Stored.{table-stored}
 use Rattle.validate.specs.Checks.{Checks}
 use Rattle.validate.specs.declared.Checked.{Checked}
-use Rattle.printer.specs.declared.Printed.{Printed}
 use Rattle.printer.specs.Prints.{Prints}
 use Rattle.printer.proofs.Adding.{sets-over}
 use Rattle.printer.proofs.Short.{spelled-short}

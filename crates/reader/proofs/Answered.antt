@@ -25,7 +25,7 @@ use Rattle.document.proofs.Records.{table-length}
 use Rattle.document.proofs.Numbers.{check-number}
 use Rattle.document.proofs.CheckedNode.{unsound-below}
 use Rattle.document.specs.Canonical.{layout, treeLevels}
-use Rattle.document.specs.Printing.{IsDraft, checkedAs, checking}
+use Rattle.document.specs.Printing.{checkedAs, checking}
 use Rattle.document.proofs.PrintingDecided.{checks}
 use Rattle.validate.specs.Checked.{checkNumber, checkNode}
 use Rattle.validate.specs.Checks.{Checks}

@@ -15,7 +15,7 @@ use Rattle.syntax.specs.Expression.{Expr, symbol, quoted, list, Exprs, none, an
 use Rattle.syntax.specs.Scan as Scan
 use Rattle.syntax.specs.Scan.{Scanned, scan}
 use Rattle.lexer.specs.Token.{scanPlace}
-use Rattle.syntax.specs.Fault.{Opened, within, openedBefore, size, Hit, control, lone-return, no-escape, empty-string, unclosed-string, unopened, other-partner, left-open, too-deep, Fault}
+use Rattle.syntax.specs.Fault.{Opened, openedBefore, size, Hit, control, lone-return, no-escape, empty-string, unclosed-string, unopened, other-partner, left-open, too-deep, Fault}
 use Rattle.syntax.proofs.Strings.{pieces-append}
 use Rattle.syntax.proofs.Prefixes.{opened-length}
 use Rattle.syntax.proofs.Decided.{refused-fault}

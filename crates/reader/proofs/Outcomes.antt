@@ -1,19 +1,17 @@
 -- The groups of a read's answer, one after the other. Assumes nothing.
-use Prim.Native.Nat.{ℕ, _+_, _*_, _/_, _≤_, _<_, min}
+use Prim.Native.Nat.{ℕ, _≤_, _<_}
 use mathlib.Core.Path.{_≡_, refl, sym, ap, _∙_}
 use mathlib.Core.Bool.{Bool, true, false, cond}
-use mathlib.Core.List.{List, [], _∷_, _++_}
+use mathlib.Core.List.{List}
 use native.Mathlib.Omega.{arith}
-use borrow.Author.Tests.{lt-ltb, le-ltb, ltb-false, ltb-true}
+use borrow.Author.Tests.{lt-ltb, le-ltb, ltb-false}
 use lib.Dec.{T, ltb}
-use lib.ListN.{length, take, drop, getD}
-use lib.Seq.{sets, sets-eq, take-at}
-use Rattle.laws.proofs.Booleans.{cond-case}
+use lib.ListN.{length}
 use Rattle.utf8.specs.Scalar.{IsUtf8}
 use Rattle.utf8.specs.Sequence.{validUpTo}
 use Rattle.utf8.proofs.Walk.{valid-within}
 use Rattle.utf8.proofs.Agree.{valid-utf8}
-use Rattle.syntax.specs.Syntax.{Forest, another, Ok, bytesOf as forestBytes, levels}
+use Rattle.syntax.specs.Syntax.{levels}
 use Rattle.syntax.specs.Expression.{Expr, Exprs, none, and, locate, depthAll}
 use Rattle.syntax.specs.Scan as Scan
 use Rattle.syntax.specs.Scan.{Scanned, scan}
@@ -21,7 +19,7 @@ use Rattle.lexer.specs.Token.{scanNumber, scanPlace}
 use Rattle.syntax.proofs.Decided.{accepts, refused-fault}
 use Rattle.syntax.proofs.Located.{located-depth}
 use Rattle.elements.specs.Class as Class
-use Rattle.document.specs.Document.{Node, says, Document, isNode}
+use Rattle.document.specs.Document.{says, Document, isNode}
 use Rattle.document.specs.Meaning.{Verdict, fine, fault, judgeRoot, treeOf, places}
 use Rattle.document.specs.Imperative.{regroup}
 use Rattle.document.specs.Table.{count, pool}
@@ -31,7 +29,7 @@ use Rattle.document.proofs.Reading.{Found, found}
 use Rattle.document.proofs.Places.{root-places, element-node}
 use Rattle.document.proofs.Blocks.{root-document}
 use Rattle.document.specs.Spelling.{Spelling, nested, imperative, mostLevels}
-use Rattle.document.specs.Answer.{Memory, Outcome, Reading, refused, read, tooDeep, judged, oneExpression, afterScan, reading, refusal, afterReading, stored, outcome}
+use Rattle.document.specs.Answer.{Memory, Reading, refused, read, tooDeep, judged, oneExpression, afterScan, reading, refusal, afterReading, stored, outcome}
 use Rattle.document.specs.Account.{no-syntax, NestedForm, as-it-stands, regrouped}
 use Rattle.document.proofs.Numbers.{refused-number}
 use Rattle.reader.specs.declared.walk.Walked.{Walked}

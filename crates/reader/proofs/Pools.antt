@@ -1,15 +1,14 @@
 -- "pool at most as long as the text", of every text that spells a document. Assumes nothing.
 use Prim.Native.Nat.{ℕ, _≤_}
-use mathlib.Core.Path.{_≡_, refl, sym, ap, _∙_}
+use mathlib.Core.Path.{refl, ap}
 use mathlib.Core.List.{List}
 use native.Mathlib.Omega.{arith}
 use lib.ListN.{length}
 use Rattle.syntax.specs.Expression.{Exprs, locate}
-use Rattle.document.specs.Document.{Node, says}
+use Rattle.document.specs.Document.{Node}
 use Rattle.document.specs.Spelling.{Spelling, Spells}
-use Rattle.document.specs.Meaning.{treeOf}
 use Rattle.document.specs.Table.{pool}
-use Rattle.document.specs.Answer.{Reading, read, oneExpression}
+use Rattle.document.specs.Answer.{oneExpression}
 use Rattle.document.proofs.Nested.{root-complete}
 use Rattle.document.proofs.Reading.{spelled-one, spelled-means}
 use Rattle.reader.specs.Stands.{Stands}

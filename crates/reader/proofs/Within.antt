@@ -1,8 +1,5 @@
 -- A fault's place lies in the text. Assumes nothing.
 use Prim.Native.Nat.{ℕ, _≤_}
-use mathlib.Core.Path.{_≡_}
-use mathlib.Core.Bool.{cond}
-use mathlib.Core.List.{List}
 use lib.Dec.{eqb}
 use Rattle.laws.proofs.Booleans.{cond-case}
 use Rattle.elements.specs.Class as Class

@@ -1,12 +1,12 @@
 -- The words of an answer, and the ways through the calls. Assumes nothing.
 use Prim.Native.Nat.{ℕ, _≤_, _<_}
-use mathlib.Core.Path.{_≡_, refl, sym, ap, _∙_}
+use mathlib.Core.Path.{_≡_, refl, _∙_}
 use mathlib.Core.List.{List, [], _∷_}
 use native.Mathlib.Omega.{arith}
 use borrow.Author.Tests.{lt-ltb, le-ltb}
 use lib.ListN.{length, set}
 use Rattle.document.specs.Spelling.{Spelling}
-use Rattle.document.specs.Answer.{Memory, outcome, over}
+use Rattle.document.specs.Answer.{Memory, over}
 use Rattle.document.specs.Printing.{printing}
 use Rattle.printer.specs.declared.Printed.{Printed}
 use Rattle.printer.specs.Prints.{Prints}

@@ -1,7 +1,6 @@
 -- Demand 2 of the functions, from their contracts alone. Assumes nothing.
 use Prim.Native.Nat.{ℕ, _*_, _≤_}
 use mathlib.Core.Path.{_≡_, refl, sym, ap, _∙_}
-use mathlib.Core.Bool.{Bool, true, false, cond}
 use mathlib.Core.List.{List}
 use native.Mathlib.Omega.{arith}
 use borrow.Author.Tests.{eqb-true, eqb-false}
@@ -14,7 +13,7 @@ use Rattle.document.specs.Table.{recordLength, count, pool, tableOf}
 use Rattle.document.specs.Spelling.{Spelling, nested, Spells}
 use Rattle.document.specs.Canonical.{canonical}
 use Rattle.document.specs.Printing as Defined
-use Rattle.document.specs.Printing.{IsDraft, IsTableOf, checking, written, printing}
+use Rattle.document.specs.Printing.{checking, written, printing}
 use Rattle.document.specs.Answer.{Memory, over}
 use Rattle.document.specs.Demand.{Fits, Readable}
 use Rattle.document.proofs.Records.{table-length}

@@ -1,6 +1,6 @@
 -- The classes of bytes. Document 01, "Characters and brackets". Bytes from 0x80 are ordinary: that the text is UTF-8 is a condition of its own.
 use Prim.Native.Nat.{ℕ}
-use mathlib.Core.Bool.{Bool, true, false, not, cond, _&&_, _||_}
+use mathlib.Core.Bool.{Bool, true, false, not, cond, _||_}
 use lib.Dec.{eqb, ltb}
 
 -- "`(` closes with `)`, `[` with `]`."

@@ -1,7 +1,7 @@
 -- The scan: faults 3 to 6 "by one scan left to right, the first fault found", or the concrete syntax of the text.
 -- First bytes to items, with 3 and 4; then items to levels, with 5 and 6. Items are looked at in order, so the first fault of either sort is the one found.
 use Prim.Native.Nat.{ℕ, zero, suc, _+_, _-_}
-use mathlib.Core.Bool.{Bool, true, false, cond}
+use mathlib.Core.Bool.{cond}
 use mathlib.Core.List.{List, [], _∷_}
 use lib.Dec.{eqb}
 use lib.ListN.{length, getD}

@@ -1,7 +1,7 @@
 -- The concrete syntax of a text: white space, symbols, quoted strings and bracketed lists, and the bytes of each.
 -- Document 01, "Characters and brackets".
 use Prim.Native.Nat.{ℕ, suc, _+_, _-_, _*_, max}
-use mathlib.Core.Bool.{Bool, true, false, not, cond, _&&_, _||_}
+use mathlib.Core.Bool.{Bool, true, false, cond, _&&_, _||_}
 use mathlib.Core.List.{List, [], _∷_, _++_}
 use lib.Dec.{T, eqb, leb}
 use Rattle.utf8.specs.Scalar.{isScalar, encode}

@@ -1,7 +1,7 @@
 -- When the node of a record is lawful: a text, and an element. Assumes nothing.
-use Prim.Native.Nat.{ℕ, _+_, _-_, _≤_, max}
+use Prim.Native.Nat.{ℕ, _+_, _*_, _-_, _≤_, max}
 use mathlib.Core.Path.{_≡_, refl, sym, ap, _∙_}
-use mathlib.Core.Bool.{Bool, not, cond, _&&_}
+use mathlib.Core.Bool.{Bool, not, cond, _&&_, true≢false}
 use mathlib.Core.List.{List, []}
 use native.Mathlib.Omega.{arith}
 use lib.Dec.{T, eqb, leb, leb→le}
@@ -11,15 +11,19 @@ use Rattle.laws.proofs.Booleans.{cond-case, both, both-true}
 use Rattle.elements.specs.Class as Class
 use Rattle.elements.specs.Rules.{ruleOf}
 use Rattle.elements.specs.Inside.{start}
+use Rattle.utf8.specs.Sequence.{validUpTo}
+use Rattle.document.specs.Value.{isText}
+use Rattle.document.specs.Printing.{part}
 use Rattle.document.specs.Document.{text, element, Trees, keepsRules, keepRules}
 use Rattle.document.specs.Document.{node, Nodes, childless, missing, says, sayAll}
 use Rattle.document.specs.Table.{count, pool}
 use Rattle.document.specs.Canonical.{nodeFirst, placeValues, layout, layoutAll, treeLevels, mostLevelsIn}
 use Rattle.table.specs.Stored.{wordAt, StoredAll}
 use Rattle.table.specs.Stored.{stringAt}
-use Rattle.validate.specs.Walking.{Decided, Decides, stringsEnd, RecordAt, TextAt, ElementAt, valueLevels, valuesOf, Lawful, NodeAt, ChildrenAt}
-use Rattle.validate.proofs.Decisions.{Same}
+use Rattle.validate.specs.Walking.{Decided, Decides, offsetOf, StringAt, stringsEnd, RecordAt, TextAlone, ElementAt, valueLevels, valuesOf, Lawful, NodeAt, ChildrenAt}
+use Rattle.validate.proofs.Decisions.{decided, Same}
 use Rattle.validate.proofs.Recordings.{nodeOf, no-string, named, stored-node, node-stored, node-pool}
+use Rattle.validate.proofs.RecordTests.{text-bytes, bytes-text}
 use Rattle.validate.proofs.Spoken.{levelsOf, inside-say}
 
 -- The kinds of elements.
@@ -33,6 +37,114 @@ range-element : (k : ℕ) → (k ≡ Class.text → ⊥) → 1 ≤ k → k ≤ 2
 unfolding Class.isElement Class.isKind
 range-element k n low high = rw (le-leb 1 k low, le-leb k 25 high, ne-eqb k Class.text n) tt
 
+-- ---- a text
+
+-- The record of node i, which is there, is that of a text.
+pub record TextAt (words bytes : List ℕ) (i parent p : ℕ) : Type 0 where
+  pub alone : TextAlone words i parent (i + 1)
+  pub text-at : StringAt words i 7 p (length bytes)
+  pub valid : T (isText (stringAt words bytes i 7))
+
+module _ (words bytes : List ℕ) (i parent p : ℕ) where
+  -- A text that stands there is valid where its bytes are.
+  pub text-valid : TextAlone words i parent (i + 1) → StringAt words i 7 p (length bytes) → {n : ℕ} → n ≡ validUpTo (part bytes p (wordAt words i 8))
+      → Decided (TextAt words bytes i parent p) (eqb n (wordAt words i 8))
+  text-valid a s e =
+      let t = named words bytes i 7 p s in
+      let size : length (stringAt words bytes i 7) ≡ wordAt words i 8 = t .size in
+      let there : part bytes p (wordAt words i 8) ≡ stringAt words bytes i 7 = rw size at (t .there) in
+      rw (e, there, ← size)
+      (decided (eqb (validUpTo (stringAt words bytes i 7)) (length (stringAt words bytes i 7)))
+      (λ b. record { alone = a; text-at = s; valid = bytes-text _ (λ z. a .some (sym size ∙ z)) b })
+      (λ b x. true≢false (sym (text-bytes _ (x .valid) .1) ∙ b)))
+
+  text-recorded : 11 * i + 11 ≤ length words → p ≤ length bytes → TextAt words bytes i parent p → RecordAt words (length bytes) i parent p
+  unfolding offsetOf
+  text-recorded whole within t =
+      let a = t .alone in
+      let same : p + wordAt words i 4 + wordAt words i 6 ≡ p = omega (arith, a .no-key, a .no-type) in
+      record {
+        whole = whole;
+        under = a .under;
+        key-at = record { offset = rw (a .no-key-at, a .no-key); within = omega (arith, a .no-key) };
+        type-at = record { offset = rw (a .no-type-at, a .no-type); within = omega (arith, a .no-key, a .no-type) };
+        text-at = rw same (t .text-at);
+      }
+
+  module _ (of-kind : wordAt words i 0 ≡ Class.text) (within : p ≤ length bytes) where
+    layout-text : (ns : Nodes) → layout (nodeOf words bytes i ns) ≡ text (stringAt words bytes i 7)
+    unfolding layout nodeOf
+    layout-text ns = rw (eq-eqb (wordAt words i 0) Class.text of-kind)
+
+    text-lawful : (left : ℕ) → TextAt words bytes i parent p → Lawful left (nodeOf words bytes i childless)
+    unfolding keepsRules says treeLevels nodeOf
+    text-lawful left t =
+        let l = layout-text childless in
+        let a = t .alone in
+        record {
+          keeps = rw l (t .valid);
+          said = rw l (cc (of-kind, no-string words bytes i 3 (a .no-key), no-string words bytes i 5 (a .no-type), a .no-width, a .no-height));
+          levels = rw l (omega arith);
+        }
+
+    -- Where a text stands, its record is a text's, and it has no children.
+    pub text-record : {left e q : ℕ} (a : NodeAt words bytes i parent p left e q)
+        → TextAt words bytes i parent p × (a .made ≡ nodeOf words bytes i childless)
+    unfolding keepsRules says nodeOf count offsetOf
+    text-record {left} a =
+        let n = stored-node (a .made) words bytes i parent p (a .stored) within in
+        let r = n .recorded in
+        let l = layout-text (n .below) in
+        let lawful : Lawful left (nodeOf words bytes i (n .below)) = rw (n .made) at (a .lawful) in
+        let said = rw l at (lawful .said) in
+        let none : n .below ≡ childless = cc said in
+        let key : stringAt words bytes i 3 ≡ [] = cc said in
+        let type : stringAt words bytes i 5 ≡ [] = cc said in
+        let no-key = sym (named words bytes i 3 p (r .key-at) .size) ∙ ap length key in
+        let no-type = sym (named words bytes i 5 (p + wordAt words i 4) (r .type-at) .size) ∙ ap length type in
+        let same : p + wordAt words i 4 + wordAt words i 6 ≡ p = omega arith in
+        let valid = rw l at (lawful .keeps) in (
+          record {
+            alone = record {
+              under = r .under;
+              ends = rw none at (n .end);
+              no-key-at = rw no-key at (r .key-at .offset);
+              no-key = no-key;
+              no-type-at = rw no-type at (r .type-at .offset);
+              no-type = no-type;
+              some = λ z. text-bytes _ valid .0 (named words bytes i 7 (p + wordAt words i 4 + wordAt words i 6) (r .text-at) .size ∙ z);
+              no-width = cc said;
+              no-height = cc said;
+            };
+            text-at = rw same at (r .text-at);
+            valid = valid;
+          },
+          n .made ∙ rw none,
+        )
+
+    pub text-decides : {left : ℕ} {b : Bool} → 11 * i + 11 ≤ length words → Decided (TextAt words bytes i parent p) b
+        → Decides (NodeAt words bytes i parent p left) b (i + 1) (p + wordAt words i 8)
+    unfolding count StoredAll nodeOf pool
+    text-decides {left} whole d =
+        record {
+          sound = λ b.
+              let t = d .sound b in
+              let r = text-recorded whole within t in
+              record {
+                made = nodeOf words bytes i childless;
+                stored = node-stored childless words bytes i parent p r (t .alone .ends) tt;
+                lawful = text-lawful left t;
+                next = refl;
+                after = omega (arith, node-pool childless words bytes i parent p r, t .alone .no-key, t .alone .no-type);
+              };
+          complete = λ m q a.
+              let (t, made) = text-record a in
+              let pooled = node-pool childless words bytes i parent p (text-recorded whole within t) in
+              (d .complete t, sym (rw made at (a .next)), omega (arith, rw made at (a .after), pooled, t .alone .no-key, t .alone .no-type));
+        }
+
+-- ---- an element
+
 module _ (words bytes : List ℕ) (i parent p : ℕ) (r : RecordAt words (length bytes) i parent p) where
   within : p ≤ length bytes
   within = omega (arith, r .key-at .within)
@@ -45,65 +157,6 @@ module _ (words bytes : List ℕ) (i parent p : ℕ) (r : RecordAt words (length
 
   text-size : length (stringAt words bytes i 7) ≡ wordAt words i 8
   text-size = named words bytes i 7 (p + wordAt words i 4 + wordAt words i 6) (r .text-at) .size
-
-  -- ---- a text
-
-  layout-text : (ns : Nodes) → wordAt words i 0 ≡ Class.text → layout (nodeOf words bytes i ns) ≡ text (stringAt words bytes i 7)
-  unfolding layout nodeOf
-  layout-text ns e = rw (eq-eqb (wordAt words i 0) Class.text e)
-
-  text-lawful : (left : ℕ) → wordAt words i 0 ≡ Class.text → TextAt words bytes i → Lawful left (nodeOf words bytes i childless)
-  unfolding keepsRules says treeLevels nodeOf
-  text-lawful left e t =
-      let l = layout-text childless e in
-      record {
-        keeps = rw l (t .valid);
-        said = rw l (cc (e, no-string words bytes i 3 (t .no-key), no-string words bytes i 5 (t .no-type), t .no-width, t .no-height));
-        levels = rw l (omega arith);
-      }
-
-  lawful-text : {left : ℕ} (ns : Nodes) → wordAt words i 0 ≡ Class.text → wordAt words i 2 ≡ i + count (nodeOf words bytes i ns)
-      → Lawful left (nodeOf words bytes i ns) → TextAt words bytes i × (ns ≡ childless)
-  unfolding keepsRules says nodeOf count
-  lawful-text ns e f a =
-      let l = layout-text ns e in
-      let said = rw l at (a .said) in
-      let none : ns ≡ childless = cc said in
-      let k : stringAt words bytes i 3 ≡ [] = cc said in
-      let t : stringAt words bytes i 5 ≡ [] = cc said in (
-        record {
-          end = rw none at f;
-          no-key = sym key-size ∙ ap length k;
-          no-type = sym type-size ∙ ap length t;
-          no-width = cc said;
-          no-height = cc said;
-          valid = rw l at (a .keeps);
-        },
-        none,
-      )
-
-  pub text-decides : {left : ℕ} {b : Bool} → wordAt words i 0 ≡ Class.text → Decided (TextAt words bytes i) b
-      → Decides (NodeAt words bytes i parent p left) b (i + 1) (stringsEnd words i p)
-  unfolding count StoredAll nodeOf pool
-  text-decides {left} e d =
-      record {
-        sound = λ b.
-            let t = d .sound b in
-            record {
-              made = nodeOf words bytes i childless;
-              stored = node-stored childless words bytes i parent p r (t .end) tt;
-              lawful = text-lawful left e t;
-              next = refl;
-              after = omega (arith, node-pool childless words bytes i parent p r);
-            };
-        complete = λ m q a.
-            let n = stored-node (a .made) words bytes i parent p (a .stored) within in
-            let (t, none) = lawful-text (n .below) e (n .end) (rw (n .made) at (a .lawful)) in
-            let whole : a .made ≡ nodeOf words bytes i childless = n .made ∙ rw none in
-            (d .complete t, sym (rw whole at (a .next)), omega (arith, rw whole at (a .after), node-pool childless words bytes i parent p r));
-      }
-
-  -- ---- an element
 
   -- The trees inside the element of the record, with these children.
   abbrev inner : ℕ → Nodes → Trees

@@ -1,7 +1,7 @@
 -- The tests of one record. Assumes nothing.
 use Prim.Native.Nat.{ℕ, _+_, _*_, _-_, _≤_, _<_}
 use mathlib.Core.Path.{_≡_, refl, sym, _∙_}
-use mathlib.Core.Bool.{true, false}
+use mathlib.Core.Bool.{true, false, not, _&&_}
 use mathlib.Core.List.{List, [], _∷_}
 use native.Mathlib.Omega.{arith}
 use lib.Dec.{T, eqb, ltb}
@@ -9,11 +9,12 @@ use lib.ListN.{length, getD, List·getD-eq-default}
 use borrow.Author.Tests.{eq-eqb, ne-eqb, eqb-true, eqb-false, ltb-true, ltb-false}
 use Rattle.laws.proofs.Booleans.{bool-case, true-T, T-true}
 use Rattle.utf8.specs.Sequence.{validUpTo}
+use Rattle.document.specs.Document.{missing}
 use Rattle.document.specs.Value.{nonEmpty, isText}
 use Rattle.table.specs.Stored.{wordAt, Recorded}
 use Rattle.table.proofs.Stored.{recorded-word}
-use Rattle.validate.specs.Walking.{Decided, offsetOf, StringAt}
-use Rattle.validate.proofs.Decisions.{decided, denied}
+use Rattle.validate.specs.Walking.{Decided, offsetOf, StringAt, TextAlone}
+use Rattle.validate.proofs.Decisions.{decided, denied, equal, unequal, both-decided, reworded}
 
 -- ---- the words of a record
 
@@ -51,6 +52,38 @@ module _ (words : List ℕ) (i j p size : ℕ) {o n : ℕ} (a : o ≡ wordAt wor
       let some = ne-eqb (wordAt words i (j + 1)) 0 (λ e. z (b ∙ e)) in
       decided (eqb o p) (λ e. record { offset = rw some (sym a ∙ eqb-true o p e); within = omega arith })
       (λ e s. eqb-false o p e (a ∙ rw some at (s .offset)))
+
+-- What stands in the record of a text beside the text.
+pub alone-tests : (words : List ℕ) (i parent end : ℕ)
+    → Decided (TextAlone words i parent end)
+    ((((((((eqb (wordAt words i 1) parent && eqb (wordAt words i 2) end) && eqb (wordAt words i 3) 0) && eqb (wordAt words i 4) 0)
+    && eqb (wordAt words i 5) 0) && eqb (wordAt words i 6) 0) && not (eqb (wordAt words i 8) 0)) && eqb (wordAt words i 9) missing)
+    && eqb (wordAt words i 10) missing)
+alone-tests words i parent end =
+    reworded
+    (λ t. record {
+      under = t .0 .0 .0 .0 .0 .0 .0 .0;
+      ends = t .0 .0 .0 .0 .0 .0 .0 .1;
+      no-key-at = t .0 .0 .0 .0 .0 .0 .1;
+      no-key = t .0 .0 .0 .0 .0 .1;
+      no-type-at = t .0 .0 .0 .0 .1;
+      no-type = t .0 .0 .0 .1;
+      some = t .0 .0 .1;
+      no-width = t .0 .1;
+      no-height = t .1;
+    })
+    (λ t. ((((((((t .under, t .ends), t .no-key-at), t .no-key), t .no-type-at), t .no-type), t .some), t .no-width), t .no-height))
+    (both-decided
+    (both-decided
+    (both-decided
+    (both-decided
+    (both-decided
+    (both-decided (both-decided (both-decided (equal _ _) (equal _ _)) (equal _ _)) (equal _ _))
+    (equal _ _))
+    (equal _ _))
+    (unequal _ _))
+    (equal _ _))
+    (equal _ _))
 
 -- A text is valid where it has bytes and all are valid.
 pub text-bytes : (s : List ℕ) → T (isText s) → (length s ≡ 0 → ⊥) × (eqb (validUpTo s) (length s) ≡ true)

@@ -1,5 +1,5 @@
 -- The ways through the check of a table. Assumes nothing.
-use Prim.Native.Nat.{ℕ, _*_, _≤_, _<_}
+use Prim.Native.Nat.{ℕ, _*_, _≤_}
 use mathlib.Core.Path.{_≡_, refl, sym, ap, _∙_}
 use mathlib.Core.Bool.{Bool, true, false, not}
 use Rattle.laws.proofs.Booleans.{false-not-T}
@@ -9,13 +9,12 @@ use lib.Dec.{leb→le}
 use lib.ListN.{length, take}
 use lib.Seq.{length-take-le, take-all}
 use Rattle.document.specs.Document.{Node}
-use Rattle.document.specs.Table.{recordLength, count, pool, tableOf}
+use Rattle.document.specs.Table.{recordLength, count}
 use Rattle.document.specs.WellFormed.{Check, sound, unsound, check}
 use Rattle.document.specs.Printing.{IsDraft, checkedAs, checking}
 use Rattle.document.proofs.Records.{table-length}
 use Rattle.document.proofs.CheckedNode.{unsound-below}
 use Rattle.document.proofs.PrintingDecided.{checks, refused-check}
-use Rattle.validate.specs.declared.Checked.{Checked}
 use Rattle.validate.specs.Checked.{checkNumber, checkNode, Holds}
 use Rattle.validate.specs.Checks.{Checks}
 

@@ -1,22 +1,26 @@
 -- The values before the trees inside an element: which are taken, and the state after them. Assumes nothing.
-use Prim.Native.Nat.{ℕ, _≤_, _<_}
-use mathlib.Core.Path.{_≡_, refl, ap, _∙_}
-use mathlib.Core.Bool.{Bool, true, false, cond, _&&_}
+use Prim.Native.Nat.{ℕ, _+_, _≤_, _<_}
+use mathlib.Core.Path.{_≡_, refl, sym, ap, _∙_}
+use mathlib.Core.Bool.{Bool, true, false, cond, _&&_, true≢false}
 use mathlib.Core.List.{List, [], _∷_}
 use native.Mathlib.Omega.{arith}
-use lib.Dec.{eqb}
+use lib.Dec.{eqb, ltb}
 use lib.ListN.{length}
-use borrow.Author.Tests.{eqb-true, eq-eqb, ne-eqb, le-leb, lt-leb}
-use Rattle.laws.proofs.Booleans.{and-false}
+use borrow.Author.Tests.{eqb-true, eq-eqb, ne-eqb, le-leb, lt-leb, ltb-true, ltb-false}
+use Rattle.laws.proofs.Booleans.{bool-case, and-false}
 use Rattle.elements.specs.Class as Class
 use Rattle.elements.specs.Characters.{idCharacter, uriCharacter, characterOf}
-use Rattle.elements.specs.Inside.{go, bad, step}
+use Rattle.elements.specs.Rules.{ruleOf}
+use Rattle.elements.specs.Inside.{go, bad, step, start}
 use Rattle.kind.specs.Machine.{stateOf, stepOf}
-use Rattle.document.specs.Document.{Trees, treeClass, goesOn, keepsRules, keepRules, missing}
+use Rattle.kind.proofs.Steps.{start-state}
+use Rattle.document.specs.Document.{Trees, empty, holds, treeClass, goesOn, keepsRules, keepRules, Nodes, childless, child, missing}
+use Rattle.document.specs.Table.{count, countAll}
 use Rattle.document.specs.Value.{nonEmpty, every, namesBlock, targetCharacter, isValue, isSize}
-use Rattle.document.specs.Canonical.{keyClass, valueBefore, sizeBefore}
-use Rattle.table.specs.Stored.{wordAt, stringAt}
-use Rattle.validate.specs.Walking.{Takes, valueLevels, valuesOf}
+use Rattle.document.specs.Canonical.{nodeFirst, placeValues, layout, layoutAll, valueBefore, sizeBefore}
+use Rattle.document.proofs.Determined.{count-positive}
+use Rattle.table.specs.Stored.{wordAt}
+use Rattle.validate.specs.Walking.{Takes, Leads, valueLevels, valuesOf}
 use Rattle.validate.proofs.Recordings.{no-string}
 
 -- ---- the characters of a value
@@ -105,12 +109,44 @@ levels-none true true false e = absurd (omega arith)
 levels-none true false c e = absurd (omega arith)
 levels-none false b c e = absurd (omega arith)
 
--- An element without values takes nothing.
-pub no-values : (words bytes : List ℕ) (k i state : ℕ) → valueLevels words i ≡ 0 → Takes k (valuesOf words bytes k i) state true state
-unfolding valueLevels valuesOf
-no-values words bytes k i state e =
+-- An element without values has nothing before its trees.
+nothing : (words bytes : List ℕ) (k i : ℕ) → valueLevels words i ≡ 0 → (ts : Trees) → valuesOf words bytes k i ts ≡ ts
+unfolding valueLevels valuesOf valueBefore sizeBefore
+nothing words bytes k i e ts =
     let (a, b, c) = levels-none (eqb (wordAt words i 4) 0) (eqb (wordAt words i 6) 0) (eqb (wordAt words i 9) missing) e in
-    let key = value-missing k (keyClass k) state (stringAt words bytes i 3) (ap length (no-string words bytes i 3 (eqb-true _ 0 a))) in
-    let size = size-missing k state (wordAt words i 9) (wordAt words i 10) (eqb-true _ missing c) in
-    let type = value-missing k Class.type state (stringAt words bytes i 5) (ap length (no-string words bytes i 5 (eqb-true _ 0 b))) in
-    takes-then key refl (takes-then size refl type)
+    rw (no-string words bytes i 3 (eqb-true _ 0 a), no-string words bytes i 5 (eqb-true _ 0 b), c)
+
+placed-nothing : (b : Bool) {W : Trees → Trees} → ((ts : Trees) → W ts ≡ ts) → (ts : Trees) → placeValues b W ts ≡ ts
+unfolding placeValues
+placed-nothing false h ts = h ts
+placed-nothing true h empty = h empty
+placed-nothing true h (holds t ts) = ap (holds t) (h ts)
+
+-- ---- the values before the children
+
+placed-alone : (W : Trees → Trees) (ns : Nodes) → countAll ns ≡ 0 → placeValues true W (layoutAll ns) ≡ W (layoutAll ns)
+unfolding placeValues layout count
+placed-alone W childless e = refl
+placed-alone W (child n ns) e = absurd (omega (arith, count-positive n))
+
+module _ (words bytes : List ℕ) (k i end : ℕ) where
+  pub lead-none : valueLevels words i ≡ 0 → Leads words bytes k i end true false 0
+  lead-none e =
+      record {
+        taken = λ ns n. rw (placed-nothing (nodeFirst (ruleOf k .parameters)) (nothing words bytes k i e) (layoutAll ns), start-state k);
+        before-child = λ d. absurd (true≢false (sym d));
+      }
+
+  pub lead-due : nodeFirst (ruleOf k .parameters) ≡ true → i + 1 < end → Leads words bytes k i end true true 0
+  lead-due e h = record { taken = λ ns n. rw (e, start-state k); before-child = λ d. h }
+
+  pub lead-taken : {ok : Bool} {state : ℕ} → (i + 1 < end → nodeFirst (ruleOf k .parameters) ≡ false) → Takes k (valuesOf words bytes k i) 0 ok state
+      → Leads words bytes k i end ok false state
+  lead-taken {ok} {state} h t = record { taken = λ ns n. by (nodeFirst (ruleOf k .parameters)) h ns n ∙ t .taken (layoutAll ns); before-child = λ d. absurd (true≢false (sym d)) }
+    where
+      by : (b : Bool) → (i + 1 < end → b ≡ false) → (ns : Nodes) → end ≡ i + 1 + countAll ns
+          → keepRules k (start k) (placeValues b (valuesOf words bytes k i) (layoutAll ns)) ≡ keepRules k (stateOf k 0) (valuesOf words bytes k i (layoutAll ns))
+      by false g ns n = unfold placeValues in rw (start-state k)
+      by true g ns n =
+          bool-case (ltb (i + 1) end) (λ l. absurd (true≢false (g (ltb-true (i + 1) end l))))
+          (λ l. rw (placed-alone (valuesOf words bytes k i) ns (omega (arith, ltb-false (i + 1) end l)), start-state k))

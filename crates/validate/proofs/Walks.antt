@@ -16,10 +16,10 @@ use Rattle.document.specs.Table.{count, countAll, pool, poolAll}
 use Rattle.document.specs.Canonical.{placeValues, layout, layoutAll, mostLevelsIn}
 use Rattle.document.proofs.Nested.{goes-on}
 use Rattle.table.specs.Stored.{wordAt, Stored, StoredAll}
-use Rattle.validate.specs.Walking.{Decides, Takes, NodeAt, ChildrenAt, ChildTaken}
+use Rattle.validate.specs.Walking.{Decides, behindFirst, NodeAt, ChildrenAt, ChildTaken}
 use Rattle.table.proofs.Stored.{recorded-word, rows-stored}
 use Rattle.document.proofs.Determined.{count-positive}
-use Rattle.validate.proofs.Decisions.{Same, itself}
+use Rattle.validate.proofs.Decisions.{Same}
 use Rattle.validate.proofs.Spoken.{layout-node}
 use Rattle.validate.proofs.Nodes.{element-range}
 
@@ -55,16 +55,11 @@ pub kind-word : {words bytes : List ℕ} {i parent p left e q : ℕ} → NodeAt 
 kind-word {words} {bytes} {i} {parent} {p} a =
     rw (← (class-word words bytes i parent p (a .made) (a .stored))) (class-low (a .made) (a .lawful .keeps))
 
--- The values stand behind the first child, or alone.
-module _ (W : Trees → Trees) where
-  pub placed-behind : {b : Bool} → b ≡ true → (t : Tree) (ts : Trees) → placeValues b W (holds t ts) ≡ holds t (W ts)
-  unfolding placeValues
-  placed-behind e t ts = rw e
-
-  alone : (ns : Nodes) → countAll ns ≡ 0 → placeValues true W (layoutAll ns) ≡ W (layoutAll ns)
-  unfolding placeValues layout count
-  alone childless e = refl
-  alone (child n ns) e = absurd (omega (arith, count-positive n))
+-- Where the values are due, they stand behind the first child.
+pub behind-child : (due : Bool) (W : Trees → Trees) (t : Tree) (ts : Trees) → behindFirst due W (holds t ts) ≡ holds t (cond due (W ts) ts)
+unfolding placeValues
+behind-child true W t ts = refl
+behind-child false W t ts = refl
 
 module _ (words bytes : List ℕ) (k i : ℕ) where
   -- The nodes and the pool places of children that stand in the table.
@@ -88,7 +83,7 @@ module _ (words bytes : List ℕ) (k i : ℕ) where
             (T-true (ended k s) (rw none at (c .keep)), sym (c .next), omega (arith, rw none at (c .after)));
       }
 
-  pub end-passed : {s : State} {j p end left e q : ℕ} → end ≤ j → (j ≡ end → ⊥) → Kids (λ ts. ts) s j p end left e q → ⊥
+  pub end-passed : {W : Trees → Trees} {s : State} {j p end left e q : ℕ} → end ≤ j → (j ≡ end → ⊥) → Kids W s j p end left e q → ⊥
   end-passed h f c = f (omega (arith, c .counted))
 
   -- ---- one child
@@ -191,33 +186,19 @@ module _ (words bytes : List ℕ) (k i : ℕ) where
         after = c .after;
       }
 
-  module _ {W : Trees → Trees} {state state′ : ℕ} {ok : Bool} (t : Takes k W state ok state′) where
-    -- Where the values are taken, the children are left.
-    pub values-same : {j p end left : ℕ} → ok ≡ true → Same (Kids (λ ts. ts) (stateOf k state′) j p end left) (Kids W (stateOf k state) j p end left)
-    values-same o =
-        record {
-          to = λ e q c. kept c (rw (t .taken (layoutAll (c .made)), o) (c .keep));
-          from = λ e q c. kept c (rw (t .taken (layoutAll (c .made)), o) at (c .keep));
-        }
+  -- Where the values are taken, the children are left.
+  pub values-same : {W W′ : Trees → Trees} {s s′ : State} {j p end left : ℕ}
+      → ((ns : Nodes) → end ≡ j + countAll ns → keepRules k s (W (layoutAll ns)) ≡ keepRules k s′ (W′ (layoutAll ns)))
+      → Same (Kids W′ s′ j p end left) (Kids W s j p end left)
+  values-same t =
+      record {
+        to = λ e q c. kept c (rw (t (c .made) (c .counted)) (c .keep));
+        from = λ e q c. kept c (rw (t (c .made) (c .counted)) at (c .keep));
+      }
 
-    pub values-none : {j p end left : ℕ} → ok ≡ false → (e q : ℕ) → Kids W (stateOf k state) j p end left e q → ⊥
-    values-none o e q c = rw (t .taken (layoutAll (c .made)), o) at (c .keep)
-
-  -- ---- the place of the values
-
-  module _ (W : Trees → Trees) where
-    -- Before the children.
-    pub placed-first : {b : Bool} {s : State} {j p end left : ℕ} → b ≡ false → Same (Kids W s j p end left) (Kids (placeValues b W) s j p end left)
-    unfolding placeValues
-    placed-first e = rw e itself
-
-    -- Where there are none.
-    pub placed-alone : {b : Bool} {s : State} {j p end left : ℕ} → b ≡ true → end ≤ j → Same (Kids W s j p end left) (Kids (placeValues b W) s j p end left)
-    placed-alone e h =
-        rw e (record {
-          to = λ m q c. kept c (rw (alone W (c .made) (omega (arith, c .counted))) (c .keep));
-          from = λ m q c. kept c (rw (alone W (c .made) (omega (arith, c .counted))) at (c .keep));
-        })
+  pub values-none : {W : Trees → Trees} {s : State} {j p end left : ℕ}
+      → ((ns : Nodes) → end ≡ j + countAll ns → keepRules k s (W (layoutAll ns)) ≡ false) → (e q : ℕ) → Kids W s j p end left e q → ⊥
+  values-none t e q c = rw (t (c .made) (c .counted)) at (c .keep)
 
   -- ---- the answer of one child
 

@@ -6,12 +6,12 @@ use mathlib.Core.List.{List}
 use lib.Dec.{T, eqb}
 use lib.ListN.{length}
 use Rattle.elements.specs.Class as Class
-use Rattle.elements.specs.Inside.{State, go, step}
+use Rattle.elements.specs.Rules.{ruleOf}
+use Rattle.elements.specs.Inside.{State, go, step, start}
 use Rattle.kind.specs.Machine.{stateOf}
 use Rattle.document.specs.Document.{Trees, keepsRules, keepRules, Node, Nodes, missing, says, sayAll}
 use Rattle.document.specs.Table.{recordLength, count, countAll, pool, poolAll}
-use Rattle.document.specs.Value.{isText}
-use Rattle.document.specs.Canonical.{layout, layoutAll, keyClass, valueBefore, sizeBefore, treeLevels, mostLevelsIn}
+use Rattle.document.specs.Canonical.{nodeFirst, placeValues, layout, layoutAll, keyClass, valueBefore, sizeBefore, treeLevels, mostLevelsIn}
 use Rattle.table.specs.Stored.{wordAt, stringAt, Stored, StoredAll}
 
 -- An answer tells whether something holds.
@@ -45,14 +45,17 @@ pub record RecordAt (words : List ℕ) (size i parent p : ℕ) : Type 0 where
   pub type-at : StringAt words i 5 (p + wordAt words i 4) size
   pub text-at : StringAt words i 7 (p + wordAt words i 4 + wordAt words i 6) size
 
--- Such a record is that of a text, and has nothing but the text.
-pub record TextAt (words bytes : List ℕ) (i : ℕ) : Type 0 where
-  pub end : wordAt words i 2 ≡ i + 1
+-- A record has this parent and end, a text, and no other string and no size.
+pub record TextAlone (words : List ℕ) (i parent end : ℕ) : Type 0 where
+  pub under : wordAt words i 1 ≡ parent
+  pub ends : wordAt words i 2 ≡ end
+  pub no-key-at : wordAt words i 3 ≡ 0
   pub no-key : wordAt words i 4 ≡ 0
+  pub no-type-at : wordAt words i 5 ≡ 0
   pub no-type : wordAt words i 6 ≡ 0
+  pub some : wordAt words i 8 ≡ 0 → ⊥
   pub no-width : wordAt words i 9 ≡ missing
   pub no-height : wordAt words i 10 ≡ missing
-  pub valid : T (isText (stringAt words bytes i 7))
 
 -- The levels of an element's values.
 unfoldable pub valueLevels : List ℕ → ℕ → ℕ
@@ -76,6 +79,17 @@ valuesOf words bytes k i ts =
 -- What W puts before the trees inside an element of kind k is taken, if ok, and leads from one state to the other.
 pub record Takes (k : ℕ) (W : Trees → Trees) (state : ℕ) (ok : Bool) (state′ : ℕ) : Type 0 where
   pub taken : (ts : Trees) → keepRules k (stateOf k state) (W ts) ≡ ok && keepRules k (stateOf k state′) ts
+
+-- Where W is due, it goes behind the first of the trees; where not, it was put before.
+abbrev pub behindFirst : Bool → (Trees → Trees) → Trees → Trees
+behindFirst due W ts = cond due (placeValues true W ts) ts
+
+-- The values of node i, whose children end at `end`, are taken before the children, if ok, and lead to the state, or are due behind the first child, which is there.
+pub record Leads (words bytes : List ℕ) (k i end : ℕ) (ok due : Bool) (state : ℕ) : Type 0 where
+  pub taken : (ns : Nodes) → end ≡ i + 1 + countAll ns
+      → keepRules k (start k) (placeValues (nodeFirst (ruleOf k .parameters)) (valuesOf words bytes k i) (layoutAll ns))
+      ≡ ok && keepRules k (stateOf k state) (behindFirst due (valuesOf words bytes k i) (layoutAll ns))
+  pub before-child : due ≡ true → i + 1 < end
 
 -- A node keeps the rules, its layout says it, and nests at most `left` levels.
 pub record Lawful (left : ℕ) (n : Node) : Type 0 where

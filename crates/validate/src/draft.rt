@@ -2,28 +2,36 @@
 // Nothing is assumed of the words. The walk over a node calls the walk over its children, which calls it back, and the records left fall.
 use super::record::element_fits;
 use super::record::stands;
-use super::record::strings_end;
-use super::record::text_fits;
+use super::record::string_stands;
+use super::record::text_alone;
+use super::record::value_levels;
+use super::record::words;
 use super::values::values;
 use kind::Kind;
 use kind::may_end;
 use kind::step;
 use table::END;
+use table::KEY_LENGTH;
 use table::KIND;
 use table::MISSING;
 use table::RECORD;
+use table::TEXT;
+use table::TEXT_LENGTH;
+use table::TYPE_LENGTH;
 use table::word;
+use utf8::valid_up_to;
 ghost use mathlib.Core.Path.{_≡_};
 ghost use mathlib.Core.Bool.{true, false};
-ghost use Prim.Native.Nat.{_+_, _*_, _≤_, _<_};
+ghost use Prim.Native.Nat.{ℕ, _+_, _*_, _≤_, _<_};
 ghost use lib.ListN.{length};
+ghost use Rattle.elements.specs.Class as Class;
 ghost use Rattle.elements.specs.Rules.{ruleOf};
 ghost use Rattle.elements.specs.Inside.{start};
 ghost use Rattle.kind.specs.Machine.{stateOf};
 ghost use Rattle.document.specs.Document.{Node};
 ghost use Rattle.document.specs.Canonical.{nodeFirst, placeValues};
 ghost use Rattle.table.specs.Stored.{wordAt};
-ghost use Rattle.validate.specs.Walking.{Decides, valuesOf, NodeAt, ChildrenAt, ChildTaken};
+ghost use Rattle.validate.specs.Walking.{Decides, valueLevels, valuesOf, Leads, NodeAt, ChildrenAt, ChildTaken};
 ghost use Rattle.document.specs.Printing.{IsDraft};
 
 // "within the limits (at most 4,096 nodes, canonical nesting at most 64, pool at most 65,536)"
@@ -45,6 +53,13 @@ struct Entered {
     ok: bool,
     next: usize,
     pool: usize,
+    state: u8,
+}
+
+// Whether the values that stand before the children are taken, or due behind the first child, and the state after them.
+struct Led {
+    ok: bool,
+    due: bool,
     state: u8,
 }
 
@@ -80,41 +95,142 @@ fn node(nodes: &[u32], pool: &[u8], i: usize, parent: usize, at: usize, left: us
     requires { ⌜ at ≤ length (now pool) ⌝ }
     ensures { λ r. ⌜ Decides (NodeAt (now (nodes .entry)) (now (pool .entry)) i parent at left) (r .ok) (r .next) (r .pool) ⌝ }
 {
-    if !stands(nodes, pool.len(), i, parent, at) {
+    if nodes.len() / RECORD <= i {
         return refused();
     }
-    let after = strings_end(nodes, pool.len(), i, at);
-    let kind = word(nodes, i, KIND);
-    if kind == Kind::TEXT.number as usize {
-        return Walked {
-            ok: text_fits(nodes, pool, i),
-            next: i + 1,
-            pool: after,
-        };
+    let r = words(nodes, i);
+    if r[KIND] == Kind::TEXT.number as u32 {
+        return text_node(nodes, pool, i, parent, at);
     }
-    if !element_fits(nodes, i, left) {
-        return refused();
-    }
-    inside(nodes, pool, i, kind as u8, after, left - 1)
+    element(nodes, pool, i, parent, at, left)
 }
 
-// The children and values of node `i`, an element of a kind. A title or summary stands before the values.
-fn inside(nodes: &[u32], pool: &[u8], i: usize, kind: u8, at: usize, left: usize) -> Walked
-    requires { ⌜ (11 * i + 11 ≤ length (now nodes)) × (at ≤ length (now pool)) × (kind ≤ 25) ⌝ }
-    ensures { λ r. ⌜ Decides (ChildrenAt (now (nodes .entry)) (now (pool .entry)) (placeValues (nodeFirst (ruleOf kind .parameters)) (valuesOf (now (nodes .entry)) (now (pool .entry)) kind i))
-        kind i (start kind) (i + 1) at (wordAt (now (nodes .entry)) i 2) left) (r .ok) (r .next) (r .pool) ⌝ }
+// The same of a text, whose record is there.
+fn text_node(nodes: &[u32], pool: &[u8], i: usize, parent: usize, at: usize) -> Walked
+    requires { ⌜ (11 * i + 11 ≤ length (now nodes)) × (at ≤ length (now pool)) × (wordAt (now nodes) i 0 ≡ Class.text) ⌝ }
+    ensures { λ r. ⌜ ((left : ℕ) → Decides (NodeAt (now (nodes .entry)) (now (pool .entry)) i parent at left) (r .ok) (r .next) (r .pool)) ⌝ }
 {
-    let first = i + 1;
-    if node_first(kind) {
-        if first < word(nodes, i, END) {
-            let c = child(nodes, pool, i, kind, 0, first, at, left);
-            if !c.ok {
-                return refused();
-            }
-            return children(nodes, pool, i, kind, c.state, c.next, c.pool, left);
+    let r = words(nodes, i);
+    let next = i + 1;
+    if !text_alone(r, parent, next) {
+        return refused();
+    }
+    if !string_stands(r[TEXT], r[TEXT_LENGTH], at, pool.len()) {
+        return refused();
+    }
+    let size = r[TEXT_LENGTH] as usize;
+    let end = at + size;
+    Walked {
+        ok: valid_up_to(&pool[at..end]) == size,
+        next,
+        pool: end,
+    }
+}
+
+// The same of an element, whose record is there.
+fn element(nodes: &[u32], pool: &[u8], i: usize, parent: usize, at: usize, left: usize) -> Walked
+    requires { ⌜ (11 * i + 11 ≤ length (now nodes)) × (at ≤ length (now pool)) × (wordAt (now nodes) i 0 ≡ Class.text → ⊥) ⌝ }
+    ensures { λ r. ⌜ Decides (NodeAt (now (nodes .entry)) (now (pool .entry)) i parent at left) (r .ok) (r .next) (r .pool) ⌝ }
+{
+    let r = words(nodes, i);
+    if !stands(r, pool.len(), parent, at) {
+        return refused();
+    }
+    let levels = value_levels(r);
+    if !element_fits(r, levels, left) {
+        return refused();
+    }
+    let after = at + r[KEY_LENGTH] as usize + r[TYPE_LENGTH] as usize;
+    children(
+        nodes,
+        pool,
+        i,
+        r[KIND] as u8,
+        r[END] as usize,
+        levels,
+        after,
+        left - 1,
+    )
+}
+
+// The values of node `i`, where they stand before its children. A title or summary stands before the values, which are then due.
+fn lead(nodes: &[u32], pool: &[u8], i: usize, kind: u8, end: usize, levels: usize) -> Led
+    requires { ⌜ (11 * i + 11 ≤ length (now nodes)) × (kind ≤ 25) × (levels ≡ valueLevels (now nodes) i) ⌝ }
+    ensures { λ r. ⌜ Leads (now (nodes .entry)) (now (pool .entry)) kind i end (r .ok) (r .due) (r .state) ⌝ }
+{
+    // most elements have no values
+    if levels == 0 {
+        return Led {
+            ok: true,
+            due: false,
+            state: 0,
+        };
+    }
+    if i + 1 < end {
+        if node_first(kind) {
+            return Led {
+                ok: true,
+                due: true,
+                state: 0,
+            };
         }
     }
-    children(nodes, pool, i, kind, 0, first, at, left)
+    let taken = values(nodes, pool, i, kind, 0);
+    Led {
+        ok: taken.ok,
+        due: false,
+        state: taken.state,
+    }
+}
+
+// The children and values of node `i`, an element of a kind.
+fn children(
+    nodes: &[u32],
+    pool: &[u8],
+    i: usize,
+    kind: u8,
+    end: usize,
+    levels: usize,
+    at: usize,
+    left: usize,
+) -> Walked
+    requires { ⌜ (11 * i + 11 ≤ length (now nodes)) × (at ≤ length (now pool)) × (kind ≤ 25) × (levels ≡ valueLevels (now nodes) i) ⌝ }
+    ensures { λ r. ⌜ Decides (ChildrenAt (now (nodes .entry)) (now (pool .entry)) (placeValues (nodeFirst (ruleOf kind .parameters)) (valuesOf (now (nodes .entry)) (now (pool .entry)) kind i))
+        kind i (start kind) (i + 1) at end left) (r .ok) (r .next) (r .pool) ⌝ }
+{
+    let led = lead(nodes, pool, i, kind, end, levels);
+    if !led.ok {
+        return refused();
+    }
+    let mut due = led.due;
+    let mut s = led.state;
+    let mut j = i + 1;
+    let mut p = at;
+    while j < end {
+        let c = child(nodes, pool, i, kind, s, j, p, left);
+        if !c.ok {
+            return refused();
+        }
+        s = c.state;
+        j = c.next;
+        p = c.pool;
+        if due {
+            let taken = values(nodes, pool, i, kind, s);
+            if !taken.ok {
+                return refused();
+            }
+            s = taken.state;
+            due = false;
+        }
+    }
+    if j != end {
+        return refused();
+    }
+    Walked {
+        ok: may_end(kind, s),
+        next: end,
+        pool: p,
+    }
 }
 
 // The child with number `j` of node `i`, an element of a kind that is read so far to a state.
@@ -140,54 +256,13 @@ fn child(
             state,
         };
     }
-    let taken = step(kind, state, word(nodes, j, KIND) as u8);
+    let r = words(nodes, j);
+    let taken = step(kind, state, r[KIND] as u8);
     Entered {
         ok: taken.fault == 0,
         next: w.next,
         pool: w.pool,
         state: taken.state,
-    }
-}
-
-// The values of node `i` and its children from number `from` on.
-fn children(
-    nodes: &[u32],
-    pool: &[u8],
-    i: usize,
-    kind: u8,
-    state: u8,
-    from: usize,
-    at: usize,
-    left: usize,
-) -> Walked
-    requires { ⌜ (11 * i + 11 ≤ length (now nodes)) × (i < from) × (at ≤ length (now pool)) ⌝ }
-    ensures { λ r. ⌜ Decides (ChildrenAt (now (nodes .entry)) (now (pool .entry)) (valuesOf (now (nodes .entry)) (now (pool .entry)) kind i)
-        kind i (stateOf kind state) from at (wordAt (now (nodes .entry)) i 2) left) (r .ok) (r .next) (r .pool) ⌝ }
-{
-    let taken = values(nodes, pool, i, kind, state);
-    if !taken.ok {
-        return refused();
-    }
-    let end = word(nodes, i, END);
-    let mut s = taken.state;
-    let mut j = from;
-    let mut p = at;
-    while j < end {
-        let c = child(nodes, pool, i, kind, s, j, p, left);
-        if !c.ok {
-            return refused();
-        }
-        s = c.state;
-        j = c.next;
-        p = c.pool;
-    }
-    if j != end {
-        return refused();
-    }
-    Walked {
-        ok: may_end(kind, s),
-        next: end,
-        pool: p,
     }
 }
 
@@ -208,7 +283,7 @@ pub fn is_draft(nodes: &[u32], pool: &[u8]) -> bool
     if word(nodes, 0, KIND) != Kind::DOCUMENT.number as usize {
         return false;
     }
-    let w = node(nodes, pool, 0, MISSING, 0, MOST_LEVELS);
+    let w = element(nodes, pool, 0, MISSING, 0, MOST_LEVELS);
     if !w.ok {
         return false;
     }

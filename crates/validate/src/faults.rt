@@ -5,7 +5,6 @@ use super::index::enter;
 use super::index::has_id;
 use super::index::known;
 use super::index::slot;
-use super::record::kind_at;
 use kind::Kind;
 use table::END;
 use table::KEY;
@@ -210,7 +209,7 @@ fn row_differs(nodes: &[u32], i: usize) -> bool
     ensures { λ r. ⌜ ((b : Bool) → Spot (now (nodes .entry)) i b → r ≡ b) ⌝ }
 {
     let t = binder(nodes, i);
-    if kind_at(nodes, t) != TABLE {
+    if word(nodes, t, KIND) != TABLE {
         return false;
     }
     let names = head_names(nodes, t);

@@ -1,9 +1,10 @@
 // An index of the ids of blocks, so that faults 16 to 18 take no pass over the nodes for each id.
 // Each id has a slot. `heads` has the last node of each slot, and `nexts` the one before each node in its slot: its number + 1, or 0 for none.
-use super::record::kind_at;
 use kind::Kind;
 use table::KEY;
+use table::KIND;
 use table::string;
+use table::word;
 ghost use mathlib.Core.Path.{_≡_};
 ghost use mathlib.Core.Bool.{_&&_};
 ghost use Prim.Native.Nat.{_+_, _<_};
@@ -57,7 +58,7 @@ fn equal(a: &[u8], b: &[u8]) -> bool
 pub fn has_id(nodes: &[u32], i: usize, pool: &[u8], only: usize) -> bool
     ensures { λ r. ⌜ r ≡ wanted only (wordAt (now (nodes .entry)) i 0) && hasId (entryAt (now (nodes .entry)) (now (pool .entry)) i) ⌝ }
 {
-    let kind = kind_at(nodes, i);
+    let kind = word(nodes, i, KIND);
     if kind < DOCUMENT {
         return false;
     }

@@ -1,21 +1,23 @@
 // The values of an element: id or target, size, type (document 01, "Elements").
-use super::record::value_levels;
+use super::record::words;
 use kind::Keyword;
 use kind::Kind;
 use kind::character;
 use kind::step;
 use table::HEIGHT;
 use table::KEY;
+use table::KEY_LENGTH;
 use table::MISSING;
 use table::TYPE;
+use table::TYPE_LENGTH;
 use table::WIDTH;
-use table::string;
-use table::word;
 ghost use mathlib.Core.Path.{_≡_};
 ghost use mathlib.Core.Bool.{_&&_};
 ghost use mathlib.Core.List.{List};
-ghost use Prim.Native.Nat.{ℕ, _≤_};
+ghost use Prim.Native.Nat.{ℕ, _+_, _*_, _≤_};
+ghost use lib.ListN.{length};
 ghost use Rattle.elements.specs.Characters.{characterOf};
+ghost use Rattle.document.specs.Printing.{part};
 ghost use Rattle.document.specs.Value.{isValue, nonEmpty, every};
 ghost use Rattle.document.specs.Canonical.{keyClass, valueBefore, sizeBefore};
 ghost use Rattle.validate.specs.Walking.{Takes, valuesOf};
@@ -111,31 +113,45 @@ fn key_class(kind: u8) -> u8
     Keyword::ID.number
 }
 
+// The string that two words name, as far as the pool has it.
+fn named<'a>(pool: &'a [u8], offset: u32, length: u32) -> &'a [u8]
+    ensures { λ r. ⌜ now r ≡ part (now (pool .entry)) offset length ⌝ }
+{
+    let size = pool.len();
+    let at = offset as usize;
+    if size <= at {
+        return &pool[size..size];
+    }
+    if size - at < length as usize {
+        return &pool[at..size];
+    }
+    let end = at + length as usize;
+    &pool[at..end]
+}
+
 // The values of node `i` of a kind, "id before type".
 pub fn values(nodes: &[u32], pool: &[u8], i: usize, kind: u8, state: u8) -> Taken
+    requires { ⌜ 11 * i + 11 ≤ length (now nodes) ⌝ }
     ensures { λ r. ⌜ Takes kind (valuesOf (now (nodes .entry)) (now (pool .entry)) kind i) state (r .ok) (r .state) ⌝ }
 {
-    // most elements have none
-    if value_levels(nodes, i) == 0 {
-        return Taken { ok: true, state };
-    }
-    let key = take_value(kind, state, key_class(kind), string(nodes, i, KEY, pool));
+    let r = words(nodes, i);
+    let bytes = named(pool, r[KEY], r[KEY_LENGTH]);
+    let key = take_value(kind, state, key_class(kind), bytes);
     if !key.ok {
         return Taken { ok: false, state };
     }
-    let size = take_size(
-        kind,
-        key.state,
-        word(nodes, i, WIDTH),
-        word(nodes, i, HEIGHT),
-    );
+    let size = take_size(kind, key.state, r[WIDTH] as usize, r[HEIGHT] as usize);
     if !size.ok {
         return Taken { ok: false, state };
+    }
+    // most elements have no type
+    if r[TYPE_LENGTH] == 0 {
+        return size;
     }
     take_value(
         kind,
         size.state,
         Keyword::TYPE.number,
-        string(nodes, i, TYPE, pool),
+        named(pool, r[TYPE], r[TYPE_LENGTH]),
     )
 }

@@ -1,11 +1,14 @@
 -- `draft::is_draft` meets its contract. Assumes nothing.
 use native.Mathlib.Omega.{arith}
-use mathlib.Core.Path.{sym, _∙_}
+use mathlib.Core.Path.{_≡_, sym, _∙_}
 use mathlib.Core.Bool.{true≢false}
 use lib.Dec.{eqb}
 use Prim.Native.Nat.{_/_}
 use lib.ListN.{length}
 use borrow.Author.Tests.{not-true, not-false, eqb-true, eqb-false}
+use Rattle.elements.specs.Class as Class
+use Rattle.table.specs.Stored.{wordAt}
+use Rattle.validate.proofs.RecordTests.{word-there}
 use Rattle.validate.proofs.Drafts.{draft-told, no-draft}
 use borrow.Author.Needs.{needs}
 use Rattle.validate.proofs.draft.is_draft.Statement.{statement}
@@ -29,29 +32,31 @@ cast-if4 c = search needs
 returns-4 : tie.Need-returns-4
 returns-4 c = no-draft (λ e q r. c .if4 .taken (c .before .before .word .ensures ∙ r .of-kind))
 
-node-requires : tie.Need-node-requires
-node-requires c κs = search needs
+element-requires : tie.Need-element-requires
+element-requires c κs =
+    let kind : wordAt (c .before .before .before .before .before .before .before .before .args .nodes .now) 0 0 ≡ Class.document = sym (c .before .before .word .ensures) ∙ c .if4 .left in
+    (omega (arith, word-there (c .before .before .before .before .before .before .before .before .args .nodes .now) 0 0 (omega arith)), omega arith, λ t. omega arith)
 
 returns-5 : tie.Need-returns-5
-returns-5 c = no-draft (λ e q r. true≢false (sym (c .before .before .node .ensures .complete e q (r .root) .0) ∙ not-true _ (c .if5 .taken)))
+returns-5 c = no-draft (λ e q r. true≢false (sym (c .before .before .element .ensures .complete e q (r .root) .0) ∙ not-true _ (c .if5 .taken)))
 
 returns-6 : tie.Need-returns-6
-returns-6 c = no-draft (λ e q r. c .if6 .taken (c .before .before .before .before .node .ensures .complete e q (r .root) .2 ∙ sym (r .all-bytes)))
+returns-6 c = no-draft (λ e q r. c .if6 .taken (c .before .before .before .before .element .ensures .complete e q (r .root) .2 ∙ sym (r .all-bytes)))
 
 returns-7 : tie.Need-returns-7
 returns-7 c =
-    let next = c .before .before .before .before .before .node .result .next in
+    let next = c .before .before .before .before .before .element .result .next in
     let count = length (c .before .before .before .before .before .before .before .before .before .before .before .before .before .before .args .nodes .now) / 11 in
     draft-told (eqb next count)
     (λ t. record {
-      root = c .before .before .before .before .before .node .ensures .sound (not-false _ (c .before .before .before .if5 .left));
+      root = c .before .before .before .before .before .element .ensures .sound (not-false _ (c .before .before .before .if5 .left));
       of-kind = sym (c .before .before .before .before .before .before .before .before .word .ensures) ∙ c .before .before .before .before .before .before .if4 .left;
       all-words = omega (arith, eqb-true next count t, c .before .before .before .before .before .before .before .before .before .if3 .left);
       all-bytes = sym (c .before .if6 .left);
       few-words = c .before .before .before .before .before .before .before .before .before .before .before .if1 .left;
       few-bytes = c .before .before .before .before .before .before .before .before .before .before .if2 .left;
     })
-    (λ t e q r. eqb-false next count t (c .before .before .before .before .before .node .ensures .complete e q (r .root) .1 ∙ omega (arith, r .all-words)))
+    (λ t e q r. eqb-false next count t (c .before .before .before .before .before .element .ensures .complete e q (r .root) .1 ∙ omega (arith, r .all-words)))
 
 pub is-draft-spec : {M : Type 1} → statement M
 is-draft-spec =
@@ -63,7 +68,7 @@ is-draft-spec =
     word-requires
     cast-if4
     returns-4
-    node-requires
+    element-requires
     returns-5
     returns-6
     returns-7)

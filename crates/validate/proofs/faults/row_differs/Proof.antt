@@ -8,13 +8,13 @@ use Rattle.validate.proofs.faults.row_differs.Tie as tie
 binder-requires : tie.Need-binder-requires
 binder-requires c κs = search needs
 
-kind-at-requires : tie.Need-kind-at-requires
-kind-at-requires c κs = search needs
+word-requires : tie.Need-word-requires
+word-requires c κs = search needs
 
 returns : tie.Need-returns
 returns c =
     let binder = c .before .before .binder in
-    let kind = c .before .kind-at in
+    let kind = c .before .word in
     let pre = c .before .before .before .before .pre in
     λ b s.
     spot-free _ _ b s pre _
@@ -32,7 +32,7 @@ enum-told c = search needs
 returns-2 : tie.Need-returns-2
 returns-2 c =
     let binder = c .before .before .before .before .before .binder in
-    let kind = c .before .before .before .before .kind-at in
+    let kind = c .before .before .before .before .word in
     let if1 = c .before .before .before .if1 in
     let head-names = c .before .before .head-names in
     let pre = c .before .before .before .before .before .before .before .pre in
@@ -47,7 +47,7 @@ child-count-requires c κs = search needs
 returns-3 : tie.Need-returns-3
 returns-3 c =
     let binder = c .before .before .before .before .before .before .before .binder in
-    let kind = c .before .before .before .before .before .before .kind-at in
+    let kind = c .before .before .before .before .before .before .word in
     let if1 = c .before .before .before .before .before .if1 in
     let head-names = c .before .before .before .before .head-names in
     let names = c .before .before .names in
@@ -63,7 +63,7 @@ row-differs-spec =
     tie.close
     (tie.spec
     binder-requires
-    kind-at-requires
+    word-requires
     returns
     head-names-requires
     enum-known-names

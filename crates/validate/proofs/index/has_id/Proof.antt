@@ -10,25 +10,25 @@ use Rattle.validate.proofs.Ids.{below-blocks, above-blocks, a-block, no
 use Rattle.validate.proofs.index.has_id.Statement.{statement}
 use Rattle.validate.proofs.index.has_id.Tie as tie
 
-kind-at-requires : tie.Need-kind-at-requires
-kind-at-requires c κs = search needs
+word-requires : tie.Need-word-requires
+word-requires c κs = search needs
 
 returns : tie.Need-returns
 returns c =
     let args = c .before .before .before .before .args in
-    let kind = c .before .kind-at in
+    let kind = c .before .word in
     sym (no-block (args .nodes .now) (args .pool .now) (args .only) (args .i) (below-blocks _ (rw (kind .ensures) at (c .if1 .taken))))
 
 returns-2 : tie.Need-returns-2
 returns-2 c =
     let args = c .before .before .before .before .before .args in
-    let kind = c .before .before .kind-at in
+    let kind = c .before .before .word in
     sym (no-block (args .nodes .now) (args .pool .now) (args .only) (args .i) (above-blocks _ (rw (kind .ensures) at (c .if2 .taken))))
 
 returns-3 : tie.Need-returns-3
 returns-3 c =
     let args = c .before .before .before .before .before .before .before .args in
-    let kind = c .before .before .before .before .kind-at in
+    let kind = c .before .before .before .before .word in
     let if3 = c .before .if3 in
     sym (other-kind (args .nodes .now) (args .pool .now) (args .only) (args .i) (if3 .taken) (λ e. c .if4 .taken (e ∙ sym (kind .ensures))))
 
@@ -38,7 +38,7 @@ string-requires c κs = search needs
 returns-4 : tie.Need-returns-4
 returns-4 c =
     let args = c .before .before .before .before .before .before .before .args in
-    let kind = c .before .before .before .before .kind-at in
+    let kind = c .before .before .before .before .word in
     let if1 = c .before .before .before .if1 in
     let if2 = c .before .before .if2 in
     let if3 = c .before .if3 in
@@ -48,4 +48,4 @@ returns-4 c =
     rw (c .string .ensures) (sym (is-wanted (args .nodes .now) (args .pool .now) (args .only) (args .i) b w))
 
 pub has-id-spec : {M : Type 1} → statement M
-has-id-spec = tie.close (tie.spec kind-at-requires returns returns-2 returns-3 string-requires returns-4)
+has-id-spec = tie.close (tie.spec word-requires returns returns-2 returns-3 string-requires returns-4)

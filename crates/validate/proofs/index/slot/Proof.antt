@@ -4,7 +4,6 @@ use mathlib.Core.Path.{_≡_, _∙_, refl, sym, ap}
 use native.Mathlib.Nat.{mod-lt}
 use native.Mathlib.Omega.{arith}
 use lib.ListN.{length, drop}
-use borrow.Author.Needs.{needs}
 use Rattle.validate.specs.Index.{mixed, slotOf}
 use Rattle.validate.proofs.Slots.{mixed-on, mixed-end}
 use Rattle.validate.proofs.index.slot.Statement.{statement}

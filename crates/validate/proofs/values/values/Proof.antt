@@ -1,81 +1,125 @@
 -- `values::values` meets its contract. Assumes nothing.
-use mathlib.Core.Path.{sym, _∙_}
 use native.Mathlib.Omega.{arith}
+use mathlib.Core.Path.{sym, ap, _∙_}
 use borrow.Author.Tests.{not-true, not-false}
 use Rattle.laws.proofs.Booleans.{cond-case}
 use Prim.Native.Nat.{ℕ, _≤_}
+use lib.ListN.{length}
 use Rattle.document.specs.Canonical.{keyClass}
 use Rattle.elements.specs.Class.{isBlock}
+use Rattle.table.specs.Stored.{stringAt}
 use Rattle.validate.specs.Walking.{valuesOf}
-use Rattle.validate.proofs.ValueSteps.{takes-then, takes-not, no-values}
+use Rattle.validate.proofs.Recordings.{no-string}
+use Rattle.validate.proofs.RecordTests.{word-in}
+use Rattle.validate.proofs.ValueSteps.{value-missing, takes-then, takes-not}
 use borrow.Author.Needs.{needs}
 use Rattle.validate.proofs.values.values.Statement.{statement}
 use Rattle.validate.proofs.values.values.Tie as tie
 
-value-levels-requires : tie.Need-value-levels-requires
-value-levels-requires c κs = search needs
+words-requires : tie.Need-words-requires
+words-requires c κs = search needs
 
-returns : tie.Need-returns
-returns c = no-values _ _ _ _ _ (sym (c .before .value-levels .ensures) ∙ c .if1 .taken)
+shared-slice-read-named : tie.Need-shared-slice-read-named
+shared-slice-read-named c = search needs
+
+shared-slice-read-named-2 : tie.Need-shared-slice-read-named-2
+shared-slice-read-named-2 c = search needs
+
+named-requires : tie.Need-named-requires
+named-requires c κs = search needs
 
 key-class-requires : tie.Need-key-class-requires
 key-class-requires c κs = search needs
 
-string-requires : tie.Need-string-requires
-string-requires c κs = search needs
-
 take-value-requires : tie.Need-take-value-requires
 unfolding keyClass
-take-value-requires c κs = rw (c .before .key-class .ensures) (cond-case (λ (n : ℕ). (26 ≤ n) × (n ≤ 28)) (isBlock (c .before .before .before .before .before .before .args .kind)) (λ e. omega arith) (λ e. omega arith))
+take-value-requires c κs = rw (c .key-class .ensures) (cond-case (λ (n : ℕ). (26 ≤ n) × (n ≤ 28)) (isBlock (c .before .before .before .before .before .before .before .args .kind)) (λ e. omega arith) (λ e. omega arith))
 
-returns-2 : tie.Need-returns-2
-unfolding valuesOf
-returns-2 c = takes-not (rw (c .before .before .before .before .key-class .ensures, c .before .before .before .string .ensures) at (c .before .before .take-value .ensures)) (not-true _ (c .if2 .taken))
+returns : tie.Need-returns
+unfolding valuesOf stringAt
+returns c =
+    let r = c .before .before .before .before .before .before .before .words .ensures .0 in
+    let key = rw (c .before .before .before .key-class .ensures, c .before .before .before .before .named .ensures, word-in _ _ _ 3 r (omega arith), word-in _ _ _ 4 r (omega arith)) at (c .before .before .take-value .ensures) in
+    takes-not key (not-true _ (c .if1 .taken))
 
-word-requires : tie.Need-word-requires
-word-requires c κs = search needs
+shared-slice-read-take-size : tie.Need-shared-slice-read-take-size
+shared-slice-read-take-size c = search needs
 
-word-requires-2 : tie.Need-word-requires-2
-word-requires-2 c κs = search needs
+cast-take-size : tie.Need-cast-take-size
+cast-take-size c = omega (arith, c .shared-slice-known5 .given 9)
+
+shared-slice-read-take-size-2 : tie.Need-shared-slice-read-take-size-2
+shared-slice-read-take-size-2 c = search needs
+
+cast-take-size-2 : tie.Need-cast-take-size-2
+cast-take-size-2 c = omega (arith, c .shared-slice-known6 .given 10)
 
 take-size-requires : tie.Need-take-size-requires
 take-size-requires c κs = search needs
 
-returns-3 : tie.Need-returns-3
-unfolding valuesOf
-returns-3 c =
-    let key = rw (c .before .before .before .before .before .before .before .before .before .key-class .ensures, c .before .before .before .before .before .before .before .before .string .ensures) at (c .before .before .before .before .before .before .before .take-value .ensures) in
-    let size = rw (c .before .before .before .before .word .ensures, c .before .before .before .word2 .ensures) at (c .before .before .take-size .ensures) in
-    takes-then key (not-false _ (c .before .before .before .before .before .if2 .left)) (takes-not size (not-true _ (c .if3 .taken)))
+returns-2 : tie.Need-returns-2
+unfolding valuesOf stringAt
+returns-2 c =
+    let r = c .before .before .before .before .before .before .before .before .before .before .before .before .words .ensures .0 in
+    let key = rw (c .before .before .before .before .before .before .before .before .key-class .ensures, c .before .before .before .before .before .before .before .before .before .named .ensures, word-in _ _ _ 3 r (omega arith), word-in _ _ _ 4 r (omega arith)) at (c .before .before .before .before .before .before .before .take-value .ensures) in
+    let size = rw (word-in _ _ _ 9 r (omega arith), word-in _ _ _ 10 r (omega arith)) at (c .before .before .take-size .ensures) in
+    takes-then key (not-false _ (c .before .before .before .before .before .if1 .left)) (takes-not size (not-true _ (c .if2 .taken)))
 
-string-requires-2 : tie.Need-string-requires-2
-string-requires-2 c κs = search needs
+shared-slice-read-if3 : tie.Need-shared-slice-read-if3
+shared-slice-read-if3 c = search needs
+
+returns-3 : tie.Need-returns-3
+unfolding valuesOf stringAt
+returns-3 c =
+    let r = c .before .before .before .before .before .before .before .before .before .before .before .before .before .before .words .ensures .0 in
+    let key = rw (c .before .before .before .before .before .before .before .before .before .before .key-class .ensures, c .before .before .before .before .before .before .before .before .before .before .before .named .ensures, word-in _ _ _ 3 r (omega arith), word-in _ _ _ 4 r (omega arith)) at (c .before .before .before .before .before .before .before .before .before .take-value .ensures) in
+    let size = rw (word-in _ _ _ 9 r (omega arith), word-in _ _ _ 10 r (omega arith)) at (c .before .before .before .before .take-size .ensures) in
+    let none = no-string (c .before .before .before .before .before .before .before .before .before .before .before .before .before .before .before .before .before .args .nodes .now) (c .before .before .before .before .before .before .before .before .before .before .before .before .before .before .before .before .before .args .pool .now) (c .before .before .before .before .before .before .before .before .before .before .before .before .before .before .before .before .before .args .i) 5 (sym (word-in _ _ _ 6 r (omega arith)) ∙ c .if3 .taken) in
+    rw (not-false (c .before .before .before .before .take-size .result .ok) (c .before .before .if2 .left))
+    (takes-then key (not-false _ (c .before .before .before .before .before .before .before .if1 .left)) (takes-then size (not-false _ (c .before .before .if2 .left)) (value-missing _ _ _ _ (ap length none))))
+
+shared-slice-read-named-3 : tie.Need-shared-slice-read-named-3
+shared-slice-read-named-3 c = search needs
+
+shared-slice-read-named-4 : tie.Need-shared-slice-read-named-4
+shared-slice-read-named-4 c = search needs
+
+named-requires-2 : tie.Need-named-requires-2
+named-requires-2 c κs = search needs
 
 take-value-requires-2 : tie.Need-take-value-requires-2
 take-value-requires-2 c κs = search needs
 
 returns-4 : tie.Need-returns-4
-unfolding valuesOf
+unfolding valuesOf stringAt
 returns-4 c =
-    let key = rw (c .before .before .before .before .before .before .before .before .before .before .before .key-class .ensures, c .before .before .before .before .before .before .before .before .before .before .string .ensures) at (c .before .before .before .before .before .before .before .before .before .take-value .ensures) in
-    let size = rw (c .before .before .before .before .before .before .word .ensures, c .before .before .before .before .before .word2 .ensures) at (c .before .before .before .before .take-size .ensures) in
-    let type = rw (c .before .string2 .ensures) at (c .take-value2 .ensures) in
-    takes-then key (not-false _ (c .before .before .before .before .before .before .before .if2 .left)) (takes-then size (not-false _ (c .before .before .if3 .left)) type)
+    let r = c .before .before .before .before .before .before .before .before .before .before .before .before .before .before .before .before .before .before .words .ensures .0 in
+    let key = rw (c .before .before .before .before .before .before .before .before .before .before .before .before .before .before .key-class .ensures, c .before .before .before .before .before .before .before .before .before .before .before .before .before .before .before .named .ensures, word-in _ _ _ 3 r (omega arith), word-in _ _ _ 4 r (omega arith)) at (c .before .before .before .before .before .before .before .before .before .before .before .before .before .take-value .ensures) in
+    let size = rw (word-in _ _ _ 9 r (omega arith), word-in _ _ _ 10 r (omega arith)) at (c .before .before .before .before .before .before .before .before .take-size .ensures) in
+    let type = rw (c .before .named2 .ensures, word-in _ _ _ 5 r (omega arith), word-in _ _ _ 6 r (omega arith)) at (c .take-value2 .ensures) in
+    takes-then key (not-false _ (c .before .before .before .before .before .before .before .before .before .before .before .if1 .left)) (takes-then size (not-false _ (c .before .before .before .before .before .before .if2 .left)) type)
 
 pub values-spec : {M : Type 1} → statement M
 values-spec =
     tie.close
     (tie.spec
-    value-levels-requires
-    returns
+    words-requires
+    shared-slice-read-named
+    shared-slice-read-named-2
+    named-requires
     key-class-requires
-    string-requires
     take-value-requires
-    returns-2
-    word-requires
-    word-requires-2
+    returns
+    shared-slice-read-take-size
+    cast-take-size
+    shared-slice-read-take-size-2
+    cast-take-size-2
     take-size-requires
+    returns-2
+    shared-slice-read-if3
     returns-3
-    string-requires-2
+    shared-slice-read-named-3
+    shared-slice-read-named-4
+    named-requires-2
     take-value-requires-2
     returns-4)
