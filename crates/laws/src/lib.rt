@@ -1,1 +1,1 @@
-// Laws that the proofs of several crates cite: conditions, tests and lists (proofs/).
+// Laws that the proofs of several crates cite: conditions, tests, tables and stores (proofs/).

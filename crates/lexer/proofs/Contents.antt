@@ -16,7 +16,8 @@ use Rattle.lexer.specs.Token.{stringEnd, stringAt, contentOf, pieceAt, a
 use Rattle.syntax.proofs.Escapes.{first-of}
 use Rattle.lexer.proofs.PieceAt.{piece-few, piece-short, Told, Stands, stands-told, raw-piece, read-on}
 use Rattle.lexer.specs.Run.{plainRun}
-use Rattle.lexer.proofs.Written.{sets-append, bytes-of}
+use Rattle.laws.proofs.Stores.{sets-append}
+use Rattle.lexer.proofs.Written.{bytes-of}
 use Rattle.lexer.proofs.Runs.{plains, raws, quoted-passed, plain-part}
 
 -- ---- a piece is read

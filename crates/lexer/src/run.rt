@@ -1,4 +1,5 @@
 // Runs of bytes: those of a string that stand for themselves, and bytes that are written as they stand.
+use store::store_all;
 ghost use mathlib.Core.Path.{_≡_};
 ghost use Prim.Native.Nat.{_+_, _≤_};
 ghost use lib.Dec.{leb};
@@ -83,18 +84,6 @@ pub fn plain_end(text: &[u8], from: usize) -> usize
     i
 }
 
-// A loop of this form is compiled as one copy of memory.
-fn copy(out: &mut [u8], bytes: &[u8])
-    requires { ⌜ length (now out) ≡ length (now bytes) ⌝ }
-    ensures { λ r. ⌜ now (out .exit) ≡ now (bytes .entry) ⌝ }
-{
-    let mut i = 0;
-    while i < bytes.len() {
-        out[i] = bytes[i];
-        i += 1;
-    }
-}
-
 // Writes bytes, k bytes from an index on, as far as the output reaches.
 pub fn put_run(out: &mut [u8], at: usize, k: usize, bytes: &[u8])
     ensures { λ r. ⌜ now (out .exit) ≡ sets (now (out .entry)) (at + k) (now (bytes .entry)) ⌝ }
@@ -105,11 +94,5 @@ pub fn put_run(out: &mut [u8], at: usize, k: usize, bytes: &[u8])
     if out.len() - at <= k {
         return;
     }
-    let from = at + k;
-    let room = out.len() - from;
-    let mut n = bytes.len();
-    if room < n {
-        n = room;
-    }
-    copy(&mut out[from..from + n], &bytes[..n]);
+    store_all(out, at + k, bytes);
 }

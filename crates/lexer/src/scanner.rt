@@ -10,6 +10,7 @@ use super::class::SQUARE_END;
 use super::class::byte_at;
 use super::class::byte_class;
 use super::string::string_at;
+use store::lesser;
 ghost use mathlib.Core.Path.{_≡_};
 ghost use Prim.Native.Nat.{_<_, min};
 ghost use lib.ListN.{length, drop};
@@ -28,13 +29,6 @@ struct Passed {
     number: u32,
     place: usize,
     next: usize,
-}
-
-// The lesser of two numbers.
-fn least(a: usize, b: usize) -> usize
-    ensures { λ r. ⌜ r ≡ min a b ⌝ }
-{
-    if a < b { a } else { b }
 }
 
 // The scan goes on at a place.
@@ -110,7 +104,7 @@ pub fn scan(text: &[u8], room: usize) -> Scanned
     ensures { λ r. ⌜ (r .number ≡ scanNumber (scan (min room 64) (now (text .entry))))
         × (r .place ≡ scanPlace (scan (min room 64) (now (text .entry)))) ⌝ }
 {
-    let limit = least(room, 64);
+    let limit = lesser(room, 64);
     let mut brackets = [0u8; 64];
     let mut places = [0usize; 64];
     let mut depth: usize = 0;

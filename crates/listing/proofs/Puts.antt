@@ -10,7 +10,7 @@ use lib.ListN.{length, take, drop, getD, length-append, length-take, take-append
 use lib.Seq.{take-all, take-suc, sets, set-out, length-sets, sets-eq}
 use borrow.Author.Tests.{leb-true, leb-false}
 use Rattle.laws.proofs.Booleans.{bool-case}
-use Rattle.lexer.proofs.Written.{sets-append}
+use Rattle.laws.proofs.Stores.{sets-append}
 use Rattle.document.specs.Answer.{over}
 use Rattle.listing.specs.Listing.{within}
 use Rattle.listing.specs.Puts.{Puts}

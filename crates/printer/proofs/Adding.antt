@@ -6,7 +6,7 @@ use native.Mathlib.Nat.{add-zero, zero-add}
 use native.Mathlib.Omega.{arith}
 use lib.ListN.{length, take, drop, set, length-append, take-append-drop, drop-of-length-le}
 use lib.Seq.{sets, sets-eq, drop-set-add, take-set-le}
-use Rattle.lexer.proofs.Written.{sets-append}
+use Rattle.laws.proofs.Stores.{sets-append}
 use Rattle.document.specs.Answer.{over}
 use Rattle.printer.specs.Adds.{Adds}
 

@@ -1,6 +1,5 @@
 pub mod Adding
 pub mod Concat
-pub mod Copied
 pub mod Elements
 pub mod Names
 pub mod Pieces

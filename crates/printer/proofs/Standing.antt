@@ -1,17 +1,13 @@
 -- Laws of the nodes that stand in a table, as the spelling takes them: their words and strings, and which of their children come first. Assumes nothing.
 use Prim.Native.Nat.{ℕ, suc, _+_, _<_, _≤_}
 use mathlib.Core.Path.{_≡_, refl, _∙_}
-use mathlib.Core.Bool.{Bool, true, false, _&&_, _||_}
+use mathlib.Core.Bool.{Bool, true, false}
 use mathlib.Core.List.{List, [], _∷_}
 use native.Mathlib.Nat.{add-zero}
 use native.Mathlib.Omega.{arith}
-use lib.Dec.{eqb, leb, lit<}
+use lib.Dec.{lit<}
 use lib.ListN.{length}
-use borrow.Author.Tests.{leb-true, leb-false, ne-eqb, lt-leb, le-leb}
-use Rattle.laws.proofs.Booleans.{bool-case}
-use Rattle.laws.proofs.Tables.{each-below, alike, alike-eq}
-use Rattle.elements.specs.Rules.{rules, ruleIn, ruleOf}
-use Rattle.kind.proofs.Table.{no-row}
+use Rattle.elements.specs.Rules.{ruleOf}
 use Rattle.document.specs.Document.{Node, node, Nodes, childless, child}
 use Rattle.document.specs.Table.{count, countAll, offset}
 use Rattle.document.specs.Printing.{part}
@@ -21,24 +17,6 @@ use Rattle.table.specs.Stored.{wordAt, Stored, StoredAll}
 use Rattle.table.proofs.Stored.{recorded-word}
 use Rattle.table.specs.Stored.{stringAt}
 use Rattle.printer.specs.Inside.{firstOf}
-
--- The kinds whose first parameter is a node.
-abbrev titled : ℕ → Bool
-titled k = leb 1 k && leb k 4 || (eqb k 6 || eqb k 19)
-
-abbrev titled-alike : ℕ → Bool
-titled-alike k = alike (nodeFirst (ruleOf k .parameters)) (titled k)
-
-pub titled-is : (k : ℕ) → nodeFirst (ruleOf k .parameters) ≡ titled k
-unfolding rules ruleIn ruleOf nodeFirst
-titled-is k = bool-case (leb 26 k) past (λ e. alike-eq _ _ (each-below titled-alike 26 k (leb-false 26 k e) tt))
-  where
-    past : leb 26 k ≡ true → nodeFirst (ruleOf k .parameters) ≡ titled k
-    past e =
-        let high : 26 ≤ k = leb-true 26 k e in
-        let one : 1 ≤ k = omega arith in
-        let four : 4 < k = omega arith in
-        rw (no-row k high, le-leb 1 k one, lt-leb k 4 four, ne-eqb k 6 (λ v. omega arith), ne-eqb k 19 (λ v. omega arith))
 
 -- A string stands where its offset and length words say.
 part-offset : (bytes s : List ℕ) (p : ℕ) → part bytes p (length s) ≡ s → part bytes (offset p s) (length s) ≡ s

@@ -1,10 +1,12 @@
 // Writes the pieces of a spelling, as far as the output reaches: each function takes the index to write at and answers the next.
 // An index that would pass 4,294,967,295 is answered as 0: no document within the limits has so long a spelling.
 use kind::Keyword;
+use store::lesser;
+use store::store_all;
 ghost use mathlib.Core.Path.{_≡_};
 ghost use mathlib.Core.Bool.{true, _||_};
 ghost use mathlib.Core.List.{[], _∷_};
-ghost use Prim.Native.Nat.{_+_, _<_, _≤_, min};
+ghost use Prim.Native.Nat.{_+_, _<_, _≤_};
 ghost use lib.Dec.{eqb, ltb};
 ghost use lib.ListN.{length, take, drop, set};
 ghost use lib.Seq.{sets};
@@ -45,39 +47,6 @@ pub fn put(out: &mut [u8], at: usize, b: u8) -> usize
 {
     store(out, at, b);
     plus(at, 1)
-}
-
-// Bytes into a slice of their length; the loop is compiled into one copy of memory.
-fn copy(out: &mut [u8], bytes: &[u8])
-    requires { ⌜ length (now out) ≡ length (now bytes) ⌝ }
-    ensures { λ _. ⌜ now (out .exit) ≡ now (bytes .entry) ⌝ }
-{
-    let mut i = 0;
-    while i < bytes.len() {
-        out[i] = bytes[i];
-        i += 1;
-    }
-}
-
-pub fn lesser(a: usize, b: usize) -> usize
-    ensures { λ r. ⌜ r ≡ min a b ⌝ }
-{
-    if a < b {
-        return a;
-    }
-    b
-}
-
-// The bytes that there are places for.
-fn store_all(out: &mut [u8], at: usize, bytes: &[u8])
-    ensures { λ _. ⌜ now (out .exit) ≡ sets (now (out .entry)) at (now (bytes .entry)) ⌝ }
-{
-    if out.len() <= at {
-        return;
-    }
-    let count = lesser(bytes.len(), out.len() - at);
-    let end = at + count;
-    copy(&mut out[at..end], &bytes[..count]);
 }
 
 pub fn put_bytes(out: &mut [u8], at: usize, bytes: &[u8]) -> usize

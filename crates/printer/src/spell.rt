@@ -1,7 +1,6 @@
 // The spelling of a table's nodes: "Subtrees are spelled in order, each element written into what is left of the output."
 // On any words the functions are safe and end; what they write is said where a document's nodes stand in the table.
 // Each writes as much as there is room for and answers how much it would need, so that an empty output measures.
-use super::put::lesser;
 use super::put::put;
 use super::put::put_name;
 use super::put::put_quoted;
@@ -9,6 +8,7 @@ use super::put::put_size;
 use super::put::put_value;
 use kind::Keyword;
 use kind::Kind;
+use store::lesser;
 use table::END;
 use table::HEIGHT;
 use table::KEY;
@@ -19,6 +19,8 @@ use table::TEXT;
 use table::TYPE;
 use table::TYPE_LENGTH;
 use table::WIDTH;
+use table::is_titled;
+use table::key_class;
 use table::string;
 use table::word;
 ghost use mathlib.Core.Path.{_≡_};
@@ -30,40 +32,11 @@ ghost use lib.Seq.{sets};
 ghost use Rattle.elements.specs.Rules.{ruleOf};
 ghost use Rattle.document.specs.Document.{Node, Nodes};
 ghost use Rattle.document.specs.Table.{count, countAll};
-ghost use Rattle.document.specs.Canonical.{keyClass, nodeFirst, canonical};
+ghost use Rattle.document.specs.Canonical.{nodeFirst, canonical};
 ghost use Rattle.table.specs.Stored.{wordAt, Stored, StoredAll};
 ghost use Rattle.printer.specs.Adds.{Adds};
 ghost use Rattle.table.specs.Stored.{stringAt};
 ghost use Rattle.printer.specs.Inside.{Valueless, insideAll, valuesInside, firstOf};
-
-// A block has an id, any other element a target.
-fn key_class(kind: usize) -> usize
-    ensures { λ r. ⌜ r ≡ keyClass kind ⌝ }
-{
-    if kind == 0 {
-        return Keyword::TARGET.number as usize;
-    }
-    if kind <= Kind::FOOTNOTE.number as usize {
-        return Keyword::ID.number as usize;
-    }
-    Keyword::TARGET.number as usize
-}
-
-// Whether an element's first parameter is a title or a summary, which is a node.
-fn is_titled(kind: usize) -> bool
-    ensures { λ r. ⌜ r ≡ nodeFirst (ruleOf kind .parameters) ⌝ }
-{
-    if kind == 0 {
-        return false;
-    }
-    if kind <= Kind::SUBSECTION.number as usize {
-        return true;
-    }
-    if kind == Kind::FORMAL_ITEM.number as usize {
-        return true;
-    }
-    kind == Kind::TABLE.number as usize
-}
 
 // Whether node `i` has neither key nor size nor type, as most elements.
 fn lacks_values(nodes: &[u32], i: usize) -> bool
@@ -83,7 +56,7 @@ fn values(nodes: &[u32], pool: &[u8], i: usize, out: &mut [u8], at: usize) -> us
     if lacks_values(nodes, i) {
         return at;
     }
-    let class = key_class(word(nodes, i, KIND));
+    let class = key_class(word(nodes, i, KIND)) as usize;
     let k = put_value(out, at, class, string(nodes, i, KEY, pool));
     let k = put_size(out, k, word(nodes, i, WIDTH), word(nodes, i, HEIGHT));
     put_value(

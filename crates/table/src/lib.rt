@@ -1,5 +1,10 @@
-// The records of a node table: their words and the strings that they name (document 01, "The table").
+// The records of a node table: their words, the strings that they name and what a node of a kind has (document 01, "The table").
+use kind::Keyword;
+use kind::Kind;
 ghost use mathlib.Core.Path.{_≡_};
+ghost use Rattle.elements.specs.Rules.{ruleOf};
+ghost use Rattle.document.specs.Canonical.{keyClass, nodeFirst};
+ghost use Rattle.document.specs.Printing.{part};
 ghost use Rattle.table.specs.Stored.{wordAt, stringAt};
 
 // "Eleven u32 words a node"
@@ -45,6 +50,21 @@ pub fn word(nodes: &[u32], i: usize, j: usize) -> usize
     nodes[at + j] as usize
 }
 
+// The bytes of the pool from `at` on, `size` of them, as far as the pool has them.
+pub fn part<'a>(pool: &'a [u8], at: usize, size: usize) -> &'a [u8]
+    ensures { λ r. ⌜ now r ≡ part (now (pool .entry)) at size ⌝ }
+{
+    let length = pool.len();
+    if length <= at {
+        return &pool[length..length];
+    }
+    if length - at < size {
+        return &pool[at..length];
+    }
+    let end = at + size;
+    &pool[at..end]
+}
+
 // The string that words `j` and `j + 1` of the record of node `i` name, as far as the pool has it.
 pub fn string<'a>(nodes: &[u32], i: usize, j: usize, pool: &'a [u8]) -> &'a [u8]
     ensures { λ r. ⌜ now r ≡ stringAt (now (nodes .entry)) (now (pool .entry)) i j ⌝ }
@@ -55,12 +75,34 @@ pub fn string<'a>(nodes: &[u32], i: usize, j: usize, pool: &'a [u8]) -> &'a [u8]
     }
     let at = word(nodes, i, j);
     let size = word(nodes, i, j + 1);
-    if length <= at {
-        return &pool[length..length];
+    part(pool, at, size)
+}
+
+// The class of the key of a kind: a block has an id, any other element a target.
+pub fn key_class(kind: usize) -> u8
+    ensures { λ r. ⌜ r ≡ keyClass kind ⌝ }
+{
+    if kind == 0 {
+        return Keyword::TARGET.number;
     }
-    if length - at < size {
-        return &pool[at..length];
+    if kind <= Kind::FOOTNOTE.number as usize {
+        return Keyword::ID.number;
     }
-    let end = at + size;
-    &pool[at..end]
+    Keyword::TARGET.number
+}
+
+// Whether the first parameter of a kind is a title or a summary, which is a node.
+pub fn is_titled(kind: usize) -> bool
+    ensures { λ r. ⌜ r ≡ nodeFirst (ruleOf kind .parameters) ⌝ }
+{
+    if kind == 0 {
+        return false;
+    }
+    if kind <= Kind::SUBSECTION.number as usize {
+        return true;
+    }
+    if kind == Kind::FORMAL_ITEM.number as usize {
+        return true;
+    }
+    kind == Kind::TABLE.number as usize
 }

@@ -13,5 +13,4 @@ pub mod Drafts
 pub mod Every
 pub mod ValueSteps
 pub mod RecordTests
-pub mod Leading
 pub mod Refusals

@@ -18,6 +18,7 @@ use table::RECORD;
 use table::TEXT;
 use table::TEXT_LENGTH;
 use table::TYPE_LENGTH;
+use table::is_titled;
 use table::word;
 use utf8::valid_up_to;
 ghost use mathlib.Core.Path.{_≡_};
@@ -71,23 +72,6 @@ fn refused() -> Walked
         next: 0,
         pool: 0,
     }
-}
-
-// The first parameter of a kind is a title or a summary, which is a node.
-fn node_first(kind: u8) -> bool
-    requires { ⌜ kind ≤ 25 ⌝ }
-    ensures { λ r. ⌜ r ≡ nodeFirst (ruleOf kind .parameters) ⌝ }
-{
-    if kind == Kind::FORMAL_ITEM.number {
-        return true;
-    }
-    if kind == Kind::TABLE.number {
-        return true;
-    }
-    if kind < Kind::DOCUMENT.number {
-        return false;
-    }
-    kind <= Kind::SUBSECTION.number
 }
 
 // Node `i` under a parent, with its descendants: its strings stand in the pool from `at` on, and its brackets nest at most `left` levels.
@@ -155,7 +139,7 @@ fn element(nodes: &[u32], pool: &[u8], i: usize, parent: usize, at: usize, left:
 
 // The values of node `i`, where they stand before its children. A title or summary stands before the values, which are then due.
 fn lead(nodes: &[u32], pool: &[u8], i: usize, kind: u8, end: usize, levels: usize) -> Led
-    requires { ⌜ (11 * i + 11 ≤ length (now nodes)) × (kind ≤ 25) × (levels ≡ valueLevels (now nodes) i) ⌝ }
+    requires { ⌜ (11 * i + 11 ≤ length (now nodes)) × (levels ≡ valueLevels (now nodes) i) ⌝ }
     ensures { λ r. ⌜ Leads (now (nodes .entry)) (now (pool .entry)) kind i end (r .ok) (r .due) (r .state) ⌝ }
 {
     // most elements have no values
@@ -167,7 +151,7 @@ fn lead(nodes: &[u32], pool: &[u8], i: usize, kind: u8, end: usize, levels: usiz
         };
     }
     if i + 1 < end {
-        if node_first(kind) {
+        if is_titled(kind as usize) {
             return Led {
                 ok: true,
                 due: true,
@@ -194,7 +178,7 @@ fn children(
     at: usize,
     left: usize,
 ) -> Walked
-    requires { ⌜ (11 * i + 11 ≤ length (now nodes)) × (at ≤ length (now pool)) × (kind ≤ 25) × (levels ≡ valueLevels (now nodes) i) ⌝ }
+    requires { ⌜ (11 * i + 11 ≤ length (now nodes)) × (at ≤ length (now pool)) × (levels ≡ valueLevels (now nodes) i) ⌝ }
     ensures { λ r. ⌜ Decides (ChildrenAt (now (nodes .entry)) (now (pool .entry)) (placeValues (nodeFirst (ruleOf kind .parameters)) (valuesOf (now (nodes .entry)) (now (pool .entry)) kind i))
         kind i (start kind) (i + 1) at end left) (r .ok) (r .next) (r .pool) ⌝ }
 {

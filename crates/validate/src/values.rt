@@ -11,15 +11,16 @@ use table::MISSING;
 use table::TYPE;
 use table::TYPE_LENGTH;
 use table::WIDTH;
+use table::key_class;
+use table::part;
 ghost use mathlib.Core.Path.{_≡_};
 ghost use mathlib.Core.Bool.{_&&_};
 ghost use mathlib.Core.List.{List};
 ghost use Prim.Native.Nat.{ℕ, _+_, _*_, _≤_};
 ghost use lib.ListN.{length};
 ghost use Rattle.elements.specs.Characters.{characterOf};
-ghost use Rattle.document.specs.Printing.{part};
 ghost use Rattle.document.specs.Value.{isValue, nonEmpty, every};
-ghost use Rattle.document.specs.Canonical.{keyClass, valueBefore, sizeBefore};
+ghost use Rattle.document.specs.Canonical.{valueBefore, sizeBefore};
 ghost use Rattle.validate.specs.Walking.{Takes, valuesOf};
 
 // Whether what stands before the rest is taken, and the state after it.
@@ -100,43 +101,14 @@ fn take_size(kind: u8, state: u8, width: usize, height: usize) -> Taken
     }
 }
 
-// A block has an id, any other element a target.
-fn key_class(kind: u8) -> u8
-    ensures { λ r. ⌜ r ≡ keyClass kind ⌝ }
-{
-    if kind < Kind::DOCUMENT.number {
-        return Keyword::TARGET.number;
-    }
-    if Kind::FOOTNOTE.number < kind {
-        return Keyword::TARGET.number;
-    }
-    Keyword::ID.number
-}
-
-// The string that two words name, as far as the pool has it.
-fn named<'a>(pool: &'a [u8], offset: u32, length: u32) -> &'a [u8]
-    ensures { λ r. ⌜ now r ≡ part (now (pool .entry)) offset length ⌝ }
-{
-    let size = pool.len();
-    let at = offset as usize;
-    if size <= at {
-        return &pool[size..size];
-    }
-    if size - at < length as usize {
-        return &pool[at..size];
-    }
-    let end = at + length as usize;
-    &pool[at..end]
-}
-
 // The values of node `i` of a kind, "id before type".
 pub fn values(nodes: &[u32], pool: &[u8], i: usize, kind: u8, state: u8) -> Taken
     requires { ⌜ 11 * i + 11 ≤ length (now nodes) ⌝ }
     ensures { λ r. ⌜ Takes kind (valuesOf (now (nodes .entry)) (now (pool .entry)) kind i) state (r .ok) (r .state) ⌝ }
 {
     let r = words(nodes, i);
-    let bytes = named(pool, r[KEY], r[KEY_LENGTH]);
-    let key = take_value(kind, state, key_class(kind), bytes);
+    let bytes = part(pool, r[KEY] as usize, r[KEY_LENGTH] as usize);
+    let key = take_value(kind, state, key_class(kind as usize), bytes);
     if !key.ok {
         return Taken { ok: false, state };
     }
@@ -152,6 +124,6 @@ pub fn values(nodes: &[u32], pool: &[u8], i: usize, kind: u8, state: u8) -> Take
         kind,
         size.state,
         Keyword::TYPE.number,
-        named(pool, r[TYPE], r[TYPE_LENGTH]),
+        part(pool, r[TYPE] as usize, r[TYPE_LENGTH] as usize),
     )
 }

@@ -27,13 +27,13 @@ said : (text : List ℕ) (room : ℕ) (a : Answer) {n p : ℕ} → (n ≡ a .num
 unfolding answerAt answer scan
 said text room a e f = (e .0 ∙ ap (λ (x : Answer). x .number) f, e .1 ∙ ap (λ (x : Answer). x .place) f)
 
-least-requires : tie.Need-least-requires Inv-loop μ-loop
-least-requires c κs = search needs
+lesser-requires : tie.Need-lesser-requires Inv-loop μ-loop
+lesser-requires c κs = search needs
 
 loop-holds : tie.Need-loop-holds Inv-loop μ-loop
 unfolding stacked
 loop-holds c =
-    let room : c .least .result - 0 ≡ min (c .before .before .args .room) 64 = omega (arith, c .least .ensures) in
+    let room : c .lesser .result - 0 ≡ min (c .before .before .args .room) 64 = omega (arith, c .lesser .ensures) in
     (omega arith, omega arith, refl, refl, ap (λ (n : ℕ). answerAt [] n (c .before .before .args .text .now) 0) room)
 
 shared-slice-read-byte-class : tie.Need-shared-slice-read-byte-class Inv-loop μ-loop
@@ -85,7 +85,7 @@ answered-requires-2 : tie.Need-answered-requires-2 Inv-loop μ-loop
 answered-requires-2 c κs = search needs
 
 returns-2 : tie.Need-returns-2 Inv-loop μ-loop
-returns-2 c = said _ _ _ (c .answered2 .ensures) (sym (no-room (c .before .before .before .before .before .before .before .before .before .before .least .result) _ _ _ _ _ (c .before .before .before .before .before .before .before .before .loop-test .taken) _ (c .before .before .before .before .before .before .byte-class .ensures) (c .before .before .before .if3 .left) (c .before .before .if5 .taken) (c .before .if6 .taken)) ∙ c .before .before .before .before .before .before .before .before .before .loop .inv .4)
+returns-2 c = said _ _ _ (c .answered2 .ensures) (sym (no-room (c .before .before .before .before .before .before .before .before .before .before .lesser .result) _ _ _ _ _ (c .before .before .before .before .before .before .before .before .loop-test .taken) _ (c .before .before .before .before .before .before .byte-class .ensures) (c .before .before .before .if3 .left) (c .before .before .if5 .taken) (c .before .if6 .taken)) ∙ c .before .before .before .before .before .before .before .before .before .loop .inv .4)
 
 array-write-brackets : tie.Need-array-write-brackets Inv-loop μ-loop
 array-write-brackets c = search needs
@@ -108,13 +108,13 @@ loop-less-4 c = search needs
 loop-again-4 : tie.Need-loop-again-4 Inv-loop μ-loop
 loop-again-4 c =
     let inv = c .before .before .before .before .before .before .before .before .loop .inv in
-    (inv .0, omega arith, simp length-set (inv .2), simp length-set (inv .3), push (c .before .before .before .before .before .before .before .before .before .least .result) _ _ _ _ _ (c .before .before .before .before .before .before .before .loop-test .taken) _ (c .before .before .before .before .before .byte-class .ensures) (c .before .before .if3 .left) (c .before .if5 .taken) (c .if6 .left) (omega arith) (omega arith) ∙ inv .4)
+    (inv .0, omega arith, simp length-set (inv .2), simp length-set (inv .3), push (c .before .before .before .before .before .before .before .before .before .lesser .result) _ _ _ _ _ (c .before .before .before .before .before .before .before .loop-test .taken) _ (c .before .before .before .before .before .byte-class .ensures) (c .before .before .if3 .left) (c .before .if5 .taken) (c .if6 .left) (omega arith) (omega arith) ∙ inv .4)
 
 answered-requires-3 : tie.Need-answered-requires-3 Inv-loop μ-loop
 answered-requires-3 c κs = search needs
 
 returns-3 : tie.Need-returns-3 Inv-loop μ-loop
-returns-3 c = said _ _ _ (c .answered3 .ensures) (sym (unopened (c .before .before .before .before .before .before .before .before .before .before .least .result) _ _ _ _ _ (c .before .before .before .before .before .before .before .before .loop-test .taken) _ (c .before .before .before .before .before .before .byte-class .ensures) (c .before .before .if5 .left) (c .before .if7 .taken)) ∙ c .before .before .before .before .before .before .before .before .before .loop .inv .4)
+returns-3 c = said _ _ _ (c .answered3 .ensures) (sym (unopened (c .before .before .before .before .before .before .before .before .before .before .lesser .result) _ _ _ _ _ (c .before .before .before .before .before .before .before .before .loop-test .taken) _ (c .before .before .before .before .before .before .byte-class .ensures) (c .before .before .if5 .left) (c .before .if7 .taken)) ∙ c .before .before .before .before .before .before .before .before .before .loop .inv .4)
 
 sub-closes : tie.Need-sub-closes Inv-loop μ-loop
 sub-closes c = search needs
@@ -129,7 +129,7 @@ answered-requires-4 : tie.Need-answered-requires-4 Inv-loop μ-loop
 answered-requires-4 c κs = search needs
 
 returns-4 : tie.Need-returns-4 Inv-loop μ-loop
-returns-4 c = said _ _ _ (c .answered4 .ensures) (sym (other-bracket (c .before .before .before .before .before .before .before .before .before .before .before .before .least .result) _ _ _ _ _ (c .before .before .before .before .before .before .before .before .before .before .loop-test .taken) _ (c .before .before .before .before .before .before .before .before .byte-class .ensures) (c .before .before .before .before .if5 .left) (c .before .before .before .if7 .left) (sym (c .before .before .closes .ensures) ∙ not-true (c .before .before .closes .result) (c .before .if8 .taken))) ∙ c .before .before .before .before .before .before .before .before .before .before .before .loop .inv .4)
+returns-4 c = said _ _ _ (c .answered4 .ensures) (sym (other-bracket (c .before .before .before .before .before .before .before .before .before .before .before .before .lesser .result) _ _ _ _ _ (c .before .before .before .before .before .before .before .before .before .before .loop-test .taken) _ (c .before .before .before .before .before .before .before .before .byte-class .ensures) (c .before .before .before .before .if5 .left) (c .before .before .before .if7 .left) (sym (c .before .before .closes .ensures) ∙ not-true (c .before .before .closes .result) (c .before .if8 .taken))) ∙ c .before .before .before .before .before .before .before .before .before .before .before .loop .inv .4)
 
 sub-depth : tie.Need-sub-depth Inv-loop μ-loop
 sub-depth c = search needs
@@ -143,13 +143,13 @@ loop-less-5 c = search needs
 loop-again-5 : tie.Need-loop-again-5 Inv-loop μ-loop
 loop-again-5 c =
     let inv = c .before .before .before .before .before .before .before .before .before .before .loop .inv in
-    (inv .0, omega arith, inv .2, inv .3, pop (c .before .before .before .before .before .before .before .before .before .before .before .least .result) _ _ _ _ _ (c .before .before .before .before .before .before .before .before .before .loop-test .taken) _ (c .before .before .before .before .before .before .before .byte-class .ensures) (c .before .before .before .if5 .left) (c .before .before .if7 .left) (inv .1) (sym (c .before .closes .ensures) ∙ not-false (c .before .closes .result) (c .if8 .left)) ∙ inv .4)
+    (inv .0, omega arith, inv .2, inv .3, pop (c .before .before .before .before .before .before .before .before .before .before .before .lesser .result) _ _ _ _ _ (c .before .before .before .before .before .before .before .before .before .loop-test .taken) _ (c .before .before .before .before .before .before .before .byte-class .ensures) (c .before .before .before .if5 .left) (c .before .before .if7 .left) (inv .1) (sym (c .before .closes .ensures) ∙ not-false (c .before .closes .result) (c .if8 .left)) ∙ inv .4)
 
 answered-requires-5 : tie.Need-answered-requires-5 Inv-loop μ-loop
 answered-requires-5 c κs = search needs
 
 returns-5 : tie.Need-returns-5 Inv-loop μ-loop
-returns-5 c = said _ _ _ (c .answered5 .ensures) (sym (none-open (c .before .before .before .before .least .result) _ _ _ _ _ (c .before .before .loop-test .left) (c .before .if9 .taken)) ∙ c .before .before .before .loop .inv .4)
+returns-5 c = said _ _ _ (c .answered5 .ensures) (sym (none-open (c .before .before .before .before .lesser .result) _ _ _ _ _ (c .before .before .loop-test .left) (c .before .if9 .taken)) ∙ c .before .before .before .loop .inv .4)
 
 sub-answered : tie.Need-sub-answered Inv-loop μ-loop
 sub-answered c = search needs
@@ -164,7 +164,7 @@ answered-requires-6 : tie.Need-answered-requires-6 Inv-loop μ-loop
 answered-requires-6 c κs = search needs
 
 returns-6 : tie.Need-returns-6 Inv-loop μ-loop
-returns-6 c = said _ _ _ (c .answered6 .ensures) (sym (left-open (c .before .before .before .before .least .result) _ _ _ _ _ (c .before .before .loop-test .left) (c .before .if9 .left)) ∙ c .before .before .before .loop .inv .4)
+returns-6 c = said _ _ _ (c .answered6 .ensures) (sym (left-open (c .before .before .before .before .lesser .result) _ _ _ _ _ (c .before .before .loop-test .left) (c .before .if9 .left)) ∙ c .before .before .before .loop .inv .4)
 
 pub scan-spec : {M : Type 1} → statement M
 scan-spec =
@@ -172,7 +172,7 @@ scan-spec =
     (tie.spec
     Inv-loop
     μ-loop
-    least-requires
+    lesser-requires
     loop-holds
     shared-slice-read-byte-class
     byte-class-requires

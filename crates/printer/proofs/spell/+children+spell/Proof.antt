@@ -21,7 +21,7 @@ use Rattle.printer.proofs.put.put.Reads as put-reads
 use Rattle.printer.proofs.put.put_name.Reads as put-name-reads
 use Rattle.printer.proofs.put.put_quoted.Reads as put-quoted-reads
 use Rattle.printer.proofs.spell.first_end.Reads as first-end-reads
-use Rattle.printer.proofs.put.lesser.Reads as lesser-reads
+use Rattle.store.proofs.lesser.Reads as lesser-reads
 use Rattle.table.proofs.string.Reads as string-reads
 use Rattle.printer.proofs.spell.values.Reads as values-reads
 use Rattle.table.proofs.word.Reads as word-reads

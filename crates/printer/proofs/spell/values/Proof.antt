@@ -21,6 +21,9 @@ word-requires c κs = search needs
 key-class-requires : tie.Need-key-class-requires
 key-class-requires c κs = search needs
 
+cast-class : tie.Need-cast-class
+cast-class c = search needs
+
 string-requires : tie.Need-string-requires
 string-requires c κs = search needs
 
@@ -69,6 +72,7 @@ values-spec =
     returns
     word-requires
     key-class-requires
+    cast-class
     string-requires
     put-value-requires
     word-requires-2

@@ -125,7 +125,7 @@ abbrev children-μ-loop : children-lts.MeasureT-loop
 children-μ-loop nodes pool i kind end levels at left due₀ s₀ j₀ p₀ due s j p = end - j
 
 children-lead-requires : (t : ℕ) → children-lts.Need-lead-requires (children-claims t) (children-at t) children.Post children-Inv-loop children-μ-loop
-children-lead-requires t c κs = (c .before .before .pre .1 .0, c .before .before .pre .1 .2, c .before .before .pre .1 .3)
+children-lead-requires t c κs = (c .before .before .pre .1 .0, c .before .before .pre .1 .2)
 
 children-refused-requires : (t : ℕ) → children-lts.Need-refused-requires (children-claims t) (children-at t) children.Post children-Inv-loop children-μ-loop
 children-refused-requires t c κs = search needs
@@ -281,13 +281,11 @@ element-sub-children t c =
 element-children-requires : (t : ℕ) → element-lts.Need-children-requires (element-claims t) (element-at t) element.Post
 element-children-requires t c κs =
     let r = c .before .before .before .before .before .before .before .before .before .words .ensures .0 in
-    let there = c .before .before .before .before .before .before .before .before .stands .ensures _ _ r .sound (not-false _ (c .before .before .before .before .before .before .before .if1 .left)) in
-    let fits = c .before .before .before .before .before .element-fits .ensures _ _ r (c .before .before .before .before .before .before .value-levels .ensures _ _ r) .sound (not-false _ (c .before .before .before .before .if2 .left)) in (
+    let there = c .before .before .before .before .before .before .before .before .stands .ensures _ _ r .sound (not-false _ (c .before .before .before .before .before .before .before .if1 .left)) in (
       omega (arith, c .before .before .before .before .before .before .before .before .before .before .before .before .pre .0),
       (
         c .before .before .before .before .before .before .before .before .before .before .before .before .pre .1 .0,
         omega (arith, word-in _ _ _ 4 r (omega arith), word-in _ _ _ 6 r (omega arith), there .type-at .within),
-        omega (arith, word-in _ _ _ 0 r (omega arith), fits .kind-high),
         c .before .before .before .before .before .before .value-levels .ensures _ _ r,
       ),
     )

@@ -11,16 +11,16 @@ use Rattle.validate.proofs.draft.lead.Statement.{statement}
 use Rattle.validate.proofs.draft.lead.Tie as tie
 
 returns : tie.Need-returns
-returns c = lead-none _ _ _ _ _ (sym (c .before .before .before .pre .2) ∙ c .if1 .taken)
+returns c = lead-none _ _ _ _ _ (sym (c .before .before .before .pre .1) ∙ c .if1 .taken)
 
 add-if2 : tie.Need-add-if2
 add-if2 c = search needs
 
-node-first-requires : tie.Need-node-first-requires
-node-first-requires c κs = search needs
+is-titled-requires : tie.Need-is-titled-requires
+is-titled-requires c κs = search needs
 
 returns-2 : tie.Need-returns-2
-returns-2 c = lead-due _ _ _ _ _ (sym (c .before .node-first .ensures) ∙ c .if3 .taken) (c .before .before .if2 .taken)
+returns-2 c = lead-due _ _ _ _ _ (sym (c .before .is-titled .ensures) ∙ c .if3 .taken) (c .before .before .if2 .taken)
 
 values-requires : tie.Need-values-requires
 values-requires c κs = search needs
@@ -32,4 +32,4 @@ returns-3 c = lead-taken _ _ _ _ _
 
 pub lead-spec : {M : Type 1} → statement M
 lead-spec =
-    tie.close (tie.spec returns add-if2 node-first-requires returns-2 values-requires returns-3)
+    tie.close (tie.spec returns add-if2 is-titled-requires returns-2 values-requires returns-3)

@@ -19,14 +19,20 @@ use Rattle.validate.proofs.values.values.Tie as tie
 words-requires : tie.Need-words-requires
 words-requires c κs = search needs
 
-shared-slice-read-named : tie.Need-shared-slice-read-named
-shared-slice-read-named c = search needs
+shared-slice-read-part : tie.Need-shared-slice-read-part
+shared-slice-read-part c = search needs
 
-shared-slice-read-named-2 : tie.Need-shared-slice-read-named-2
-shared-slice-read-named-2 c = search needs
+cast-part : tie.Need-cast-part
+cast-part c = omega (arith, c .shared-slice-known3 .given 3)
 
-named-requires : tie.Need-named-requires
-named-requires c κs = search needs
+shared-slice-read-part-2 : tie.Need-shared-slice-read-part-2
+shared-slice-read-part-2 c = search needs
+
+cast-part-2 : tie.Need-cast-part-2
+cast-part-2 c = omega (arith, c .shared-slice-known4 .given 4)
+
+part-requires : tie.Need-part-requires
+part-requires c κs = search needs
 
 key-class-requires : tie.Need-key-class-requires
 key-class-requires c κs = search needs
@@ -39,7 +45,7 @@ returns : tie.Need-returns
 unfolding valuesOf stringAt
 returns c =
     let r = c .before .before .before .before .before .before .before .words .ensures .0 in
-    let key = rw (c .before .before .before .key-class .ensures, c .before .before .before .before .named .ensures, word-in _ _ _ 3 r (omega arith), word-in _ _ _ 4 r (omega arith)) at (c .before .before .take-value .ensures) in
+    let key = rw (c .before .before .before .key-class .ensures, c .before .before .before .before .part .ensures, word-in _ _ _ 3 r (omega arith), word-in _ _ _ 4 r (omega arith)) at (c .before .before .take-value .ensures) in
     takes-not key (not-true _ (c .if1 .taken))
 
 shared-slice-read-take-size : tie.Need-shared-slice-read-take-size
@@ -61,7 +67,7 @@ returns-2 : tie.Need-returns-2
 unfolding valuesOf stringAt
 returns-2 c =
     let r = c .before .before .before .before .before .before .before .before .before .before .before .before .words .ensures .0 in
-    let key = rw (c .before .before .before .before .before .before .before .before .key-class .ensures, c .before .before .before .before .before .before .before .before .before .named .ensures, word-in _ _ _ 3 r (omega arith), word-in _ _ _ 4 r (omega arith)) at (c .before .before .before .before .before .before .before .take-value .ensures) in
+    let key = rw (c .before .before .before .before .before .before .before .before .key-class .ensures, c .before .before .before .before .before .before .before .before .before .part .ensures, word-in _ _ _ 3 r (omega arith), word-in _ _ _ 4 r (omega arith)) at (c .before .before .before .before .before .before .before .take-value .ensures) in
     let size = rw (word-in _ _ _ 9 r (omega arith), word-in _ _ _ 10 r (omega arith)) at (c .before .before .take-size .ensures) in
     takes-then key (not-false _ (c .before .before .before .before .before .if1 .left)) (takes-not size (not-true _ (c .if2 .taken)))
 
@@ -72,20 +78,26 @@ returns-3 : tie.Need-returns-3
 unfolding valuesOf stringAt
 returns-3 c =
     let r = c .before .before .before .before .before .before .before .before .before .before .before .before .before .before .words .ensures .0 in
-    let key = rw (c .before .before .before .before .before .before .before .before .before .before .key-class .ensures, c .before .before .before .before .before .before .before .before .before .before .before .named .ensures, word-in _ _ _ 3 r (omega arith), word-in _ _ _ 4 r (omega arith)) at (c .before .before .before .before .before .before .before .before .before .take-value .ensures) in
+    let key = rw (c .before .before .before .before .before .before .before .before .before .before .key-class .ensures, c .before .before .before .before .before .before .before .before .before .before .before .part .ensures, word-in _ _ _ 3 r (omega arith), word-in _ _ _ 4 r (omega arith)) at (c .before .before .before .before .before .before .before .before .before .take-value .ensures) in
     let size = rw (word-in _ _ _ 9 r (omega arith), word-in _ _ _ 10 r (omega arith)) at (c .before .before .before .before .take-size .ensures) in
     let none = no-string (c .before .before .before .before .before .before .before .before .before .before .before .before .before .before .before .before .before .args .nodes .now) (c .before .before .before .before .before .before .before .before .before .before .before .before .before .before .before .before .before .args .pool .now) (c .before .before .before .before .before .before .before .before .before .before .before .before .before .before .before .before .before .args .i) 5 (sym (word-in _ _ _ 6 r (omega arith)) ∙ c .if3 .taken) in
     rw (not-false (c .before .before .before .before .take-size .result .ok) (c .before .before .if2 .left))
     (takes-then key (not-false _ (c .before .before .before .before .before .before .before .if1 .left)) (takes-then size (not-false _ (c .before .before .if2 .left)) (value-missing _ _ _ _ (ap length none))))
 
-shared-slice-read-named-3 : tie.Need-shared-slice-read-named-3
-shared-slice-read-named-3 c = search needs
+shared-slice-read-part-3 : tie.Need-shared-slice-read-part-3
+shared-slice-read-part-3 c = search needs
 
-shared-slice-read-named-4 : tie.Need-shared-slice-read-named-4
-shared-slice-read-named-4 c = search needs
+cast-part-3 : tie.Need-cast-part-3
+cast-part-3 c = omega (arith, c .shared-slice-known8 .given 5)
 
-named-requires-2 : tie.Need-named-requires-2
-named-requires-2 c κs = search needs
+shared-slice-read-part-4 : tie.Need-shared-slice-read-part-4
+shared-slice-read-part-4 c = search needs
+
+cast-part-4 : tie.Need-cast-part-4
+cast-part-4 c = omega (arith, c .shared-slice-known9 .given 6)
+
+part-requires-2 : tie.Need-part-requires-2
+part-requires-2 c κs = search needs
 
 take-value-requires-2 : tie.Need-take-value-requires-2
 take-value-requires-2 c κs = search needs
@@ -94,9 +106,9 @@ returns-4 : tie.Need-returns-4
 unfolding valuesOf stringAt
 returns-4 c =
     let r = c .before .before .before .before .before .before .before .before .before .before .before .before .before .before .before .before .before .before .words .ensures .0 in
-    let key = rw (c .before .before .before .before .before .before .before .before .before .before .before .before .before .before .key-class .ensures, c .before .before .before .before .before .before .before .before .before .before .before .before .before .before .before .named .ensures, word-in _ _ _ 3 r (omega arith), word-in _ _ _ 4 r (omega arith)) at (c .before .before .before .before .before .before .before .before .before .before .before .before .before .take-value .ensures) in
+    let key = rw (c .before .before .before .before .before .before .before .before .before .before .before .before .before .before .key-class .ensures, c .before .before .before .before .before .before .before .before .before .before .before .before .before .before .before .part .ensures, word-in _ _ _ 3 r (omega arith), word-in _ _ _ 4 r (omega arith)) at (c .before .before .before .before .before .before .before .before .before .before .before .before .before .take-value .ensures) in
     let size = rw (word-in _ _ _ 9 r (omega arith), word-in _ _ _ 10 r (omega arith)) at (c .before .before .before .before .before .before .before .before .take-size .ensures) in
-    let type = rw (c .before .named2 .ensures, word-in _ _ _ 5 r (omega arith), word-in _ _ _ 6 r (omega arith)) at (c .take-value2 .ensures) in
+    let type = rw (c .before .part2 .ensures, word-in _ _ _ 5 r (omega arith), word-in _ _ _ 6 r (omega arith)) at (c .take-value2 .ensures) in
     takes-then key (not-false _ (c .before .before .before .before .before .before .before .before .before .before .before .if1 .left)) (takes-then size (not-false _ (c .before .before .before .before .before .before .if2 .left)) type)
 
 pub values-spec : {M : Type 1} → statement M
@@ -104,9 +116,11 @@ values-spec =
     tie.close
     (tie.spec
     words-requires
-    shared-slice-read-named
-    shared-slice-read-named-2
-    named-requires
+    shared-slice-read-part
+    cast-part
+    shared-slice-read-part-2
+    cast-part-2
+    part-requires
     key-class-requires
     take-value-requires
     returns
@@ -118,8 +132,10 @@ values-spec =
     returns-2
     shared-slice-read-if3
     returns-3
-    shared-slice-read-named-3
-    shared-slice-read-named-4
-    named-requires-2
+    shared-slice-read-part-3
+    cast-part-3
+    shared-slice-read-part-4
+    cast-part-4
+    part-requires-2
     take-value-requires-2
     returns-4)

@@ -1,9 +1,9 @@
--- `values::named` meets its contract. Assumes nothing.
+-- `table::part` meets its contract. Assumes nothing.
 use Rattle.document.specs.Printing.{part}
 use Rattle.table.proofs.Parts.{part-past, part-short, part-whole}
 use borrow.Author.Needs.{needs}
-use Rattle.validate.proofs.values.named.Statement.{statement}
-use Rattle.validate.proofs.values.named.Tie as tie
+use Rattle.table.proofs.part.Statement.{statement}
+use Rattle.table.proofs.part.Tie as tie
 
 sub-result : tie.Need-sub-result
 sub-result c = search needs
@@ -16,7 +16,7 @@ part-result-end c = search needs
 
 returns : tie.Need-returns
 unfolding part
-returns c = part-past (c .before .before .args .pool .now) (c .before .before .args .offset) (c .before .before .args .length) (c .before .if1 .taken)
+returns c = part-past (c .before .before .args .pool .now) (c .before .before .args .at) (c .before .before .args .size) (c .before .if1 .taken)
 
 sub-if2 : tie.Need-sub-if2
 sub-if2 c = search needs
@@ -32,7 +32,7 @@ part-result-end-2 c = search needs
 
 returns-2 : tie.Need-returns-2
 unfolding part
-returns-2 c = part-short (c .before .before .before .args .pool .now) (c .before .before .before .args .offset) (c .before .before .before .args .length) (c .before .if2 .taken)
+returns-2 c = part-short (c .before .before .before .args .pool .now) (c .before .before .before .args .at) (c .before .before .before .args .size) (c .before .if2 .taken)
 
 add-end : tie.Need-add-end
 add-end c = search needs
@@ -48,10 +48,10 @@ part-result-end-3 c = search needs
 
 returns-3 : tie.Need-returns-3
 unfolding part
-returns-3 c = part-whole (c .before .before .before .args .pool .now) (c .before .before .before .args .offset) (c .before .before .before .args .length)
+returns-3 c = part-whole (c .before .before .before .args .pool .now) (c .before .before .before .args .at) (c .before .before .before .args .size)
 
-pub named-spec : {M : Type 1} → statement M
-named-spec =
+pub part-spec : {M : Type 1} → statement M
+part-spec =
     tie.close
     (tie.spec
     sub-result

@@ -1,11 +1,11 @@
--- `spell::is_titled` meets its contract. Assumes nothing.
+-- `table::is_titled` meets its contract. Assumes nothing.
 use Prim.Native.Nat.{_≤_}
 use borrow.Author.Tests.{le-leb, lt-leb, ne-eqb}
 use native.Mathlib.Omega.{arith}
-use Rattle.printer.proofs.Standing.{titled-is}
+use Rattle.table.proofs.Titled.{titled-is}
 use borrow.Author.Needs.{needs}
-use Rattle.printer.proofs.spell.is_titled.Statement.{statement}
-use Rattle.printer.proofs.spell.is_titled.Tie as tie
+use Rattle.table.proofs.is_titled.Statement.{statement}
+use Rattle.table.proofs.is_titled.Tie as tie
 
 returns : tie.Need-returns
 returns c = rw (titled-is (c .before .args .kind), c .if1 .taken)

@@ -1,12 +1,12 @@
--- `put::copy` meets its contract. The loop's invariant: the first i bytes are copied. Assumes nothing.
+-- `store::copy` meets its contract. The loop's invariant: the first i bytes are copied. Assumes nothing.
 use borrow.Author.Needs.{needs}
 use Prim.Native.Nat.{_-_, _<_, _≤_}
 use mathlib.Core.Path.{_≡_, _∙_}
 use native.Mathlib.Omega.{arith}
 use lib.ListN.{length, take, length-set}
-use Rattle.printer.proofs.Copied.{copied-more, copied-all}
-use Rattle.printer.proofs.put.copy.Statement.{statement}
-use Rattle.printer.proofs.put.copy.Tie as tie
+use Rattle.store.proofs.Copied.{copied-more, copied-all}
+use Rattle.store.proofs.copy.Statement.{statement}
+use Rattle.store.proofs.copy.Tie as tie
 
 abbrev Inv-loop : tie.InvT-loop
 Inv-loop out₀ bytes i₀ out i = (i ≤ length bytes) × (length out ≡ length bytes) × (take i out ≡ take i bytes)

@@ -1,13 +1,14 @@
--- `put::store_all` meets its contract. Assumes nothing.
+-- `store::store_all` meets its contract. Assumes nothing.
 use mathlib.Core.Path.{sym}
 use native.Mathlib.Omega.{arith}
 use Prim.Native.Nat.{_≤_}
 use lib.ListN.{length, length-take, length-drop}
 use lib.Seq.{length-take-le}
-use Rattle.printer.proofs.Copied.{sets-past, room-copied}
+use Rattle.laws.proofs.Stores.{sets-past}
+use Rattle.store.proofs.Copied.{room-copied}
 use borrow.Author.Needs.{needs}
-use Rattle.printer.proofs.put.store_all.Statement.{statement}
-use Rattle.printer.proofs.put.store_all.Tie as tie
+use Rattle.store.proofs.store_all.Statement.{statement}
+use Rattle.store.proofs.store_all.Tie as tie
 
 returns : tie.Need-returns
 returns c =

@@ -1,15 +1,15 @@
 -- Bytes copied at once, as many as the output has room for. Assumes nothing.
-use Prim.Native.Nat.{ℕ, suc, _+_, _-_, _<_, _≤_, min}
-use mathlib.Core.Path.{_≡_, refl, sym, ap, _∙_}
-use mathlib.Core.List.{List, [], _∷_, _++_, append-assoc}
+use Prim.Native.Nat.{ℕ, _+_, _-_, _<_, _≤_, min}
+use mathlib.Core.Path.{_≡_, sym, ap, _∙_}
+use mathlib.Core.List.{List, _++_, append-assoc}
 use native.Mathlib.Numerals.{add-one}
 use native.Mathlib.Omega.{arith}
 use lib.Dec.{leb}
 use lib.ListN.{length, getD, take, drop, set, take-append-drop, drop-of-length-le}
-use lib.Seq.{sets, sets-eq, length-sets, set-out, length-take-le, take-all, take-suc, take-suc-set, drop-drop}
+use lib.Seq.{sets, sets-eq, length-sets, length-take-le, take-all, take-suc, take-suc-set, drop-drop}
 use borrow.Author.Tests.{leb-true, leb-false}
 use Rattle.laws.proofs.Booleans.{bool-case}
-use Rattle.lexer.proofs.Written.{sets-append}
+use Rattle.laws.proofs.Stores.{sets-append, sets-past}
 
 -- One byte more of a copy.
 pub copied-more : (bytes out : List ℕ) (i : ℕ) → i < length bytes → i < length out → take i out ≡ take i bytes
@@ -19,11 +19,6 @@ copied-more bytes out i h g e = rw (add-one i, take-suc-set out i (getD bytes i 
 -- All of it.
 pub copied-all : (bytes out : List ℕ) (i : ℕ) → length bytes ≤ i → length out ≡ length bytes → take i out ≡ take i bytes → out ≡ bytes
 copied-all bytes out i h l e = sym (take-all i out (omega arith)) ∙ e ∙ take-all i bytes h
-
--- Past the end nothing is stored.
-pub sets-past : (s out : List ℕ) (k : ℕ) → length out ≤ k → sets out k s ≡ out
-sets-past [] out k h = refl
-sets-past (b ∷ s) out k h = rw (set-out out k b h) (sets-past s out (suc k) (omega arith))
 
 -- A run of stores is the copy of the bytes that there are places for.
 module _ (out s : List ℕ) (at n : ℕ) (h : at ≤ length out) (e : n ≡ min (length s) (length out - at)) where
