@@ -1,16 +1,16 @@
 -- The walks over an element's content meet their contracts. The invariant of a loop is `Walking`; each way through a loop's body is one law of `Loops`.
 -- The measure is five times the bytes left, and a rank: `inside` hands the bytes on to `content_of`, that to a walk, and `item` to `inline`.
 -- Assumes nothing.
-use mathlib.Core.Path.{refl, sym, _∙_}
+use mathlib.Core.Path.{_≡_, refl, sym, _∙_}
 use mathlib.Core.Logic.{⊎-elim}
-use Prim.Native.Nat.{_+_, _*_, _-_}
+use Prim.Native.Nat.{_+_, _*_, _-_, _≤_}
 use native.Mathlib.Omega.{arith}
 use borrow.Author.Needs.{needs}
 use borrow.Author.Tests.{not-true, not-false}
 use lib.ListN.{length}
 use Rattle.kind.specs.Machine.{stateOf}
 use Rattle.reader.specs.Walked.{Bounded}
-use Rattle.reader.specs.Turn.{Judges}
+use Rattle.reader.specs.Turn.{Opens, Judges}
 use Rattle.reader.proofs.Loops.{Walking, begun, answered, passed, list-answered, list-forward, list-gone-on}
 use Rattle.reader.proofs.Loops.{to-start, item-start, element-judges, item-judges, list-judges, value-judges}
 use Rattle.reader.proofs.Items.{Bare, is-list, bare-start, item-taken}
@@ -397,21 +397,43 @@ list-returns-3 : (t : ℕ) → list-lts.Need-returns-3 (list-claims t) (list-at 
 list-returns-3 t c = answered (c .before .before .before .before .before .before .before .before .loop .inv .0)
     (rw (c .refusal .ensures) (turn-stuck (c .before .before .before .before .before .before .before .look .ensures) (c .before .before .before .before .before .before .before .before .loop .inv .0 .within) (c .before .before .before .before .before .if1 .left) (c .before .if3 .taken)))
 
+-- What a list takes is an item.
+list-taken : (t : ℕ) (c : list-lts.Else3 (list-claims t) (list-at t) list.Post list-Inv-loop list-μ-loop)
+    → let a = c .before .before .before .before .before .before .before .before .before .args in
+    let l = c .before .before .before .before .before .before .before .loop in
+    let seen = c .before .before .before .before .before .before .look .result in
+    let state = c .before .before .before .step .result .state in
+    ((l .i < seen .next) × (seen .next ≤ length (a .text .now)) × (seen .place ≤ length (a .text .now)))
+    × Opens (a .text .now) (a .kind) (l .i) (l .state) (seen .place) (seen .class) (seen .next) state
+    × (seen .class ≡ 18)
+    × Bare (stateOf (a .kind) state)
+list-taken t c =
+    let l = c .before .before .before .before .before .before .before .loop in
+    let look = c .before .before .before .before .before .before .look in
+    let some = c .before .before .before .before .if1 .left in
+    let step = c .before .before .before .step in
+    let fine = c .before .if2 .left in
+    let (item, bare) = item-taken _ _ _ _ (c .before .before .before .before .before .before .before .before .before .pre .1 .5) (l .inv .1) (step-goes _ _ _ _ fine (step .ensures)) in
+    let (within, opens) = turn-item (look .ensures) (l .inv .0 .within) _ _ (step .ensures) some fine (c .if3 .left) item in
+    (within, opens, item, bare)
+
 list-enter-requires : (t : ℕ) → list-lts.Need-enter-requires (list-claims t) (list-at t) list.Post list-Inv-loop list-μ-loop
-list-enter-requires t c κs = let taken = item-taken _ _ _ _ (c .before .before .before .before .before .before .before .before .before .before .pre .1 .5) (c .before .before .before .before .before .before .before .before .loop .inv .1) (step-goes _ _ _ _ (c .before .before .if2 .left) (c .before .before .before .before .step .ensures)) in
-    let turn = turn-item (c .before .before .before .before .before .before .before .look .ensures) (c .before .before .before .before .before .before .before .before .loop .inv .0 .within) _ _ (c .before .before .before .before .step .ensures) (c .before .before .before .before .before .if1 .left) (c .before .before .if2 .left) (c .before .if3 .left) (taken .0) in
+list-enter-requires t c κs =
+    let turn = list-taken t (c .before) in
     (omega (arith, turn .0, c .before .before .before .before .before .before .before .before .before .before .pre .1), c .before .before .before .before .before .before .before .before .before .before .pre .1 .4, omega arith)
 
 list-add-item : (t : ℕ) → list-lts.Need-add-item (list-claims t) (list-at t) list.Post list-Inv-loop list-μ-loop
-list-add-item t c = let taken = item-taken _ _ _ _ (c .before .before .before .before .before .before .before .before .before .before .before .pre .1 .5) (c .before .before .before .before .before .before .before .before .before .loop .inv .1) (step-goes _ _ _ _ (c .before .before .before .if2 .left) (c .before .before .before .before .before .step .ensures)) in
-    let turn = turn-item (c .before .before .before .before .before .before .before .before .look .ensures) (c .before .before .before .before .before .before .before .before .before .loop .inv .0 .within) _ _ (c .before .before .before .before .before .step .ensures) (c .before .before .before .before .before .before .if1 .left) (c .before .before .before .if2 .left) (c .before .before .if3 .left) (taken .0) in
+list-add-item t c =
+    let turn = list-taken t (c .before .before) in
     omega (arith, turn .0, c .before .before .before .before .before .before .before .before .before .loop .inv .0, c .before .before .before .before .before .before .before .before .before .before .before .good)
 
 list-item-requires : (t : ℕ) → list-lts.Need-item-requires (list-claims t) (list-at t) list.Post list-Inv-loop list-μ-loop
-list-item-requires t c κs = let taken = item-taken _ _ _ _ (c .before .before .before .before .before .before .before .before .before .before .before .before .pre .1 .5) (c .before .before .before .before .before .before .before .before .before .before .loop .inv .1) (step-goes _ _ _ _ (c .before .before .before .before .if2 .left) (c .before .before .before .before .before .before .step .ensures)) in
-    let turn = turn-item (c .before .before .before .before .before .before .before .before .before .look .ensures) (c .before .before .before .before .before .before .before .before .before .before .loop .inv .0 .within) _ _ (c .before .before .before .before .before .before .step .ensures) (c .before .before .before .before .before .before .before .if1 .left) (c .before .before .before .before .if2 .left) (c .before .before .before .if3 .left) (taken .0) in (
-      omega (arith, turn .0, c .before .before .before .before .before .before .before .before .before .before .before .before .pre .0),
-      (turn .0 .1, omega (arith, turn .0, c .before .before .before .before .before .before .before .before .before .before .loop .inv .0), omega (arith, turn .0, c .before .before .before .before .before .before .before .before .before .before .loop .inv .0), c .before .before .before .before .before .before .before .before .before .before .before .before .pre .1 .3, omega (arith, turn .0, c .before .before .before .before .before .before .before .before .before .before .loop .inv .0, c .before .before .before .before .before .before .before .before .before .before .before .before .pre .1)),
+list-item-requires t c κs =
+    let turn = list-taken t (c .before .before .before) in
+    let loop = c .before .before .before .before .before .before .before .before .before .before .loop .inv .0 in
+    let pre = c .before .before .before .before .before .before .before .before .before .before .before .before .pre in (
+      omega (arith, turn .0, pre .0),
+      (turn .0 .1, omega (arith, turn .0, loop), omega (arith, turn .0, loop), pre .1 .3, omega (arith, turn .0, loop, pre .1)),
     )
 
 list-leave-requires : (t : ℕ) → list-lts.Need-leave-requires (list-claims t) (list-at t) list.Post list-Inv-loop list-μ-loop
@@ -420,21 +442,31 @@ list-leave-requires t c κs = λ y. omega (arith, c .before .item .ensures .0 .b
 list-past-bracket-requires : (t : ℕ) → list-lts.Need-past-bracket-requires (list-claims t) (list-at t) list.Post list-Inv-loop list-μ-loop
 list-past-bracket-requires t c κs = search needs
 
+-- It is judged as the list that it is.
+list-child : (t : ℕ) (c : list-lts.After-leave (list-claims t) (list-at t) list.Post list-Inv-loop list-μ-loop)
+    → let a = c .before .before .before .before .before .before .before .before .before .before .before .before .before .before .before .args in
+    let l = c .before .before .before .before .before .before .before .before .before .before .before .before .before .loop in
+    let seen = c .before .before .before .before .before .before .before .before .before .before .before .before .look .result in
+    Bounded (a .text .now) (seen .next) (c .before .before .item .result)
+    × Judges (a .text .now) (seen .place) (seen .next) (a .kind) (seen .class) (l .n) (l .p) (a .node) (l .tape) (c .leave .last .0) (c .before .before .item .result)
+list-child t c =
+    let turn = list-taken t (c .before .before .before .before .before .before) in
+    item-judges (turn .2) (omega (arith, turn .0)) (c .before .before .item .ensures) (c .before .before .before .before .enter .ensures) (c .leave .ensures)
+
 list-returns-4 : (t : ℕ) → list-lts.Need-returns-4 (list-claims t) (list-at t) list.Post list-Inv-loop list-μ-loop
-list-returns-4 t c = let taken = item-taken _ _ _ _ (c .before .before .before .before .before .before .before .before .before .before .before .before .before .before .before .before .before .before .pre .1 .5) (c .before .before .before .before .before .before .before .before .before .before .before .before .before .before .before .before .loop .inv .1) (step-goes _ _ _ _ (c .before .before .before .before .before .before .before .before .before .before .if2 .left) (c .before .before .before .before .before .before .before .before .before .before .before .before .step .ensures)) in
-    let turn = turn-item (c .before .before .before .before .before .before .before .before .before .before .before .before .before .before .before .look .ensures) (c .before .before .before .before .before .before .before .before .before .before .before .before .before .before .before .before .loop .inv .0 .within) _ _ (c .before .before .before .before .before .before .before .before .before .before .before .before .step .ensures) (c .before .before .before .before .before .before .before .before .before .before .before .before .before .if1 .left) (c .before .before .before .before .before .before .before .before .before .before .if2 .left) (c .before .before .before .before .before .before .before .before .before .if3 .left) (taken .0) in
-    list-answered (c .before .before .before .before .before .before .before .before .before .before .before .before .before .before .before .before .loop .inv .0) (turn .0, (turn .1, refl))
-    (item-judges (taken .0) (omega (arith, turn .0)) (c .before .before .before .before .before .item .ensures) (c .before .before .before .before .before .before .before .enter .ensures) (c .before .before .before .leave .ensures)) (c .before .before .past-bracket .ensures) (c .if4 .taken)
+list-returns-4 t c =
+    let turn = list-taken t (c .before .before .before .before .before .before .before .before .before) in
+    list-answered (c .before .before .before .before .before .before .before .before .before .before .before .before .before .before .before .before .loop .inv .0) (turn .0, (turn .1, refl)) (list-child t (c .before .before .before)) (c .before .before .past-bracket .ensures) (c .if4 .taken)
 
 list-loop-less : (t : ℕ) → list-lts.Need-loop-less (list-claims t) (list-at t) list.Post list-Inv-loop list-μ-loop
-list-loop-less t c = let taken = item-taken _ _ _ _ (c .before .before .before .before .before .before .before .before .before .before .before .before .before .before .before .before .before .before .pre .1 .5) (c .before .before .before .before .before .before .before .before .before .before .before .before .before .before .before .before .loop .inv .1) (step-goes _ _ _ _ (c .before .before .before .before .before .before .before .before .before .before .if2 .left) (c .before .before .before .before .before .before .before .before .before .before .before .before .step .ensures)) in
-    let turn = turn-item (c .before .before .before .before .before .before .before .before .before .before .before .before .before .before .before .look .ensures) (c .before .before .before .before .before .before .before .before .before .before .before .before .before .before .before .before .loop .inv .0 .within) _ _ (c .before .before .before .before .before .before .before .before .before .before .before .before .step .ensures) (c .before .before .before .before .before .before .before .before .before .before .before .before .before .if1 .left) (c .before .before .before .before .before .before .before .before .before .before .if2 .left) (c .before .before .before .before .before .before .before .before .before .if3 .left) (taken .0) in
-    omega (arith, list-forward (c .before .before .before .before .before .before .before .before .before .before .before .before .before .before .before .before .loop .inv .0) (turn .0, (turn .1, refl)) (item-judges (taken .0) (omega (arith, turn .0)) (c .before .before .before .before .before .item .ensures) (c .before .before .before .before .before .before .before .enter .ensures) (c .before .before .before .leave .ensures)) (c .before .before .past-bracket .ensures) (c .if4 .left))
+list-loop-less t c =
+    let turn = list-taken t (c .before .before .before .before .before .before .before .before .before) in
+    omega (arith, list-forward (c .before .before .before .before .before .before .before .before .before .before .before .before .before .before .before .before .loop .inv .0) (turn .0, (turn .1, refl)) (list-child t (c .before .before .before)) (c .before .before .past-bracket .ensures) (c .if4 .left))
 
 list-loop-again : (t : ℕ) → list-lts.Need-loop-again (list-claims t) (list-at t) list.Post list-Inv-loop list-μ-loop
-list-loop-again t c = let taken = item-taken _ _ _ _ (c .before .before .before .before .before .before .before .before .before .before .before .before .before .before .before .before .before .before .pre .1 .5) (c .before .before .before .before .before .before .before .before .before .before .before .before .before .before .before .before .loop .inv .1) (step-goes _ _ _ _ (c .before .before .before .before .before .before .before .before .before .before .if2 .left) (c .before .before .before .before .before .before .before .before .before .before .before .before .step .ensures)) in
-    let turn = turn-item (c .before .before .before .before .before .before .before .before .before .before .before .before .before .before .before .look .ensures) (c .before .before .before .before .before .before .before .before .before .before .before .before .before .before .before .before .loop .inv .0 .within) _ _ (c .before .before .before .before .before .before .before .before .before .before .before .before .step .ensures) (c .before .before .before .before .before .before .before .before .before .before .before .before .before .if1 .left) (c .before .before .before .before .before .before .before .before .before .before .if2 .left) (c .before .before .before .before .before .before .before .before .before .if3 .left) (taken .0) in
-    (list-gone-on (c .before .before .before .before .before .before .before .before .before .before .before .before .before .before .before .before .loop .inv .0) (turn .0, (turn .1, refl)) (item-judges (taken .0) (omega (arith, turn .0)) (c .before .before .before .before .before .item .ensures) (c .before .before .before .before .before .before .before .enter .ensures) (c .before .before .before .leave .ensures)) (c .before .before .past-bracket .ensures) (c .if4 .left), taken .1)
+list-loop-again t c =
+    let turn = list-taken t (c .before .before .before .before .before .before .before .before .before) in
+    (list-gone-on (c .before .before .before .before .before .before .before .before .before .before .before .before .before .before .before .before .loop .inv .0) (turn .0, (turn .1, refl)) (list-child t (c .before .before .before)) (c .before .before .past-bracket .ensures) (c .if4 .left), turn .3)
 
 pub +content-of+inline+inside+item+list-spec : {M : Type 1} → statement M
 +content-of+inline+inside+item+list-spec =
