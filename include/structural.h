@@ -10,7 +10,7 @@
  *   - a slice that is written overlaps no other slice of the call, and nothing else uses it meanwhile.
  * Nothing is kept after a call and nothing is shared between calls, so several threads may call at once.
  * Nothing is allocated: a call takes its memory from the stack. Measured at 64 levels of brackets, reading took
- * 186,208 bytes of it and printing 54,960.
+ * 185,168 bytes of it and printing 53,920.
  */
 #ifndef STRUCTURAL_H
 #define STRUCTURAL_H
