@@ -12,37 +12,42 @@ use Rattle.utf8.specs.Scalar.{IsUtf8}
 use Rattle.utf8.specs.Sequence.{validUpTo}
 use Rattle.utf8.proofs.Walk.{valid-within}
 use Rattle.utf8.proofs.Agree.{valid-utf8, utf8-valid, fault-place, place-fault}
-use Rattle.document.specs.Document.{Node, says}
-use Rattle.document.specs.Spelling.{Spelling, Spells}
-use Rattle.document.specs.Meaning.{treeOf, places}
+use Rattle.document.specs.Document.{Node, says, Document}
+use Rattle.document.specs.Spelling.{Spelling, mostBytes, Spells, WithinLimits, nodePlaces}
+use Rattle.document.specs.Meaning.{treeOf}
 use Rattle.document.specs.Table.{count, pool}
-use Rattle.document.specs.WellFormed.{Check, sound, unsound, check}
+use Rattle.document.specs.Check.{Check, sound, unsound, check}
 use Rattle.document.specs.Answer.{Memory, Outcome, Reading, refused, read, reading, nodeRoom, checked, stored, afterReading, outcome}
 use Rattle.document.specs.Account as Account
 use Rattle.document.specs.Account.{Answers, too-long, ill-formed, no-node-room, no-pool-room, has-fault, accepted}
-use Rattle.document.proofs.Reading.{Found, found, refused-read, spelled-read, spelled-means}
+use Rattle.document.proofs.NestedForms.{spelled-form, spelled-means}
+use Rattle.document.proofs.Reading.{Found, found, refused-read, spelled-read}
+use Rattle.document.proofs.FirstFaults.{Decides, check-decides, well-formed-check, fault-check}
 
-stored-answers : (s : Spelling) (text : List ℕ) (m : Memory) (d : Node) → length text ≤ 65536 → (sp : Spells s d text)
-    → Answers s text m (stored text m (places (sp .expression)) d)
+-- What a text spells is a document.
+document-of : {s : Spelling} {d : Node} {text : List ℕ} → Spells s d text → Document d
+document-of sp = record { tree = sp .tree; lawful = sp .lawful; said = sp .said }
+
+stored-answers : (s : Spelling) (text : List ℕ) (m : Memory) (d : Node) (sp : Spells s d text) → WithinLimits s text (sp .forest)
+    → Answers s text m (stored text m (nodePlaces sp) d)
 unfolding stored checked
-stored-answers s text m d short sp =
+stored-answers s text m d sp l =
     cond-case (Answers s text m) (ltb (nodeRoom m) (count d))
-    (λ e. no-node-room short sp (ltb-true (nodeRoom m) (count d) e))
+    (λ e. no-node-room sp l (ltb-true (nodeRoom m) (count d) e))
     (λ e. cond-case (Answers s text m) (ltb (length (m .pool)) (length (pool d)))
-    (λ f. no-pool-room short sp (ltb-false (nodeRoom m) (count d) e) (ltb-true (length (m .pool)) (length (pool d)) f))
-    (λ f. go (ltb-false (nodeRoom m) (count d) e) (ltb-false (length (m .pool)) (length (pool d)) f) (check d) refl))
+    (λ f. no-pool-room sp l (ltb-false (nodeRoom m) (count d) e) (ltb-true (length (m .pool)) (length (pool d)) f))
+    (λ f. go (ltb-false (nodeRoom m) (count d) e) (ltb-false (length (m .pool)) (length (pool d)) f) (check d) (check-decides d (document-of sp))))
   where
-    go : count d ≤ nodeRoom m → length (pool d) ≤ length (m .pool) → (c : Check) → check d ≡ c
-        → Answers s text m (checked text m (places (sp .expression)) d c)
-    go nodes bytes sound e = accepted short sp nodes bytes e
-    go nodes bytes (unsound n i) e = has-fault short sp nodes bytes e
+    go : count d ≤ nodeRoom m → length (pool d) ≤ length (m .pool) → (c : Check) → Decides d c → Answers s text m (checked text m (nodePlaces sp) d c)
+    go nodes bytes sound w = accepted sp l nodes bytes w
+    go nodes bytes (unsound n i) f = has-fault sp l nodes bytes f
 
-read-answers : (s : Spelling) (text : List ℕ) (m : Memory) → length text ≤ 65536 → IsUtf8 text → (r : Reading) → Found s text r
+read-answers : (s : Spelling) (text : List ℕ) (m : Memory) → length text ≤ mostBytes → IsUtf8 text → (r : Reading) → Found s text r
     → Answers s text m (afterReading text m r)
 unfolding afterReading
 read-answers s text m short utf8 (refused n p) f = Account.refused short utf8 f
-read-answers s text m short utf8 (read e) (sp, same) =
-    rw same at (stored-answers s text m (says (treeOf e)) short sp)
+read-answers s text m short utf8 (read e) (sp, within, same) =
+    rw same at (stored-answers s text m (says (treeOf e)) sp (record { short = short; nests = within }))
 
 -- A text of which no part is left over is UTF-8.
 whole : (text : List ℕ) → ltb (validUpTo text) (length text) ≡ false → IsUtf8 text
@@ -53,34 +58,37 @@ whole text f = valid-utf8 text (omega (arith, valid-within 0 text, ltb-false (va
 pub answers : (s : Spelling) (text : List ℕ) (m : Memory) → Answers s text m (outcome s text m)
 unfolding outcome
 answers s text m =
-    cond-case (Answers s text m) (ltb 65536 (length text)) (λ e. too-long (ltb-true 65536 (length text) e))
+    cond-case (Answers s text m) (ltb mostBytes (length text)) (λ e. too-long (ltb-true mostBytes (length text) e))
     (λ e. cond-case (Answers s text m) (ltb (validUpTo text) (length text))
-    (λ f. ill-formed (ltb-false 65536 (length text) e) (fault-place text (validUpTo text) (ltb-true (validUpTo text) (length text) f) refl))
-    (λ f. read-answers s text m (ltb-false 65536 (length text) e) (whole text f) (reading s text) (found s text (whole text f))))
+    (λ f. ill-formed (ltb-false mostBytes (length text) e) (fault-place text (validUpTo text) (ltb-true (validUpTo text) (length text) f) refl))
+    (λ f. read-answers s text m (ltb-false mostBytes (length text) e) (whole text f) (reading s text) (found s text (whole text f))))
 
 -- A text within the limits that is UTF-8 is answered by what reading finds.
-within-limits : (s : Spelling) (text : List ℕ) (m : Memory) → length text ≤ 65536 → IsUtf8 text → outcome s text m ≡ afterReading text m (reading s text)
+within-limits : (s : Spelling) (text : List ℕ) (m : Memory) → length text ≤ mostBytes → IsUtf8 text → outcome s text m ≡ afterReading text m (reading s text)
 unfolding outcome
 within-limits s text m short utf8 =
     let valid : length text ≤ validUpTo text = omega (arith, utf8-valid text utf8) in
-    rw (le-ltb 65536 (length text) short, le-ltb (validUpTo text) (length text) valid)
+    rw (le-ltb mostBytes (length text) short, le-ltb (validUpTo text) (length text) valid)
 
-pub spelled-stored : (s : Spelling) (text : List ℕ) (m : Memory) (d : Node) → length text ≤ 65536 → (sp : Spells s d text)
-    → outcome s text m ≡ stored text m (places (sp .expression)) d
-unfolding afterReading
-spelled-stored s text m d short sp = within-limits s text m short (sp .utf8) ∙ rw (spelled-read sp, spelled-means sp)
+pub spelled-stored : (s : Spelling) (text : List ℕ) (m : Memory) (d : Node) (sp : Spells s d text) → WithinLimits s text (sp .forest)
+    → outcome s text m ≡ stored text m (nodePlaces sp) d
+unfolding afterReading nodePlaces
+spelled-stored s text m d sp l =
+    within-limits s text m (l .short) (sp .utf8) ∙ rw (spelled-read sp l, spelled-means sp, spelled-form sp .same-places)
 
 -- Whatever the account tells of a text is what reading answers.
 pub answers-only : (s : Spelling) (text : List ℕ) (m : Memory) (o : Outcome) → Answers s text m o → outcome s text m ≡ o
 unfolding outcome afterReading stored checked
-answers-only s text m o (too-long long) = rw (lt-ltb 65536 (length text) long)
+answers-only s text m o (too-long long) = rw (lt-ltb mostBytes (length text) long)
 answers-only s text m o (ill-formed {p = p} short f) =
-    rw (le-ltb 65536 (length text) short, place-fault text p f, lt-ltb p (length text) (f .inside))
+    rw (le-ltb mostBytes (length text) short, place-fault text p f, lt-ltb p (length text) (f .inside))
 answers-only s text m o (Account.refused short utf8 f) = within-limits s text m short utf8 ∙ rw (refused-read f)
-answers-only s text m o (no-node-room {d = d} short sp none) = spelled-stored s text m d short sp ∙ rw (lt-ltb (nodeRoom m) (count d) none)
-answers-only s text m o (no-pool-room {d = d} short sp nodes none) =
-    spelled-stored s text m d short sp ∙ rw (le-ltb (nodeRoom m) (count d) nodes, lt-ltb (length (m .pool)) (length (pool d)) none)
-answers-only s text m o (has-fault {d = d} short sp nodes bytes e) =
-    spelled-stored s text m d short sp ∙ rw (le-ltb (nodeRoom m) (count d) nodes, le-ltb (length (m .pool)) (length (pool d)) bytes, e)
-answers-only s text m o (accepted {d = d} short sp nodes bytes e) =
-    spelled-stored s text m d short sp ∙ rw (le-ltb (nodeRoom m) (count d) nodes, le-ltb (length (m .pool)) (length (pool d)) bytes, e)
+answers-only s text m o (no-node-room {d = d} sp l none) = spelled-stored s text m d sp l ∙ rw (lt-ltb (nodeRoom m) (count d) none)
+answers-only s text m o (no-pool-room {d = d} sp l nodes none) =
+    spelled-stored s text m d sp l ∙ rw (le-ltb (nodeRoom m) (count d) nodes, lt-ltb (length (m .pool)) (length (pool d)) none)
+answers-only s text m o (has-fault {d = d} {n = n} {i = i} sp l nodes bytes f) =
+    spelled-stored s text m d sp l
+    ∙ rw (le-ltb (nodeRoom m) (count d) nodes, le-ltb (length (m .pool)) (length (pool d)) bytes, fault-check d (document-of sp) n i f)
+answers-only s text m o (accepted {d = d} sp l nodes bytes w) =
+    spelled-stored s text m d sp l
+    ∙ rw (le-ltb (nodeRoom m) (count d) nodes, le-ltb (length (m .pool)) (length (pool d)) bytes, well-formed-check d (document-of sp) w)

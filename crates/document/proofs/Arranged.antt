@@ -15,12 +15,13 @@ use Rattle.elements.specs.Rules.{Slot, must, may, id-type, rules, ruleIn, ruleO
 use Rattle.elements.specs.Inside.{State, expecting, Step, go, step, start, ended, noneRequired, nextParameter}
 use Rattle.elements.specs.Characters.{typeCharacter, idCharacter}
 use Rattle.document.specs.Value.{nonEmpty, every, targetCharacter, isValue, isSize}
-use Rattle.document.specs.Document.{Tree, text, value, size, element, Trees, empty, holds, treeClass, goesOn, keepsRules, keepRules, missing}
+use Rattle.document.specs.Document.{Tree, text, value, size, element, Trees, empty, holds, treeClass, missing}
+use Rattle.document.specs.RulesTest.{goesOn, keepsRules, keepRules}
 use Rattle.document.specs.Document.{keyOf, typeOf, widthOr, heightOr, keyIn, typeIn, widthIn, heightIn, isNode, says, sayAll}
 use Rattle.document.specs.Canonical.{valueBefore, sizeBefore, keyClass, nodeFirst, placeValues, treeLevels, mostLevelsIn}
 use Rattle.document.specs.Faults.{Next, Begun, due, children, Taken}
 use Rattle.document.proofs.Steps.{begunOf, stepped}
-use Rattle.document.proofs.Classes.{isChild, allowed-child}
+use Rattle.document.proofs.Classes.{isChild, allowed-child, chosen-child}
 use Rattle.document.proofs.Nested.{goes-on}
 
 -- The trees that are nodes.
@@ -297,7 +298,7 @@ placed k r q (element c us) ts h (as-node i l) o = weaken 3 r l (add-node k (ele
 abbrev settled : Begun → Bool
 settled (due []) = true
 settled (due (p ∷ ps)) = false
-settled (children s) = true
+settled (children ks) = true
 
 no-next : {ps qs : List Slot} {c : ℕ} → Next ps c qs → T (settled (due ps)) → ⊥
 no-next Next.required t = t
@@ -309,7 +310,7 @@ no-next (Next.both-passed-over e f r) t = t
 
 taken-child : {k c : ℕ} {b b′ : Begun} → Taken k c b b′ → T (settled b) → T (isChild c) × T (settled b′)
 taken-child (Taken.parameter r) t = absurd (no-next r t)
-taken-child {k} (Taken.first-child d i a) t = (allowed-child k a, tt)
+taken-child {k} (Taken.first-child d i a) t = (chosen-child k a, tt)
 taken-child {k} (Taken.next-child i a e) t = (allowed-child k a, tt)
 
 children-in-order : (ts : Trees) (k : ℕ) (s : State) → T (settled (begunOf s)) → T (keepRules k s ts) → InOrder k 3 ts

@@ -1,356 +1,323 @@
--- The node answered with 15 is the first row of a table with head whose count of cells differs. Assumes nothing.
-use Prim.Native.Nat.{ℕ, _+_}
+-- The search for a bad row finds the first node that has fault 15, by the numbers of nodes. Assumes nothing.
+use Prim.Native.Nat.{ℕ, _+_, _<_}
 use mathlib.Core.Path.{_≡_, _∙_, refl, sym, ap}
-use mathlib.Core.Bool.{Bool, true, false, cond, _&&_}
+use mathlib.Core.Bool.{Bool, true, _&&_}
 use mathlib.Core.Logic.{_⊎_, inl, inr}
-use mathlib.Core.List.{List, [], _∷_, _++_, append-assoc, List·Memᴰ, List·Memᴰ·head, List·Memᴰ·tail, List·Memᴰ·not-nil, List·Memᴰ·cases-cons, List·Memᴰ·append-cases, List·Memᴰ·eq-of-singleton, Memᴰ·append-left, Memᴰ·append-right}
+use mathlib.Core.List.{List, [], _∷_, _++_, map, map-map, map-append, List·Memᴰ, List·Memᴰ·head, List·Memᴰ·tail, List·Memᴰ·not-nil, List·Memᴰ·cases-cons, List·Memᴰ·append-cases, Memᴰ·append-left, Memᴰ·append-right, Memᴰ·map, Memᴰ·of-map}
 use native.Mathlib.Omega.{arith}
 use lib.Dec.{eqb}
 use lib.ListN.{length}
-use borrow.Author.Tests.{eqb-true, eq-eqb}
-use Rattle.laws.proofs.Booleans.{cond-case}
+use borrow.Author.Tests.{eqb-true, eqb-false, eq-eqb, ne-eqb}
+use Rattle.laws.proofs.Booleans.{bool-case, both, true-T, T-true}
 use Rattle.elements.specs.Class as Class
-use Rattle.document.specs.Document.{Node, node, Nodes, childless, child, missing}
+use Rattle.document.specs.Document.{Node, node, Nodes, childless, child, missing, Document}
 use Rattle.document.specs.Table.{count, pool}
-use Rattle.document.specs.WellFormed.{First, nowhere, at-node, orElse, childCount, Cells, any-number, exactly, cellsIn, cellsBelow, differs, badRow, badRowAmong}
-use Rattle.document.specs.Prose.{nodeKind, nodeChildren, In, InSome, RowAt, RowAmong}
-use Rattle.document.proofs.Records.{Visit, visits, visitsAll, visitsOf}
+use Rattle.document.specs.Visits.{childCount, nodeKind, nodeChildren, Visit, visits, visitsAll, visitsOf}
+use Rattle.document.specs.WellFormed.{BadRow, None}
+use Rattle.document.specs.Check.{Cells, any-number, exactly, cellsIn, cellsBelow, differs, badRow, badRowAmong}
+use Rattle.document.specs.Prose.{OneOf, In, RowsMatchHead}
+use Rattle.document.proofs.Counted.{Counted, counted, one-number}
+use Rattle.document.proofs.Searches.{Finds, firstOf, first-append, FirstAnswer, first-answer, test-finds}
+use Rattle.document.proofs.Records.{numbered}
+use Rattle.document.proofs.Visited.{visited-in, child-visited, in-visited}
+use Rattle.document.proofs.TableRows.{root-kind, some-head, row-in-body, body-in-table, head-binds}
 
--- A row with its number and how many cells it must have.
-pub record RowEntry : Type 0 where
-  pub number : ℕ
+-- A visit with how many cells a row must have there.
+pub record Bound : Type 0 where
+  pub visit : Visit
   pub must : Cells
-  pub row : Node
 
--- The rows of a node in document order.
+abbrev pub numberOf : Bound → ℕ
+numberOf b = b .visit .number
+
+-- Those of a node and its descendants.
 unfoldable mutual
-  pub rowEntries : ℕ → Cells → Node → List RowEntry
-  rowEntries i c (node k key type text w h ns) =
-      cond (eqb k Class.row) (record { number = i; must = c; row = node k key type text w h ns } ∷ rowEntriesAmong (i + 1) (cellsBelow c k ns) ns)
-      (rowEntriesAmong (i + 1) (cellsBelow c k ns) ns)
+  pub bounds : ℕ → ℕ → ℕ → Cells → Node → List Bound
+  bounds i parent p c (node k key type text w h ns) =
+      record { visit = record { number = i; parent = parent; start = p; visited = node k key type text w h ns }; must = c }
+      ∷ boundsAll (i + 1) i (p + length key + length type + length text) (cellsBelow c k ns) ns
 
-  pub rowEntriesAmong : ℕ → Cells → Nodes → List RowEntry
-  rowEntriesAmong i c childless = []
-  rowEntriesAmong i c (child n ns) = rowEntries i c n ++ rowEntriesAmong (i + count n) c ns
+  pub boundsAll : ℕ → ℕ → ℕ → Cells → Nodes → List Bound
+  boundsAll i parent p c childless = []
+  boundsAll i parent p c (child n ns) = bounds i parent p c n ++ boundsAll (i + count n) parent (p + length (pool n)) c ns
 
--- The row has as many cells as it must, or another number.
-abbrev pub differing : RowEntry → Bool
-differing e = differs (e .must) (childCount (nodeChildren (e .row)))
+unfoldable pub boundsOf : Node → List Bound
+boundsOf d = bounds 0 missing 0 any-number d
 
--- The first row that has another number of cells, with its number.
-pub record FirstBad (es : List RowEntry) (i : ℕ) : Type 0 where
-  pub before : List RowEntry
-  pub after : List RowEntry
-  pub entry : RowEntry
-  pub split : es ≡ before ++ entry ∷ after
-  pub number-is : entry .number ≡ i
-  pub bad : differing entry ≡ true
-  pub good-before : (e : RowEntry) → List·Memᴰ e before → differing e ≡ false
+-- A row that has another number of cells than it must.
+unfoldable pub isBad : Bound → Bool
+isBad b = eqb (nodeKind (b .visit .visited)) Class.row && differs (b .must) (childCount (nodeChildren (b .visit .visited)))
 
-abbrev pub BadAnswer : List RowEntry → First → Type 0
-BadAnswer es nowhere = (e : RowEntry) → List·Memᴰ e es → differing e ≡ false
-BadAnswer es (at-node i) = FirstBad es i
+-- The search for a bad row takes the first of them.
+mutual
+  unfolding badRow bounds firstOf isBad nodeKind nodeChildren
 
-all-append : (s t : List RowEntry) → BadAnswer s nowhere → BadAnswer t nowhere → BadAnswer (s ++ t) nowhere
-all-append s t a b e m = pick (List·Memᴰ·append-cases s m)
-  where
-    pick : List·Memᴰ e s ⊎ List·Memᴰ e t → differing e ≡ false
-    pick (inl x) = a e x
-    pick (inr x) = b e x
+  bad-row-first : (n : Node) (i parent p : ℕ) (c : Cells) → badRow i c n ≡ firstOf numberOf isBad (bounds i parent p c n)
+  bad-row-first (node k key type text w h ns) i parent p c =
+      rw (bad-row-first-all ns (i + 1) i (p + length key + length type + length text) (cellsBelow c k ns))
 
-answer-append : (s t : List RowEntry) (f g : First) → BadAnswer s f → BadAnswer t g → BadAnswer (s ++ t) (orElse f g)
-unfolding orElse
-answer-append s t nowhere nowhere a b = all-append s t a b
-answer-append s t nowhere (at-node i) a b =
-    record {
-      before = s ++ b .before;
-      after = b .after;
-      entry = b .entry;
-      split = ap (λ (l : List RowEntry). s ++ l) (b .split) ∙ sym (append-assoc s (b .before) (b .entry ∷ b .after));
-      number-is = b .number-is;
-      bad = b .bad;
-      good-before = all-append s (b .before) a (b .good-before);
-    }
-answer-append s t (at-node i) g a b =
-    record {
-      before = a .before;
-      after = a .after ++ t;
-      entry = a .entry;
-      split = ap (λ (l : List RowEntry). l ++ t) (a .split) ∙ append-assoc (a .before) (a .entry ∷ a .after) t;
-      number-is = a .number-is;
-      bad = a .bad;
-      good-before = a .good-before;
-    }
+  bad-row-first-all : (ns : Nodes) (i parent p : ℕ) (c : Cells) → badRowAmong i c ns ≡ firstOf numberOf isBad (boundsAll i parent p c ns)
+  bad-row-first-all childless i parent p c = refl
+  bad-row-first-all (child n ns) i parent p c =
+      rw (bad-row-first n i parent p c, bad-row-first-all ns (i + count n) parent (p + length (pool n)) c)
+      (sym (first-append numberOf isBad (bounds i parent p c n) (boundsAll (i + count n) parent (p + length (pool n)) c ns)))
 
--- One more entry in front, if it is one.
-answer-own : (e : RowEntry) (es : List RowEntry) (f : First) → BadAnswer es f → (d : Bool) → differing e ≡ d
-    → BadAnswer (e ∷ es) (cond d (at-node (e .number)) f)
-unfolding orElse
-answer-own e es f a true q =
-    record {
-      before = [];
-      after = es;
-      entry = e;
-      split = refl;
-      number-is = refl;
-      bad = q;
-      good-before = λ x m. absurd (List·Memᴰ·not-nil m);
-    }
-answer-own e es f a false q = answer-append (e ∷ []) es nowhere f (λ x m. ap differing (List·Memᴰ·eq-of-singleton m) ∙ q) a
+abbrev visitOf : Bound → Visit
+visitOf b = b .visit
 
-answer-if : (b : Bool) (e : RowEntry) (es : List RowEntry) (f : First) → BadAnswer es f
-    → BadAnswer (cond b (e ∷ es) es) (cond (b && differing e) (at-node (e .number)) f)
-answer-if true e es f a = answer-own e es f a (differing e) refl
-answer-if false e es f a = a
+-- They are the visits.
+mutual
+  unfolding bounds visits
+
+  bounds-visits : (n : Node) (i parent p : ℕ) (c : Cells) → map visitOf (bounds i parent p c n) ≡ visits i parent p n
+  bounds-visits (node k key type text w h ns) i parent p c =
+      rw (bounds-visits-all ns (i + 1) i (p + length key + length type + length text) (cellsBelow c k ns))
+
+  bounds-visits-all : (ns : Nodes) (i parent p : ℕ) (c : Cells) → map visitOf (boundsAll i parent p c ns) ≡ visitsAll i parent p ns
+  bounds-visits-all childless i parent p c = refl
+  bounds-visits-all (child n ns) i parent p c =
+      map-append visitOf (bounds i parent p c n) (boundsAll (i + count n) parent (p + length (pool n)) c ns)
+      ∙ rw (bounds-visits n i parent p c, bounds-visits-all ns (i + count n) parent (p + length (pool n)) c)
+
+visits-of : (d : Node) → map visitOf (boundsOf d) ≡ visitsOf d
+unfolding boundsOf visitsOf
+visits-of d = bounds-visits d 0 missing 0 any-number
+
+pub bounds-counted : (d : Node) → Counted numberOf 0 (boundsOf d)
+bounds-counted d =
+    counted numberOf (boundsOf d) 0 (count d)
+    (sym (map-map (λ (v : Visit). v .number) visitOf (boundsOf d)) ∙ (rw (visits-of d) (numbered d)))
+
+-- What the search answers, of any node.
+pub bad-row-answer : (d : Node) → FirstAnswer numberOf isBad (boundsOf d) (badRow 0 any-number d)
+unfolding boundsOf
+bad-row-answer d = rw (bad-row-first d 0 missing 0 any-number) (first-answer numberOf isBad (boundsOf d) 0 (bounds-counted d))
+
+pub bound-visited : (d : Node) (b : Bound) → List·Memᴰ b (boundsOf d) → List·Memᴰ (b .visit) (visitsOf d)
+bound-visited d b m = rw (visits-of d) at (Memᴰ·map visitOf m)
+
+visit-bound : (d : Node) (v : Visit) → List·Memᴰ v (visitsOf d) → (b : Bound) × List·Memᴰ b (boundsOf d) × (b .visit ≡ v)
+visit-bound d v m = Memᴰ·of-map visitOf (boundsOf d) (rw (visits-of d) m)
+
+-- A visit is a child of another one, whose number is its parent word, and bound as that one binds its children.
+record HeldBy (bs : List Bound) (b : Bound) : Type 0 where
+  holder : Bound
+  there : List·Memᴰ holder bs
+  number-is : numberOf holder ≡ b .visit .parent
+  holds : OneOf (b .visit .visited) (nodeChildren (holder .visit .visited))
+  must-is : b .must ≡ cellsBelow (holder .must) (nodeKind (holder .visit .visited)) (nodeChildren (holder .visit .visited))
+
+held-in : (s t : List Bound) (b : Bound) → ((a : Bound) → List·Memᴰ a s → List·Memᴰ a t) → HeldBy s b → HeldBy t b
+held-in s t b into a =
+    record { holder = a .holder; there = into (a .holder) (a .there); number-is = a .number-is; holds = a .holds; must-is = a .must-is }
+
+-- Or it is held from outside.
+abbrev Outside : Cells → ℕ → (Node → Type 0) → Bound → Type 0
+Outside c parent Here b = (b .must ≡ c) × (b .visit .parent ≡ parent) × Here (b .visit .visited)
 
 mutual
-  unfolding badRow rowEntries nodeChildren
+  unfolding bounds OneOf nodeKind nodeChildren
 
-  bad-answer : (n : Node) (i : ℕ) (c : Cells) → BadAnswer (rowEntries i c n) (badRow i c n)
-  bad-answer (node k key type text w h ns) i c =
-      answer-if (eqb k Class.row) (record { number = i; must = c; row = node k key type text w h ns })
-      (rowEntriesAmong (i + 1) (cellsBelow c k ns) ns) (badRowAmong (i + 1) (cellsBelow c k ns) ns)
-      (bad-answer-all ns (i + 1) (cellsBelow c k ns))
-
-  bad-answer-all : (ns : Nodes) (i : ℕ) (c : Cells) → BadAnswer (rowEntriesAmong i c ns) (badRowAmong i c ns)
-  bad-answer-all childless i c = λ e m. absurd (List·Memᴰ·not-nil m)
-  bad-answer-all (child n ns) i c =
-      answer-append (rowEntries i c n) (rowEntriesAmong (i + count n) c ns) (badRow i c n) (badRowAmong (i + count n) c ns)
-      (bad-answer n i c) (bad-answer-all ns (i + count n) c)
-
--- The search for a bad row answers the first of the document's rows whose count of cells is not what it must be.
-pub bad-row-answer : (d : Node) → BadAnswer (rowEntries 0 any-number d) (badRow 0 any-number d)
-bad-row-answer d = bad-answer d 0 any-number
-
--- A row is bound by a table: it is one of its rows and must have as many cells as that table's head has names.
-pub record BoundBy (Inside : Node → Type 0) (e : RowEntry) : Type 0 where
-  pub table : Node
-  pub inside : Inside table
-  pub is-table : nodeKind table ≡ Class.table
-  pub its-row : RowAmong (e .row) (nodeChildren table)
-  pub must-is : e .must ≡ cellsIn (nodeChildren table)
-
-bound-in : (In₁ In₂ : Node → Type 0) (e : RowEntry) → ((t : Node) → In₁ t → In₂ t) → BoundBy In₁ e → BoundBy In₂ e
-bound-in In₁ In₂ e into b =
-    record { table = b .table; inside = into (b .table) (b .inside); is-table = b .is-table; its-row = b .its-row; must-is = b .must-is }
-
--- A row is bound from outside, or by nothing, or by a table inside.
-abbrev Bound : Type 0 → Cells → (Node → Type 0) → RowEntry → Type 0
-Bound Outside c Inside e = ((e .must ≡ c) × Outside) ⊎ ((e .must ≡ any-number) ⊎ BoundBy Inside e)
-
-module _ (c : Cells) (k : ℕ) (key type text : List ℕ) (w h : ℕ) (ns : Nodes) (e : RowEntry) where
-  abbrev whole : Node
-  whole = node k key type text w h ns
-
-  bound-below : Bound (RowAmong (e .row) ns) (cellsBelow c k ns) (λ t. InSome t ns) e → Bound (RowAt (e .row) whole) c (λ t. In t whole) e
-  unfolding cellsBelow RowAt In nodeKind nodeChildren
-  bound-below (inr (inl x)) = inr (inl x)
-  bound-below (inr (inr x)) = inr (inr (bound-in (λ t. InSome t ns) (λ t. In t whole) e (λ t y. inr y) x))
-  bound-below (inl (q, m)) =
-      cond-case (λ (x : Cells). e .must ≡ x → Bound (RowAt (e .row) whole) c (λ t. In t whole) e) (eqb k Class.table)
-      (λ t r. inr (inr (record { table = whole; inside = inl refl; is-table = eqb-true _ _ t; its-row = m; must-is = r })))
-      (λ f. cond-case (λ (x : Cells). e .must ≡ x → Bound (RowAt (e .row) whole) c (λ t. In t whole) e) (eqb k Class.body)
-      (λ t r. inl (r, inr (eqb-true _ _ t, m))) (λ g r. inr (inl r)))
-      q
-
--- The visits hold a row's node under its number.
-pub record Numbered (vs : List Visit) (e : RowEntry) : Type 0 where
-  pub visit : Visit
-  pub visited-there : List·Memᴰ visit vs
-  pub number-is : visit .number ≡ e .number
-  pub node-is : visit .visited ≡ e .row
-
-numbered-in : (s t : List Visit) (e : RowEntry) → ((v : Visit) → List·Memᴰ v s → List·Memᴰ v t) → Numbered s e → Numbered t e
-numbered-in s t e into a =
-    record { visit = a .visit; visited-there = into (a .visit) (a .visited-there); number-is = a .number-is; node-is = a .node-is }
-
-bound-of : (Out₁ Out₂ : Type 0) (In₁ In₂ : Node → Type 0) (c : Cells) (e : RowEntry) → (Out₁ → Out₂) → ((t : Node) → In₁ t → In₂ t)
-    → Bound Out₁ c In₁ e → Bound Out₂ c In₂ e
-bound-of Out₁ Out₂ In₁ In₂ c e out into (inl (q, m)) = inl (q, out m)
-bound-of Out₁ Out₂ In₁ In₂ c e out into (inr (inl x)) = inr (inl x)
-bound-of Out₁ Out₂ In₁ In₂ c e out into (inr (inr x)) = inr (inr (bound-in In₁ In₂ e into x))
-
-if-member : (b : Bool) (e o : RowEntry) (es : List RowEntry) → List·Memᴰ e (cond b (o ∷ es) es) → ((b ≡ true) × (e ≡ o)) ⊎ List·Memᴰ e es
-if-member false e o es m = inr m
-if-member true e o es m = pick (List·Memᴰ·cases-cons m)
-  where
-    pick : (e ≡ o) ⊎ List·Memᴰ e es → ((true ≡ true) × (e ≡ o)) ⊎ List·Memᴰ e es
-    pick (inl x) = inl (refl, x)
-    pick (inr x) = inr x
-
-mutual
-  unfolding rowEntries visits RowAt In
-
-  entry-bound : (n : Node) (i parent p : ℕ) (c : Cells) (e : RowEntry) → List·Memᴰ e (rowEntries i c n)
-      → Numbered (visits i parent p n) e × Bound (RowAt (e .row) n) c (λ t. In t n) e
-  entry-bound (node k key type text w h ns) i parent p c e m =
-      pick (if-member (eqb k Class.row) e own (rowEntriesAmong (i + 1) (cellsBelow c k ns) ns) m)
-      (λ x. entry-bound-all ns (i + 1) i (p + length key + length type + length text) (cellsBelow c k ns) e x)
+  bound-held : (n : Node) (i parent p : ℕ) (c : Cells) (b : Bound) → List·Memᴰ b (bounds i parent p c n)
+      → Outside c parent (λ m. m ≡ n) b ⊎ HeldBy (bounds i parent p c n) b
+  bound-held (node k key type text w h ns) i parent p c b m =
+      go (λ x. bound-held-all ns (i + 1) i (p + length key + length type + length text) (cellsBelow c k ns) b x) (List·Memᴰ·cases-cons m)
     where
-      own : RowEntry
-      own = record { number = i; must = c; row = node k key type text w h ns }
+      whole : Bound
+      whole = record { visit = record { number = i; parent = parent; start = p; visited = node k key type text w h ns }; must = c }
 
-      here : Visit
-      here = record { number = i; parent = parent; start = p; visited = node k key type text w h ns }
+      rest : List Bound
+      rest = boundsAll (i + 1) i (p + length key + length type + length text) (cellsBelow c k ns) ns
 
-      rest : List Visit
-      rest = visitsAll (i + 1) i (p + length key + length type + length text) ns
+      into : Outside (cellsBelow c k ns) i (λ m. OneOf m ns) b ⊎ HeldBy rest b → HeldBy (whole ∷ rest) b
+      into (inl (q, e, o)) = record { holder = whole; there = List·Memᴰ·head refl; number-is = sym e; holds = o; must-is = q }
+      into (inr a) = held-in rest (whole ∷ rest) b (λ u x. List·Memᴰ·tail x) a
 
-      pick : ((eqb k Class.row ≡ true) × (e ≡ own)) ⊎ List·Memᴰ e (rowEntriesAmong (i + 1) (cellsBelow c k ns) ns)
-          → (List·Memᴰ e (rowEntriesAmong (i + 1) (cellsBelow c k ns) ns)
-          → Numbered rest e × Bound (RowAmong (e .row) ns) (cellsBelow c k ns) (λ t. InSome t ns) e)
-          → Numbered (here ∷ rest) e × Bound (RowAt (e .row) (node k key type text w h ns)) c (λ t. In t (node k key type text w h ns)) e
-      pick (inl (t, x)) below = (
-        record {
-          visit = here;
-          visited-there = List·Memᴰ·head refl;
-          number-is = ap (λ (z : RowEntry). z .number) (sym x);
-          node-is = ap (λ (z : RowEntry). z .row) (sym x);
-        },
-        inl (ap (λ (z : RowEntry). z .must) x, inl (eqb-true _ _ t, ap (λ (z : RowEntry). z .row) x)),
-      )
-      pick (inr x) below =
-          let (a, b) = below x in
-          (numbered-in rest (here ∷ rest) e (λ v y. List·Memᴰ·tail y) a, bound-below c k key type text w h ns e b)
+      go : (List·Memᴰ b rest → Outside (cellsBelow c k ns) i (λ m. OneOf m ns) b ⊎ HeldBy rest b) → (b ≡ whole) ⊎ List·Memᴰ b rest
+          → Outside c parent (λ m. m ≡ node k key type text w h ns) b ⊎ HeldBy (whole ∷ rest) b
+      go below (inl x) = inl (rw x (refl, refl, refl))
+      go below (inr x) = inr (into (below x))
 
-  entry-bound-all : (ns : Nodes) (i parent p : ℕ) (c : Cells) (e : RowEntry) → List·Memᴰ e (rowEntriesAmong i c ns)
-      → Numbered (visitsAll i parent p ns) e × Bound (RowAmong (e .row) ns) c (λ t. InSome t ns) e
-  entry-bound-all childless i parent p c e m = absurd (List·Memᴰ·not-nil m)
-  entry-bound-all (child n ns) i parent p c e m =
-      pick (List·Memᴰ·append-cases (rowEntries i c n) m) (λ x. entry-bound n i parent p c e x)
-      (λ x. entry-bound-all ns (i + count n) parent (p + length (pool n)) c e x)
+  bound-held-all : (ns : Nodes) (i parent p : ℕ) (c : Cells) (b : Bound) → List·Memᴰ b (boundsAll i parent p c ns)
+      → Outside c parent (λ m. OneOf m ns) b ⊎ HeldBy (boundsAll i parent p c ns) b
+  bound-held-all childless i parent p c b m = absurd (List·Memᴰ·not-nil m)
+  bound-held-all (child n ns) i parent p c b m =
+      go (λ x. bound-held n i parent p c b x) (λ x. bound-held-all ns (i + count n) parent (p + length (pool n)) c b x)
+      (List·Memᴰ·append-cases (bounds i parent p c n) m)
     where
-      first : List Visit
-      first = visits i parent p n
+      first : List Bound
+      first = bounds i parent p c n
 
-      rest : List Visit
-      rest = visitsAll (i + count n) parent (p + length (pool n)) ns
+      rest : List Bound
+      rest = boundsAll (i + count n) parent (p + length (pool n)) c ns
 
-      pick : List·Memᴰ e (rowEntries i c n) ⊎ List·Memᴰ e (rowEntriesAmong (i + count n) c ns)
-          → (List·Memᴰ e (rowEntries i c n) → Numbered first e × Bound (RowAt (e .row) n) c (λ t. In t n) e)
-          → (List·Memᴰ e (rowEntriesAmong (i + count n) c ns) → Numbered rest e × Bound (RowAmong (e .row) ns) c (λ t. InSome t ns) e)
-          → Numbered (first ++ rest) e × Bound (RowAmong (e .row) (child n ns)) c (λ t. InSome t (child n ns)) e
-      pick (inl x) one more =
-          let (a, b) = one x in (
-            numbered-in first (first ++ rest) e (λ v y. Memᴰ·append-left rest y) a,
-            bound-of (RowAt (e .row) n) (RowAmong (e .row) (child n ns)) (λ t. In t n) (λ t. InSome t (child n ns)) c e (λ y. inl y) (λ t y. inl y) b,
-          )
-      pick (inr x) one more =
-          let (a, b) = more x in (
-            numbered-in rest (first ++ rest) e (λ v y. Memᴰ·append-right first y) a,
-            bound-of (RowAmong (e .row) ns) (RowAmong (e .row) (child n ns)) (λ t. InSome t ns) (λ t. InSome t (child n ns)) c e
-                (λ y. inr y) (λ t y. inr y) b,
-          )
+      from-first : Outside c parent (λ m. m ≡ n) b ⊎ HeldBy first b → Outside c parent (λ m. OneOf m (child n ns)) b ⊎ HeldBy (first ++ rest) b
+      from-first (inl (q, e, x)) = inl (q, e, inl x)
+      from-first (inr a) = inr (held-in first (first ++ rest) b (λ u x. Memᴰ·append-left rest x) a)
 
--- Every row of the document is among them, in document order and under its number.
-pub record Listed (es : List RowEntry) (v : Visit) : Type 0 where
-  pub entry : RowEntry
-  pub stands : List·Memᴰ entry es
-  pub number-is : entry .number ≡ v .number
-  pub row-is : entry .row ≡ v .visited
+      from-rest : Outside c parent (λ m. OneOf m ns) b ⊎ HeldBy rest b → Outside c parent (λ m. OneOf m (child n ns)) b ⊎ HeldBy (first ++ rest) b
+      from-rest (inl (q, e, x)) = inl (q, e, inr x)
+      from-rest (inr a) = inr (held-in rest (first ++ rest) b (λ u x. Memᴰ·append-right first x) a)
 
-listed-in : (s t : List RowEntry) (v : Visit) → ((e : RowEntry) → List·Memᴰ e s → List·Memᴰ e t) → Listed s v → Listed t v
-listed-in s t v into a = record { entry = a .entry; stands = into (a .entry) (a .stands); number-is = a .number-is; row-is = a .row-is }
+      go : (List·Memᴰ b first → Outside c parent (λ m. m ≡ n) b ⊎ HeldBy first b)
+          → (List·Memᴰ b rest → Outside c parent (λ m. OneOf m ns) b ⊎ HeldBy rest b) → List·Memᴰ b first ⊎ List·Memᴰ b rest
+          → Outside c parent (λ m. OneOf m (child n ns)) b ⊎ HeldBy (first ++ rest) b
+      go one more (inl x) = from-first (one x)
+      go one more (inr x) = from-rest (more x)
 
-if-later : (b : Bool) (e o : RowEntry) (es : List RowEntry) → List·Memᴰ e es → List·Memᴰ e (cond b (o ∷ es) es)
-if-later true e o es m = List·Memᴰ·tail m
-if-later false e o es m = m
-
-mutual
-  unfolding rowEntries visits nodeKind
-
-  visit-listed : (n : Node) (i parent p : ℕ) (c : Cells) (v : Visit) → List·Memᴰ v (visits i parent p n) → nodeKind (v .visited) ≡ Class.row
-      → Listed (rowEntries i c n) v
-  visit-listed (node k key type text w h ns) i parent p c v m q =
-      pick (List·Memᴰ·cases-cons m) (λ x. visit-listed-all ns (i + 1) i (p + length key + length type + length text) (cellsBelow c k ns) v x q)
-    where
-      own : RowEntry
-      own = record { number = i; must = c; row = node k key type text w h ns }
-
-      here : Visit
-      here = record { number = i; parent = parent; start = p; visited = node k key type text w h ns }
-
-      below : List RowEntry
-      below = rowEntriesAmong (i + 1) (cellsBelow c k ns) ns
-
-      pick : (v ≡ here) ⊎ List·Memᴰ v (visitsAll (i + 1) i (p + length key + length type + length text) ns)
-          → (List·Memᴰ v (visitsAll (i + 1) i (p + length key + length type + length text) ns) → Listed below v)
-          → Listed (cond (eqb k Class.row) (own ∷ below) below) v
-      pick (inr x) rest = listed-in below (cond (eqb k Class.row) (own ∷ below) below) v (λ e y. if-later (eqb k Class.row) e own below y) (rest x)
-      pick (inl x) rest =
-          let r : k ≡ Class.row = ap (λ (z : Visit). nodeKind (z .visited)) (sym x) ∙ q in
-          rw (eq-eqb k Class.row r)
-          (record {
-            entry = own;
-            stands = List·Memᴰ·head refl;
-            number-is = ap (λ (z : Visit). z .number) (sym x);
-            row-is = ap (λ (z : Visit). z .visited) (sym x);
-          })
-
-  visit-listed-all : (ns : Nodes) (i parent p : ℕ) (c : Cells) (v : Visit) → List·Memᴰ v (visitsAll i parent p ns) → nodeKind (v .visited) ≡ Class.row
-      → Listed (rowEntriesAmong i c ns) v
-  visit-listed-all childless i parent p c v m q = absurd (List·Memᴰ·not-nil m)
-  visit-listed-all (child n ns) i parent p c v m q =
-      pick (List·Memᴰ·append-cases (visits i parent p n) m) (λ x. visit-listed n i parent p c v x q)
-      (λ x. visit-listed-all ns (i + count n) parent (p + length (pool n)) c v x q)
-    where
-      first : List RowEntry
-      first = rowEntries i c n
-
-      rest : List RowEntry
-      rest = rowEntriesAmong (i + count n) c ns
-
-      pick : List·Memᴰ v (visits i parent p n) ⊎ List·Memᴰ v (visitsAll (i + count n) parent (p + length (pool n)) ns)
-          → (List·Memᴰ v (visits i parent p n) → Listed first v)
-          → (List·Memᴰ v (visitsAll (i + count n) parent (p + length (pool n)) ns) → Listed rest v) → Listed (first ++ rest) v
-      pick (inl x) one more = listed-in first (first ++ rest) v (λ e y. Memᴰ·append-left rest y) (one x)
-      pick (inr x) one more = listed-in rest (first ++ rest) v (λ e y. Memᴰ·append-right first y) (more x)
-
-pub rows-listed : (d : Node) (v : Visit) → List·Memᴰ v (visitsOf d) → nodeKind (v .visited) ≡ Class.row → Listed (rowEntries 0 any-number d) v
-unfolding visitsOf
-rows-listed d v m q = visit-listed d 0 missing 0 any-number v m q
-
--- The bad row answered: node number i is a row of a table of the document that has a head of n names, and it has another number of cells.
-pub record BadRowAt (d : Node) (i : ℕ) : Type 0 where
-  pub visit : Visit
-  pub visited-there : List·Memᴰ visit (visitsOf d)
-  pub number-is : visit .number ≡ i
-  pub table : Node
-  pub table-in : In table d
-  pub is-table : nodeKind table ≡ Class.table
-  pub its-row : RowAmong (visit .visited) (nodeChildren table)
-  pub names : ℕ
-  pub has-head : cellsIn (nodeChildren table) ≡ exactly names
-  pub other-count : childCount (nodeChildren (visit .visited)) ≡ names → ⊥
-
--- Cells that a count differs from are an exact number, and not that count.
+-- Cells that a count differs from are an exact number, and not that count; and the other way.
 differs-exact : (c : Cells) (m : ℕ) → differs c m ≡ true → (n : ℕ) × (c ≡ exactly n) × (m ≡ n → ⊥)
 unfolding differs
 differs-exact any-number m e = absurd (let z : _≡_ {A = ℕ} 0 1 = cc in omega arith)
 differs-exact (exactly n) m e = (n, refl, λ q. let z : _≡_ {A = ℕ} 0 1 = cc (eq-eqb n m (sym q)) in omega arith)
 
--- The first bad row of the document is such a one.
-pub first-bad-row : (d : Node) (i : ℕ) → FirstBad (rowEntries 0 any-number d) i → BadRowAt d i
-unfolding visitsOf
-first-bad-row d i a =
-    let (n, q, other) = differs-exact (a .entry .must) (childCount (nodeChildren (a .entry .row))) (a .bad) in
-    let (v, b) = entry-bound d 0 missing 0 any-number (a .entry) (rw (a .split) (Memᴰ·append-right (a .before) (List·Memᴰ·head refl))) in
-    pick n q other v b
-  where
-    pick : (n : ℕ) → a .entry .must ≡ exactly n → (childCount (nodeChildren (a .entry .row)) ≡ n → ⊥) → Numbered (visits 0 missing 0 d) (a .entry)
-        → Bound (RowAt (a .entry .row) d) any-number (λ t. In t d) (a .entry) → BadRowAt d i
-    pick n q other v (inl (r, m)) = absurd (let z : _≡_ {A = ℕ} 0 1 = cc in omega arith)
-    pick n q other v (inr (inl r)) = absurd (let z : _≡_ {A = ℕ} 0 1 = cc in omega arith)
-    pick n q other v (inr (inr b)) =
-        record {
-          visit = v .visit;
-          visited-there = v .visited-there;
-          number-is = v .number-is ∙ a .number-is;
-          table = b .table;
-          table-in = b .inside;
-          is-table = b .is-table;
-          its-row = rw (v .node-is) (b .its-row);
-          names = n;
-          has-head = sym (b .must-is) ∙ q;
-          other-count = rw (v .node-is) other;
-        }
+exact-differs : (c : Cells) (m n : ℕ) → c ≡ exactly n → (m ≡ n → ⊥) → differs c m ≡ true
+unfolding differs
+exact-differs c m n e other = rw (e, ne-eqb n m (λ q. other (sym q)))
+
+-- A body's rows are bound as it is, a table's body by the table's head.
+below-body : (c : Cells) (k : ℕ) (ns : Nodes) → k ≡ Class.body → cellsBelow c k ns ≡ c
+unfolding cellsBelow
+below-body c k ns e = rw e
+
+below-table : (c : Cells) (k : ℕ) (ns : Nodes) → k ≡ Class.table → cellsBelow c k ns ≡ cellsIn ns
+unfolding cellsBelow
+below-table c k ns e = rw e
+
+module _ (d : Node) (doc : Document d) where
+  held : (b : Bound) → List·Memᴰ b (boundsOf d) → Outside any-number missing (λ n. n ≡ d) b ⊎ HeldBy (boundsOf d) b
+  unfolding boundsOf
+  held b m = bound-held d 0 missing 0 any-number b m
+
+  bound-in : (b : Bound) → List·Memᴰ b (boundsOf d) → In (b .visit .visited) d
+  bound-in b m = visited-in d (b .visit) (bound-visited d b m)
+
+  -- A node that is no root is a child of the node that its parent word names, and bound as that one binds its children.
+  held-by : (b h : Bound) → List·Memᴰ b (boundsOf d) → List·Memᴰ h (boundsOf d) → h .visit .number ≡ b .visit .parent
+      → Class.text < nodeKind (b .visit .visited)
+      → OneOf (b .visit .visited) (nodeChildren (h .visit .visited))
+      × (b .must ≡ cellsBelow (h .must) (nodeKind (h .visit .visited)) (nodeChildren (h .visit .visited)))
+  held-by b h m mh e l = pick (held b m)
+    where
+      pick : Outside any-number missing (λ n. n ≡ d) b ⊎ HeldBy (boundsOf d) b
+          → OneOf (b .visit .visited) (nodeChildren (h .visit .visited))
+          × (b .must ≡ cellsBelow (h .must) (nodeKind (h .visit .visited)) (nodeChildren (h .visit .visited)))
+      pick (inl (q, p, x)) = absurd (omega (arith, root-kind d doc, ap nodeKind x))
+      pick (inr a) =
+          let is : a .holder ≡ h = one-number numberOf (boundsOf d) 0 (a .holder) h (bounds-counted d) (a .there) mh (a .number-is ∙ sym e) in
+          rw (← is) (a .holds, a .must-is)
+
+  -- A bad row that is found has the fault.
+  bad-has : (b : Bound) → List·Memᴰ b (boundsOf d) → isBad b ≡ true → BadRow d (numberOf b)
+  unfolding isBad
+  bad-has b m t =
+      let (k, o) = both (eqb (nodeKind (b .visit .visited)) Class.row) _ (true-T t) in
+      let (n, q, other) = differs-exact (b .must) (childCount (nodeChildren (b .visit .visited))) (T-true _ o) in
+      in-body n q other (eqb-true _ _ (T-true _ k)) (held b m)
+    where
+      in-table : (n : ℕ) → (childCount (nodeChildren (b .visit .visited)) ≡ n → ⊥) → nodeKind (b .visit .visited) ≡ Class.row → (g : HeldBy (boundsOf d) b)
+          → nodeKind (g .holder .visit .visited) ≡ Class.body → g .holder .must ≡ exactly n
+          → Outside any-number missing (λ n. n ≡ d) (g .holder) ⊎ HeldBy (boundsOf d) (g .holder) → BadRow d (numberOf b)
+      in-table n other kr g kb q (inl (e, p, x)) = absurd (let z : _≡_ {A = ℕ} 0 1 = cc in omega arith)
+      in-table n other kr g kb q (inr f) =
+          let table : Node = f .holder .visit .visited in
+          let mt = bound-visited d (f .holder) (f .there) in
+          let kt : nodeKind table ≡ Class.table = body-in-table d doc table (g .holder .visit .visited) (bound-in (f .holder) (f .there)) (f .holds) kb in
+          let (h, oh, kh, ch) = some-head (nodeChildren table) n (sym (below-table (f .holder .must) (nodeKind table) (nodeChildren table) kt) ∙ (sym (f .must-is) ∙ q)) in
+          let u = child-visited d (f .holder .visit) mt h oh in
+          record {
+            row = b .visit;
+            body = g .holder .visit;
+            table = f .holder .visit;
+            head = u .visit;
+            is-row = record { there = bound-visited d b m; number-is = refl; kind-is = kr };
+            in-body = record { there = bound-visited d (g .holder) (g .there); number-is = omega (arith, g .number-is); kind-is = kb };
+            in-table = record { there = mt; number-is = omega (arith, f .number-is); kind-is = kt };
+            is-head = record { there = u .there; number-is = refl; kind-is = ap nodeKind (u .node-is) ∙ kh };
+            its-head = omega (arith, u .parent-is);
+            other-count = λ x. other (x ∙ (ap (λ (y : Node). childCount (nodeChildren y)) (u .node-is) ∙ ch));
+          }
+
+      in-body : (n : ℕ) → b .must ≡ exactly n → (childCount (nodeChildren (b .visit .visited)) ≡ n → ⊥) → nodeKind (b .visit .visited) ≡ Class.row
+          → Outside any-number missing (λ n. n ≡ d) b ⊎ HeldBy (boundsOf d) b → BadRow d (numberOf b)
+      in-body n q other kr (inl (e, p, x)) = absurd (let z : _≡_ {A = ℕ} 0 1 = cc in omega arith)
+      in-body n q other kr (inr g) =
+          let body : Node = g .holder .visit .visited in
+          let kb : nodeKind body ≡ Class.body = row-in-body d doc body (b .visit .visited) (bound-in (g .holder) (g .there)) (g .holds) kr in
+          in-table n other kr g kb (sym (below-body (g .holder .must) (nodeKind body) (nodeChildren body) kb) ∙ (sym (g .must-is) ∙ q))
+          (held (g .holder) (g .there))
+
+  -- A row that has the fault is found.
+  has-bad : (i : ℕ) → BadRow d i → (b : Bound) × List·Memᴰ b (boundsOf d) × (numberOf b ≡ i) × (isBad b ≡ true)
+  unfolding isBad
+  has-bad i a =
+      let (r, mr, er) = visit-bound d (a .row) (a .is-row .there) in
+      let (b, mb, eb) = visit-bound d (a .body) (a .in-body .there) in
+      let (t, mt, et) = visit-bound d (a .table) (a .in-table .there) in
+      let (h, mh, eh) = visit-bound d (a .head) (a .is-head .there) in
+      let kr : nodeKind (r .visit .visited) ≡ Class.row = rw er (a .is-row .kind-is) in
+      let kb : nodeKind (b .visit .visited) ≡ Class.body = rw eb (a .in-body .kind-is) in
+      let kt : nodeKind (t .visit .visited) ≡ Class.table = rw et (a .in-table .kind-is) in
+      let kh : nodeKind (h .visit .visited) ≡ Class.head = rw eh (a .is-head .kind-is) in
+      let row-held = held-by r b mr mb (rw (er, eb) (omega (arith, a .in-body .number-is))) (omega arith) in
+      let body-held = held-by b t mb mt (rw (eb, et) (omega (arith, a .in-table .number-is))) (omega arith) in
+      let head-held = held-by h t mh mt (rw (eh, et) (omega (arith, a .its-head))) (omega arith) in
+      let must : r .must ≡ exactly (childCount (nodeChildren (h .visit .visited))) =
+      row-held .1
+      ∙ (below-body _ _ _ kb
+      ∙ (body-held .1
+      ∙ (below-table _ _ _ kt ∙ head-binds d doc (t .visit .visited) (h .visit .visited) (bound-in t mt) kt (head-held .0) kh))) in
+      let differing : differs (r .must) (childCount (nodeChildren (r .visit .visited))) ≡ true =
+      exact-differs (r .must) (childCount (nodeChildren (r .visit .visited))) (childCount (nodeChildren (h .visit .visited))) must (rw (er, eh) (a .other-count)) in
+      (r, mr, cc (a .is-row .number-is), rw (eq-eqb _ _ kr) differing)
+
+  -- So the search decides fault 15, and names the first row that has it.
+  pub bad-row-found : Finds (BadRow d) (badRow 0 any-number d)
+  bad-row-found = test-finds numberOf isBad (boundsOf d) (BadRow d) bad-has has-bad (badRow 0 any-number d) (bad-row-answer d)
+
+  -- A node is a child of the node that its parent word names.
+  child-of : (v h : Visit) → List·Memᴰ v (visitsOf d) → List·Memᴰ h (visitsOf d) → h .number ≡ v .parent → Class.text < nodeKind (v .visited)
+      → OneOf (v .visited) (nodeChildren (h .visited))
+  child-of v h mv mh e l =
+      let (b, mb, eb) = visit-bound d v mv in
+      let (c, mc, ec) = visit-bound d h mh in
+      rw (eb, ec) at (held-by b c mb mc (cc) (rw eb l) .0)
+
+  -- No row has it just where the rows match the heads.
+  pub rows-match-none : (RowsMatchHead d → None (BadRow d)) × (None (BadRow d) → RowsMatchHead d)
+  unfolding RowsMatchHead
+  rows-match-none = (to, from)
+    where
+      to : RowsMatchHead d → None (BadRow d)
+      to rows i a =
+          let kr = a .is-row .kind-is in
+          let kb = a .in-body .kind-is in
+          let kh = a .is-head .kind-is in
+          let mr = a .is-row .there in
+          let mb = a .in-body .there in
+          let mt = a .in-table .there in
+          let mh = a .is-head .there in
+          a .other-count (rows (a .table .visited) (a .head .visited) (a .body .visited) (a .row .visited) (visited-in d (a .table) mt) (a .in-table .kind-is)
+          (child-of (a .head) (a .table) mh mt (omega (arith, a .its-head)) (omega arith)) kh
+          (child-of (a .body) (a .table) mb mt (omega (arith, a .in-table .number-is)) (omega arith)) kb
+          (child-of (a .row) (a .body) mr mb (omega (arith, a .in-body .number-is)) (omega arith)) kr)
+
+      from : None (BadRow d) → RowsMatchHead d
+      from none t h b r x kt oh kh ob kb or kr =
+          let (v, mt, et) = in-visited d t x in
+          let head = child-visited d v mt h (rw et oh) in
+          let body = child-visited d v mt b (rw et ob) in
+          let row = child-visited d (body .visit) (body .there) r (rw (body .node-is) or) in
+          bool-case (eqb (childCount (nodeChildren r)) (childCount (nodeChildren h))) (λ e. eqb-true _ _ e) (λ e.
+          absurd (none (row .visit .number) (record {
+            row = row .visit;
+            body = body .visit;
+            table = v;
+            head = head .visit;
+            is-row = record { there = row .there; number-is = refl; kind-is = rw (row .node-is) kr };
+            in-body = record { there = body .there; number-is = omega (arith, row .parent-is); kind-is = rw (body .node-is) kb };
+            in-table = record { there = mt; number-is = omega (arith, body .parent-is); kind-is = rw et kt };
+            is-head = record { there = head .there; number-is = refl; kind-is = rw (head .node-is) kh };
+            its-head = omega (arith, head .parent-is);
+            other-count = rw (row .node-is, head .node-is) (eqb-false _ _ e);
+          })))

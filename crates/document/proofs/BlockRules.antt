@@ -1,19 +1,21 @@
--- What a block takes: title, id and type, and then children that are no parameters, each of one sort.
+-- What a block takes: title, id and type, and then children that are no parameters, all of one alternative and so of one significance.
 -- What is said of the rows of the rules is one test that antt computes over the seven blocks. Assumes nothing.
 use Prim.Native.Nat.{ℕ, _≤_, _<_}
 use mathlib.Core.Path.{_≡_, refl}
 use mathlib.Core.Bool.{Bool, true, false, not, cond, _&&_}
-use mathlib.Core.List.{List, [], _∷_}
+use mathlib.Core.List.{List, [], _∷_, List·Memᴰ}
 use native.Mathlib.Omega.{arith}
 use lib.Dec.{T, eqb, leb, ltb, leb→le, ltb→lt, eqb→eq}
 use borrow.Author.Tests.{eqb-true}
-use Rattle.laws.proofs.Tables.{every, below, each-below}
+use Rattle.laws.proofs.Tables.{every, each, below, each-below}
 use Rattle.laws.proofs.Booleans.{cond-case, both, true-T, T-true, not-true}
 use Rattle.elements.specs.Bytes.{among}
 use Rattle.elements.specs.Class as Class
-use Rattle.elements.specs.Rules.{Slot, must, may, id-type, Content, any-of, exactly-one, rules, ruleIn, ruleOf}
-use Rattle.elements.specs.Inside.{State, expecting, holding, Step, go, bad, sort, isInclude, allows, firstChild, nextChild, nextParameter, step, start}
+use Rattle.elements.specs.Rules.{Slot, must, may, id-type, Content, alternatives, exactly-one, alternativesOf, rules, ruleIn, ruleOf}
+use Rattle.elements.specs.Inside.{State, expecting, holding, Step, go, bad, isInclude, someHas, firstChild, nextChild, nextParameter, step, start}
 use Rattle.elements.proofs.Same.{each-among}
+use Rattle.elements.proofs.Alternatives.{chosen-case, one-has}
+use Rattle.elements.proofs.Significance.{one-significance}
 use Rattle.document.specs.Spelling.{isBlockParameter}
 
 -- Parameters that a block may have.
@@ -49,8 +51,7 @@ child k c h =
     }
 
 abbrev children : ℕ → Content → Bool
-children k (any-of ks) = every (isChild k) ks
-children k (exactly-one c) = false
+children k t = every (every (isChild k)) (alternativesOf t)
 
 abbrev named : ℕ → Bool
 named k = ofBlock (ruleOf k .parameters)
@@ -60,7 +61,7 @@ filled k = children k (ruleOf k .content)
 
 -- The test of every block's row: its parameters, and what its content allows.
 rows : T (below (λ k. named k && filled k) 8)
-unfolding ofBlock isChild isBlockParameter rules ruleIn ruleOf Class.isBlock Class.significance
+unfolding ofBlock isChild isBlockParameter alternativesOf rules ruleIn ruleOf Class.isBlock Class.significance
 rows = tt
 
 pub block-range : (c : ℕ) → T (Class.isBlock c) → (1 ≤ c) × (c ≤ 7)
@@ -72,50 +73,61 @@ row k b =
     let h = block-range k b in
     both (named k) (filled k) (each-below (λ k. named k && filled k) 8 k (omega arith) rows)
 
--- How far a block is read: only parameters of blocks are still to come.
+-- All kinds of an alternative have one significance.
+abbrev pub Level : List ℕ → Type 0
+Level ks = (c d : ℕ) → T (among c ks) → T (among d ks) → Class.significance d ≡ Class.significance c
+
+-- What is known of a block's content: its kinds are children's, and each alternative has one significance.
+abbrev Known : ℕ → Content → Type 0
+Known k t = T (children k t) × ((ks : List ℕ) → List·Memᴰ ks (alternativesOf t) → Level ks)
+
+known : (k : ℕ) → T (Class.isBlock k) → Known k (ruleOf k .content)
+known k b = (row k b .1, λ ks m. one-significance k m)
+
+-- How far a block is read: only parameters of blocks are still to come, or children of one significance.
 unfoldable pub Within : State → Type 0
 Within (expecting ps) = T (ofBlock ps)
-Within (holding s) = Unit {0}
+Within (holding ks) = Level ks
 
--- What leads on to a state is a parameter, or a child of the sort that is held there.
+-- What leads on to a state is a parameter, or a child of the alternative that is held there.
 unfoldable pub LeadsTo : ℕ → ℕ → State → Type 0
 LeadsTo k c (expecting ps) = T (isBlockParameter c)
-LeadsTo k c (holding s) = Child k c × (Class.significance c ≡ s)
+LeadsTo k c (holding ks) = Child k c × T (among c ks)
 
--- The sort that is held stays.
+-- The alternative that is held stays.
 unfoldable pub Follows : State → State → Type 0
 Follows (expecting ps) s′ = Unit {0}
-Follows (holding s) s′ = holding s ≡ s′
+Follows (holding ks) s′ = holding ks ≡ s′
 
 unfoldable pub Takes : ℕ → State → ℕ → Step → Type 0
 Takes k s c (bad n) = Unit {0}
 Takes k s c (go s′) = Within s′ × LeadsTo k c s′ × Follows s s′
 
 module _ (k c : ℕ) where
-  first-takes : (ps : List Slot) (t : Content) → T (children k t) → Takes k (expecting ps) c (firstChild t c)
-  unfolding Takes Within LeadsTo Follows firstChild sort allows
-  first-takes ps (any-of ks) ok =
-      cond-case (Takes k (expecting ps) c) (isInclude c) (λ i. tt)
-      (λ i. cond-case (Takes k (expecting ps) c) (among c ks)
-      (λ a. (tt, (child k c (each-among (isChild k) c ks (true-T a) ok), refl), tt))
-      (λ a. tt))
-  first-takes ps (exactly-one n) ok = absurd ok
+  child-of : {kss : List (List ℕ)} {ks : List ℕ} → T (every (every (isChild k)) kss) → List·Memᴰ ks kss → T (among c ks) → Child k c
+  child-of {ks = ks} ok m a = child k c (each-among (isChild k) c ks a (each (every (isChild k)) m ok))
 
-  next-takes : (t : Content) (s : ℕ) → T (children k t) → Takes k (holding s) c (nextChild t s c)
-  unfolding Takes Within LeadsTo Follows nextChild sort
-  next-takes (any-of ks) s ok =
-      cond-case (Takes k (holding s) c) (isInclude c) (λ i. tt)
-      (λ i. cond-case (Takes k (holding s) c) (among c ks)
-      (λ a. cond-case (Takes k (holding s) c) (eqb (Class.significance c) s)
-      (λ e. (tt, (child k c (each-among (isChild k) c ks (true-T a) ok), eqb-true _ s e), refl))
-      (λ e. tt))
+  first-takes : (ps : List Slot) (t : Content) → Known k t → Takes k (expecting ps) c (firstChild t c)
+  unfolding Takes Within LeadsTo Follows firstChild
+  first-takes ps t ok =
+      cond-case (Takes k (expecting ps) c) (isInclude c) (λ i. tt)
+      (λ i. chosen-case c (Takes k (expecting ps) c) (alternativesOf t) (λ ks m a. (ok .1 ks m, (child-of (ok .0) m a, a), tt)) (λ n. tt))
+
+  next-takes : (t : Content) (ks : List ℕ) → Level ks → Known k t → Takes k (holding ks) c (nextChild t ks c)
+  unfolding Takes Within LeadsTo Follows nextChild alternativesOf
+  next-takes (alternatives kss) ks l ok =
+      cond-case (Takes k (holding ks) c) (isInclude c) (λ i. tt)
+      (λ i. cond-case (Takes k (holding ks) c) (someHas kss c)
+      (λ s. cond-case (Takes k (holding ks) c) (among c ks)
+      (λ a. let (hs, m, b) = one-has c kss (true-T s) in (l, (child-of (ok .0) m b, true-T a), refl))
       (λ a. tt))
-  next-takes (exactly-one n) s ok = absurd ok
+      (λ s. tt))
+  next-takes (exactly-one n) ks l ok = cond-case (Takes k (holding ks) c) (isInclude c) (λ i. tt) (λ i. tt)
 
   parameter : (n : ℕ) → eqb c n ≡ true → T (isBlockParameter n) → T (isBlockParameter c)
   parameter n e t = rw (eqb-true c n e) t
 
-  parameter-takes : (qs ps : List Slot) (t : Content) → T (ofBlock ps) → T (children k t) → Takes k (expecting qs) c (nextParameter ps t c)
+  parameter-takes : (qs ps : List Slot) (t : Content) → T (ofBlock ps) → Known k t → Takes k (expecting qs) c (nextParameter ps t c)
   unfolding Takes Within LeadsTo Follows nextParameter ofBlock isBlockParameter
   parameter-takes qs [] t ps-ok ok = first-takes qs t ok
   parameter-takes qs (must n ∷ ps) t ps-ok ok =
@@ -130,11 +142,11 @@ module _ (k c : ℕ) where
       (λ e′. (ps-ok, parameter Class.type e′ tt, tt))
       (λ e′. parameter-takes qs ps t ps-ok ok))
 
--- A block takes its parameters, and then children of one sort.
+-- A block takes its parameters, and then children of one alternative.
 pub step-takes : (k : ℕ) → T (Class.isBlock k) → (s : State) → Within s → (c : ℕ) → Takes k s c (step k s c)
 unfolding step Within
-step-takes k b (expecting ps) w c = parameter-takes k c ps ps (ruleOf k .content) w (row k b .1)
-step-takes k b (holding s) w c = next-takes k c (ruleOf k .content) s (row k b .1)
+step-takes k b (expecting ps) w c = parameter-takes k c ps ps (ruleOf k .content) w (known k b)
+step-takes k b (holding ks) w c = next-takes k c (ruleOf k .content) ks w (known k b)
 
 pub start-within : (k : ℕ) → T (Class.isBlock k) → Within (start k)
 unfolding start Within

@@ -9,7 +9,9 @@ use Rattle.laws.proofs.Booleans.{cond-case}
 use Rattle.elements.specs.Class as Class
 use Rattle.elements.specs.Inside.{State, go, step, start}
 use Rattle.syntax.specs.Expression.{Expr, symbol, quoted, list, Exprs, none, and, place}
-use Rattle.document.specs.Spelling.{leadClass, listClass, exprClass, isBlockParameter, parameters, join, flatten, flattenContent}
+use Rattle.document.specs.Spelling.{isBlockParameter}
+use Rattle.document.specs.Imperative.{parameters, join, flatten, flattenContent}
+use Rattle.document.specs.Lead.{leadClass, listClass, exprClass}
 use Rattle.document.specs.Meaning.{Verdict, fine, finish, judge, judgeList, run, judgeRoot}
 use Rattle.document.proofs.Nested.{not-fine, passed}
 use Rattle.document.proofs.BlockRules.{block-range}

@@ -18,14 +18,15 @@ use Rattle.elements.specs.Inside.{State, step, start}
 use Rattle.syntax.specs.Byte.{square, openByte, closeByte, byteClass, blankClass, isBlank}
 use Rattle.syntax.specs.Syntax.{Leaf, Forest, end, leaf, brackets, space, word, string, leafBefore, bytesBefore, bytesOf, isLeaf}
 use Rattle.syntax.specs.Syntax.{Before, a-symbol, another, mayFollow, after, Ok, levels}
-use Rattle.syntax.specs.Expression.{Expr, symbol, quoted, list, Exprs, and, locateLeaf, locate, depth, depthAll}
-use Rattle.syntax.proofs.Located.{located-depth}
-use Rattle.document.specs.Value.{nonEmpty, every, isValue, isText, isSize, targetCharacter}
-use Rattle.document.specs.Document.{Tree, text, value, size, element, Trees, empty, holds, treeClass, goesOn, keepsRules, keepRules, isDocument, says}
-use Rattle.document.specs.Spelling.{nested, Spells, mostLevels, spelledAs, as-symbol, as-string, Writes, writes-text, writes-value, writes-type, writes-size, writes-element}
+use Rattle.syntax.specs.Expression.{Expr, symbol, quoted, list, Exprs, and, locateLeaf, locate}
+use Rattle.document.specs.Value.{nonEmpty, every, isValue, isSize, targetCharacter}
+use Rattle.document.specs.RulesTest.{isText, goesOn, keepsRules, keepRules, isDocument}
+use Rattle.document.specs.Document.{Tree, text, value, size, element, Trees, empty, holds, treeClass, says}
+use Rattle.document.specs.Spelling.{nested, Spells, as-nested, as-symbol, as-string, Writes, writes-text, writes-value, writes-type, writes-size, writes-element}
 use Rattle.document.specs.Spelling.{WritesAll, writes-none, writes-and, bracketed, holdsText, WritesNumber}
 use Rattle.document.specs.Canonical.{quotedBefore, digits, bracketsBefore, stringBefore, spelledBefore, insideBefore, treeLevels, mostLevelsIn}
 use Rattle.document.proofs.Nested.{goes-on}
+use Rattle.document.proofs.RulesTest.{test-text, test-lawful}
 use Rattle.document.proofs.CanonicalStrings.{byte-before, pieceOf, piecesOf, pieces-bytes, are-pieces, pieces-value, bytes-utf8}
 use Rattle.document.proofs.CanonicalSymbols.{isSymbol, symbol-ordinary, symbol-before, symbol-of, type-plain, id-plain, target-utf8, name-symbol, element-symbol, digits-number, digits-symbol}
 
@@ -192,9 +193,7 @@ size-spelled v w t =
 
 text-spelled : (s : List ℕ) → T (isText s) → Spelled (text s)
 unfolding isText
-text-spelled s t =
-    let (some, valid) = both (nonEmpty s) (eqb (validUpTo s) (length s)) t in
-    quoted-spelled s some (valid-utf8 s (eqb→eq (validUpTo s) (length s) valid))
+text-spelled s t = quoted-spelled s (both (nonEmpty s) (eqb (validUpTo s) (length s)) t .0) (test-text s t .is-utf8)
 
 element-spelled : (c : ℕ) (ts : Trees) → T (Class.isElement c) → SpelledAll ts → Spelled (element c ts)
 unfolding spelledBefore treeLevels
@@ -220,24 +219,21 @@ mutual
       let (s′, _, rest) = goes-on (step k s (treeClass t)) (λ s′. keepRules k s′ ts) later in
       one-spelled (tree-spelled k t now) (trees-spelled k s′ ts rest)
 
--- The canonical spelling of a document's tree of at most 64 levels is a nested spelling of the document.
-pub canonical-spells : (t : Tree) → T (isDocument t) → treeLevels t ≤ 64 → Spells nested (says t) (spelledBefore t [])
-unfolding isDocument bytesOf bytesBefore Ok levels mostLevels spelledAs locate depth
-canonical-spells t h l =
+-- The canonical spelling of a document's tree is a nested spelling of the document, and nests as deep as the tree.
+pub canonical-spells : (t : Tree) → T (isDocument t) → (sp : Spells nested (says t) (spelledBefore t [])) × (levels (sp .forest) ≡ treeLevels t)
+unfolding isDocument bytesOf bytesBefore Ok levels locate
+canonical-spells t h =
     let s : Spelled t = tree-spelled 0 t (both (eqb (treeClass t) Class.document) (keepsRules 0 t) h .1) in
-    let (e, m, is, w) = s .written 0 end in
-    let deep : levels (s .run end) ≤ 64 = omega (arith, s .deep end) in
-    record {
-      utf8 = s .utf8 [] nil-utf8;
-      forest = s .run end;
-      syntax = s .syntax end tt;
-      spelled = s .bytes end [];
-      within = deep;
-      expression = e;
-      expressions = is;
-      nested-within = omega (arith, located-depth 0 (s .run end), ap depthAll is);
-      tree = t;
-      writes = w;
-      lawful = h;
-      said = refl;
-    }
+    let (e, m, is, w) = s .written 0 end in (
+      record {
+        utf8 = s .utf8 [] nil-utf8;
+        forest = s .run end;
+        syntax = s .syntax end tt;
+        spelled = s .bytes end [];
+        tree = t;
+        writes = rw is (as-nested w);
+        lawful = test-lawful t h;
+        said = refl;
+      },
+      omega (arith, s .deep end),
+    )

@@ -1,37 +1,57 @@
 -- The node that the check answers is one of the document's. Assumes nothing.
-use Prim.Native.Nat.{ℕ, zero, suc, _+_, _<_}
-use mathlib.Core.Path.{_≡_, refl, subst}
-use mathlib.Core.Logic.{_⊎_, inl, inr}
-use mathlib.Core.List.{List, _∷_, _++_, List·Memᴰ, List·Memᴰ·head, List·Memᴰ·not-nil, List·Memᴰ·cases-cons, Memᴰ·append-right, Memᴰ·map}
+use Prim.Native.Nat.{ℕ, _<_}
+use mathlib.Core.Path.{_≡_, ap, subst}
+use mathlib.Core.List.{[], List·Memᴰ}
 use native.Mathlib.Omega.{arith}
+use lib.Dec.{eqb}
+use Rattle.elements.specs.Class as Class
 use Rattle.document.specs.Document.{Node}
 use Rattle.document.specs.Table.{count}
-use Rattle.document.specs.WellFormed.{Entry, entries, unsound, check}
-use Rattle.document.proofs.Records.{upFrom, Visit, visitsOf, numbered, entry-numbers}
-use Rattle.document.proofs.Prose.{Broken, bad-row, repeated-id, unknown-link, unknown-ref, CheckAnswer, check-answer}
+use Rattle.document.specs.Check.{First, nowhere, at-node, any-number, badRow, Entry, entries, repeatedId, unknownLink, unknownFootnote, Check, sound, unsound, checkedBy, check}
+use Rattle.document.proofs.Searches.{FirstIn, FirstAnswer}
+use Rattle.document.proofs.Records.{entryOf, visit-below}
+use Rattle.document.proofs.BadRow.{numberOf, boundsOf, isBad, bad-row-answer, bound-visited}
+use Rattle.document.proofs.Prose.{FirstRepeated, block-stands, RepeatAnswer, repeated-answer, entry-visit, target-stands}
 
-up-below : (i n k : ℕ) → List·Memᴰ k (upFrom i n) → k < i + n
-unfolding upFrom
-up-below i zero k m = absurd (List·Memᴰ·not-nil m)
-up-below i (suc n) k m = go (List·Memᴰ·cases-cons m) (up-below (suc i) n k)
-  where
-    go : (k ≡ i) ⊎ List·Memᴰ k (upFrom (suc i) n) → (List·Memᴰ k (upFrom (suc i) n) → k < suc i + n) → k < i + suc n
-    go (inl e) below = omega arith
-    go (inr h) below = omega (arith, below h)
+module _ (d : Node) where
+  entry-below : (i : ℕ) → (e : Entry) × List·Memᴰ e (entries 0 d) × (e .number ≡ i) → i < count d
+  unfolding entryOf
+  entry-below i (e, m, q) =
+      let (v, mv, ev) = entry-visit d e m in
+      let s : v .number ≡ e .number = ap (λ (z : Entry). z .number) ev in
+      omega (arith, visit-below d v mv)
 
-visit-below : (d : Node) (v : Visit) → List·Memᴰ v (visitsOf d) → v .number < count d
-visit-below d v m = omega (arith, up-below 0 (count d) (v .number) (rw (numbered d) at (Memᴰ·map (λ (v : Visit). v .number) m)))
+  -- A search that names a node of the document, if any.
+  abbrev Below : First → Type 0
+  Below f = (i : ℕ) → f ≡ at-node i → i < count d
 
-entry-below : (d : Node) (i : ℕ) (before after : List Entry) (e : Entry) → entries 0 d ≡ before ++ e ∷ after → e .number ≡ i → i < count d
-entry-below d i before after e split is =
-    let m : List·Memᴰ e (entries 0 d) = rw split (Memᴰ·append-right before (List·Memᴰ·head refl)) in
-    omega (arith, up-below 0 (count d) (e .number) (rw (entry-numbers d 0) at (Memᴰ·map (λ (e : Entry). e .number) m)))
+  row-below : Below (badRow 0 any-number d)
+  row-below i q =
+      let a : FirstIn numberOf isBad (boundsOf d) i = subst (FirstAnswer numberOf isBad (boundsOf d)) q (bad-row-answer d) in
+      omega (arith, visit-below d (a .found .visit) (bound-visited d (a .found) (a .stands)), a .number-is)
 
-broken-below : (d : Node) (n i : ℕ) → Broken d n i → i < count d
-broken-below d n i (bad-row e f r) = omega (arith, visit-below d (r .visit) (r .visited-there), r .number-is)
-broken-below d n i (repeated-id e r f) = entry-below d i (f .before) (f .after) (f .block) (f .split) (f .number-is)
-broken-below d n i (unknown-link e r q f) = entry-below d i (f .before) (f .after) (f .entry) (f .split) (f .number-is)
-broken-below d n i (unknown-ref e r q l f) = entry-below d i (f .before) (f .after) (f .entry) (f .split) (f .number-is)
+  repeated-below : Below (repeatedId [] (entries 0 d))
+  repeated-below i q =
+      let a : FirstRepeated (entries 0 d) i = subst (RepeatAnswer (entries 0 d)) q (repeated-answer d) in
+      entry-below i (a .block, block-stands (entries 0 d) i a, a .number-is)
 
-pub unsound-below : (d : Node) (n i : ℕ) → check d ≡ unsound n i → i < count d
-unsound-below d n i e = broken-below d n i (subst (CheckAnswer d) e (check-answer d))
+  link-below : Below (unknownLink (entries 0 d))
+  unfolding unknownLink
+  link-below i q = entry-below i (target-stands d Class.link Class.isBlock i q)
+
+  footnote-below : Below (unknownFootnote (entries 0 d))
+  unfolding unknownFootnote
+  footnote-below i q = entry-below i (target-stands d Class.footnote-ref (eqb Class.footnote) i q)
+
+  checked-below : (n i m : ℕ) (f : First) (next : Check) → Below f → (next ≡ unsound n i → i < count d) → checkedBy m f next ≡ unsound n i → i < count d
+  unfolding checkedBy
+  checked-below n i m nowhere next below on e = on e
+  checked-below n i m (at-node j) next below on e = below i (cc)
+
+  pub unsound-below : (n i : ℕ) → check d ≡ unsound n i → i < count d
+  unfolding check
+  unsound-below n i =
+      checked-below n i 15 (badRow 0 any-number d) _ row-below
+      (checked-below n i 16 (repeatedId [] (entries 0 d)) _ repeated-below
+      (checked-below n i 17 (unknownLink (entries 0 d)) _ link-below
+      (checked-below n i 18 (unknownFootnote (entries 0 d)) sound footnote-below (λ e. absurd (let z : _≡_ {A = ℕ} 0 1 = cc in omega arith)))))

@@ -5,15 +5,16 @@ use mathlib.Core.Bool.{Bool, true, not, _&&_, _||_}
 use mathlib.Core.List.{List, [], _∷_}
 use lib.Dec.{T, eqb}
 use Rattle.laws.proofs.Booleans.{cond-case, both}
-use Rattle.laws.proofs.Tables.{every}
+use Rattle.laws.proofs.Tables.{every, each}
 use Rattle.elements.specs.Bytes.{same}
 use Rattle.elements.specs.Class as Class
 use Rattle.elements.specs.Class.{Named, names, classIn, classOf}
-use Rattle.elements.specs.Rules.{Slot, must, may, id-type, Content, any-of, exactly-one, Rule, rules, ruleIn, ruleOf}
+use Rattle.elements.specs.Rules.{Slot, must, may, id-type, Content, alternatives, exactly-one, Rule, rules, ruleOf}
 use Rattle.elements.proofs.Same.{each-among}
+use Rattle.elements.proofs.EachRow.{each-kind}
 use Rattle.syntax.specs.Expression.{Expr, symbol, quoted, list}
-use Rattle.document.specs.Spelling.{leadClass}
-use Rattle.document.specs.Faults.{Next, Begun, due, children, Allowed, Taken}
+use Rattle.document.specs.Lead.{leadClass}
+use Rattle.document.specs.Faults.{Next, Begun, due, children, Allowed, Chooses, Taken}
 
 -- The class may be that of a list led by a name.
 abbrev pub leads : ℕ → Bool
@@ -30,31 +31,23 @@ abbrev pub isChild : ℕ → Bool
 isChild c = Class.isElement c || eqb c Class.text
 
 abbrev allChildren : Content → Bool
-allChildren (any-of ks) = every isChild ks
+allChildren (alternatives kss) = every (every isChild) kss
 allChildren (exactly-one k) = isChild k
 
 abbrev sensible : Rule → Bool
 sensible r = allLead (r .parameters) && allChildren (r .content)
-
-rule-in : (rs : List Rule) (k : ℕ) → T (every sensible rs) → T (sensible (ruleIn rs k))
-unfolding ruleIn
-rule-in [] k t = tt
-rule-in (r ∷ rs) k t =
-    let t′ = both (sensible r) (every sensible rs) t in
-    cond-case (λ (r : Rule). T (sensible r)) (eqb k (r .kind)) (λ e. t′ .0) (λ e. rule-in rs k (t′ .1))
 
 all-sensible : T (every sensible rules)
 unfolding rules Class.isElement Class.isKind
 all-sensible = tt
 
 rule-of : (k : ℕ) → T (allLead (ruleOf k .parameters)) × T (allChildren (ruleOf k .content))
-unfolding ruleOf
-rule-of k = both (allLead (ruleIn rules k .parameters)) (allChildren (ruleIn rules k .content)) (rule-in rules k all-sensible)
+rule-of k = both (allLead (ruleOf k .parameters)) (allChildren (ruleOf k .content)) (each-kind sensible all-sensible k tt)
 
 -- Every parameter that may still come is led by a name.
 abbrev pub Leading : Begun → Type 0
 Leading (due ps) = T (allLead ps)
-Leading (children s) = Unit {0}
+Leading (children ks) = Unit {0}
 
 pub start-leading : (k : ℕ) → Leading (due (ruleOf k .parameters))
 start-leading k = rule-of k .0
@@ -76,12 +69,19 @@ taken-leading (Taken.first-child d i a) t = tt
 taken-leading (Taken.next-child i a e) t = tt
 
 allowed-in : {t : Content} {c : ℕ} {b : Begun} → Allowed c t b → T (allChildren t) → T (isChild c)
-allowed-in {c} (Allowed.one-of {ks} a) t = each-among isChild c ks a t
+allowed-in {c} (Allowed.one-of {ks = ks} m a) t = each-among isChild c ks a (each (every isChild) m t)
 allowed-in Allowed.the-one t = t
 
--- What an element's content allows is an element or a text.
+-- What an element's content allows is an element or a text, and what its first child is.
 pub allowed-child : (k : ℕ) {c : ℕ} {b : Begun} → Allowed c (ruleOf k .content) b → T (isChild c)
 allowed-child k a = allowed-in a (rule-of k .1)
+
+pub chosen-allowed : {t : Content} {c : ℕ} {ks : List ℕ} {ps : List Slot} → Chooses c t ks → Allowed c t (due ps)
+chosen-allowed (Chooses.one-of m a) = Allowed.one-of m a
+chosen-allowed Chooses.the-one = Allowed.the-one
+
+pub chosen-child : (k : ℕ) {c : ℕ} {ks : List ℕ} → Chooses c (ruleOf k .content) ks → T (isChild c)
+chosen-child k a = allowed-child k (chosen-allowed {ps = []} a)
 
 -- No list is led by the class of a text.
 abbrev pub noText : ℕ → Bool

@@ -14,11 +14,14 @@ use Rattle.syntax.specs.Expression
 use Rattle.syntax.specs.Scan
 use Rattle.document.specs.Value
 use Rattle.document.specs.Document
+use Rattle.document.specs.RulesTest
 use Rattle.document.specs.Spelling
+use Rattle.document.specs.Lead
 use Rattle.document.specs.Meaning
 use Rattle.document.specs.Imperative
 use Rattle.document.specs.Table
-use Rattle.document.specs.WellFormed
+use Rattle.document.specs.Visits
+use Rattle.document.specs.Check
 use Rattle.document.specs.Answer
 use Rattle.document.specs.Canonical
 use Rattle.document.specs.Printing
@@ -46,11 +49,11 @@ unfolding Class.as-name Class.names Class.classIn Class.classOf Class.nameIn Cla
 class = tt
 
 unfoldable rules : Unit {0}
-unfolding Rules.rules Rules.ruleIn Rules.ruleOf
+unfolding Rules.alternativesOf Rules.rules Rules.ruleIn Rules.ruleOf
 rules = tt
 
 unfoldable inside : Unit {0}
-unfolding Inside.sort Inside.isInclude Inside.allows Inside.firstChild Inside.nextChild Inside.nextParameter Inside.step Inside.start
+unfolding Inside.isInclude Inside.someHas Inside.allows Inside.chosen Inside.firstChild Inside.nextChild Inside.nextParameter Inside.step Inside.start
     Inside.noneRequired Inside.mayBeEmpty Inside.ended
 inside = tt
 
@@ -75,17 +78,20 @@ scan = tt
 
 unfoldable value : Unit {0}
 unfolding Value.nonEmpty Value.every Characters.isDigit Characters.isLetter Characters.typeCharacter Characters.idCharacter Characters.uriCharacter Value.namesBlock
-    Value.targetCharacter Value.isValue Value.isText Value.isSize Value.decimalAfter Value.isDecimal
+    Value.targetCharacter Value.isValue Value.isSize Value.decimalAfter Value.isDecimal
 value = tt
 
 unfoldable document : Unit {0}
-unfolding Document.treeClass Document.goesOn Document.keyOf Document.typeOf Document.widthOr Document.heightOr Document.keyIn Document.typeIn
-    Document.widthIn Document.heightIn Document.isNode Document.isDocument Document.keepsRules Document.says
+unfolding Document.treeClass Document.keyOf Document.typeOf Document.widthOr Document.heightOr Document.keyIn Document.typeIn
+    Document.widthIn Document.heightIn Document.isNode Document.says
 document = tt
 
+unfoldable rulestest : Unit {0}
+unfolding RulesTest.isText RulesTest.goesOn RulesTest.keepsRules RulesTest.isDocument
+rulestest = tt
+
 unfoldable spelling : Unit {0}
-unfolding Spelling.holdsText Spelling.leadClass Spelling.listClass Spelling.exprClass Spelling.isBlockParameter Spelling.parameters Spelling.join
-    Spelling.spelledAs Spelling.mostLevels Spelling.flatten
+unfolding Spelling.holdsText Spelling.isBlockParameter Spelling.mostLevels Lead.leadClass Lead.listClass Lead.exprClass
 spelling = tt
 
 unfoldable meaning : Unit {0}
@@ -94,7 +100,7 @@ unfolding Meaning.textBytes Meaning.symbolBytes Meaning.onlyOne Meaning.numberOf
 meaning = tt
 
 unfoldable imperative : Unit {0}
-unfolding Imperative.notAllowed Imperative.inCommand Imperative.loose Imperative.isCommand Imperative.block Imperative.stillOpen Imperative.childOf
+unfolding Imperative.parameters Imperative.join Imperative.spelledAs Imperative.flatten Imperative.notAllowed Imperative.inCommand Imperative.loose Imperative.isCommand Imperative.block Imperative.stillOpen Imperative.childOf
     Imperative.opened Imperative.atInnermost Imperative.contentsOf Imperative.innermost Imperative.regroup
 imperative = tt
 
@@ -103,9 +109,9 @@ unfolding Table.offset Table.tableOf Table.count Table.pool Table.rows
 table = tt
 
 unfoldable wellformed : Unit {0}
-unfolding WellFormed.orElse WellFormed.childCount WellFormed.headCells WellFormed.cellsIn WellFormed.differs WellFormed.cellsBelow WellFormed.hasId
-    WellFormed.isAmong WellFormed.repeatedId WellFormed.idsWhere WellFormed.unknownTarget WellFormed.unknownLink WellFormed.unknownFootnote
-    WellFormed.checkedBy WellFormed.check WellFormed.badRow WellFormed.entries
+unfolding Check.orElse Visits.childCount Check.headCells Check.cellsIn Check.differs Check.cellsBelow Check.hasId
+    Check.isAmong Check.repeatedId Check.idsWhere Check.unknownTarget Check.unknownLink Check.unknownFootnote
+    Check.checkedBy Check.check Check.badRow Check.entries
 wellformed = tt
 
 unfoldable answer : Unit {0}
@@ -125,5 +131,5 @@ unfolding Printing.part Printing.below Printing.notBelow Printing.addRecord Prin
 printing = tt
 
 unfoldable pub computes : Unit {0}
-unfolding leadingZeros scalar sequence position bytes class rules inside byte syntax expression scan value document spelling meaning imperative table wellformed answer canonical printing
+unfolding leadingZeros scalar sequence position bytes class rules inside byte syntax expression scan value document rulestest spelling meaning imperative table wellformed answer canonical printing
 computes = tt

@@ -1,22 +1,21 @@
 -- Demand 3: reading answers 0 exactly when the text is within the limits and spells a well-formed document that fits the room; node words, pool and counts
 -- are then that document's; and no text spells two documents. Assumes nothing.
 use Prim.Native.Nat.{ℕ, _≤_}
-use mathlib.Core.Path.{_≡_, refl}
+use mathlib.Core.Path.{_≡_, refl, sym}
 use mathlib.Core.List.{List}
 use native.Mathlib.Omega.{arith}
 use lib.ListN.{length}
 use Rattle.document.specs.Document.{Node}
-use Rattle.document.specs.Spelling.{Spelling, Spells}
+use Rattle.document.specs.Spelling.{Spelling, nested, imperative, Spells}
 use Rattle.document.specs.Table.{count, pool}
-use Rattle.document.specs.WellFormed.{WellFormed}
 use Rattle.document.specs.Answer.{answerAt, Memory, Outcome, refusal, noRoom, filled, nodeRoom, outcome}
 use Rattle.document.specs.Account as Account
 use Rattle.document.specs.Account.{Answers, too-long, ill-formed}
 use Rattle.document.specs.Account.{no-node-room, no-pool-room, has-fault, accepted}
 use Rattle.document.specs.Demand.{Fits, Readable, Read}
-use Rattle.document.proofs.Reading.{spelled-once}
+use Rattle.document.proofs.NestedForms.{spelled-once, spelled-once-in-both}
 use Rattle.document.proofs.Account.{answers, answers-only}
-use Rattle.document.proofs.Numbers.{refused-number, check-number}
+use Rattle.document.proofs.Numbers.{refused-number, fault-number}
 
 -- How many nodes there is room for, and that a document fits, are the same.
 few : (m : Memory) (d : Node) → count d ≤ nodeRoom m → length (pool d) ≤ length (m .pool) → (count d ≤ 4096) × Fits d m
@@ -29,17 +28,17 @@ room m d most f = omega (arith, f .node-words, f .place-list)
 
 -- An answer of 0 is that of a document.
 zero : (s : Spelling) (text : List ℕ) (m : Memory) (o : Outcome) → Answers s text m o → o .answer .number ≡ 0 → (d : Node) × Readable s text m d × Read m o d
-unfolding refusal noRoom filled answerAt WellFormed
+unfolding refusal noRoom filled answerAt
 zero s text m o (too-long long) z = absurd (omega arith)
 zero s text m o (ill-formed short f) z = absurd (omega arith)
 zero s text m o (Account.refused short utf8 f) z = absurd (omega (arith, refused-number f))
-zero s text m o (no-node-room short sp none) z = absurd (omega arith)
-zero s text m o (no-pool-room short sp nodes none) z = absurd (omega arith)
-zero s text m o (has-fault {d = d} {n = n} {i = i} short sp nodes bytes e) z = absurd (omega (arith, check-number d n i e))
-zero s text m o (accepted {d = d} short sp nodes bytes e) z =
+zero s text m o (no-node-room sp l none) z = absurd (omega arith)
+zero s text m o (no-pool-room sp l nodes none) z = absurd (omega arith)
+zero s text m o (has-fault sp l nodes bytes f) z = absurd (omega (arith, fault-number f))
+zero s text m o (accepted {d = d} sp l nodes bytes w) z =
     let (most, fits) = few m d nodes bytes in (
       d,
-      record { short = short; spells = sp; well-formed = e; few-nodes = most; fits = fits },
+      record { spells = sp; within = l; well-formed = w; few-nodes = most; fits = fits },
       record { accepted = refl; nodes = refl; bytes = refl; node-words = refl; pool-bytes = refl },
     )
 
@@ -48,15 +47,22 @@ pub accepted-document : (s : Spelling) (text : List ℕ) (m : Memory) → outcom
 accepted-document s text m z = zero s text m (outcome s text m) (answers s text m) z
 
 pub document-accepted : (s : Spelling) (text : List ℕ) (m : Memory) (d : Node) → Readable s text m d → Read m (outcome s text m) d
-unfolding WellFormed filled answerAt
+unfolding filled answerAt
 document-accepted s text m d r =
-    let a = accepted (r .short) (r .spells) (room m d (r .few-nodes) (r .fits)) (r .fits .pool-bytes) (r .well-formed) in
+    let a = accepted (r .spells) (r .within) (room m d (r .few-nodes) (r .fits)) (r .fits .pool-bytes) (r .well-formed) in
     rw (answers-only s text m _ a)
     (record { accepted = refl; nodes = refl; bytes = refl; node-words = refl; pool-bytes = refl })
 
--- Demand 3, whole.
+-- Demand 3, whole. That no text spells two documents holds of every text, also of one past the limits.
 pub demand-3 : (s : Spelling) (text : List ℕ) (m : Memory)
     → (outcome s text m .answer .number ≡ 0 → (d : Node) × Readable s text m d × Read m (outcome s text m) d)
     × ((d : Node) → Readable s text m d → Read m (outcome s text m) d)
     × ((d d′ : Node) → Spells s d text → Spells s d′ text → d ≡ d′)
 demand-3 s text m = (accepted-document s text m, document-accepted s text m, λ d d′ a b. spelled-once a b)
+
+-- Nor does a text spell two documents where each spelling is taken once.
+pub either-spelling : (s s′ : Spelling) (text : List ℕ) (d d′ : Node) → Spells s d text → Spells s′ d′ text → d ≡ d′
+either-spelling nested nested text d d′ a b = spelled-once a b
+either-spelling nested imperative text d d′ a b = spelled-once-in-both a b
+either-spelling imperative nested text d d′ a b = sym (spelled-once-in-both b a)
+either-spelling imperative imperative text d d′ a b = spelled-once a b

@@ -8,9 +8,10 @@ use Rattle.laws.proofs.Booleans.{bool-case, true-T, T-true}
 use Rattle.elements.specs.Class as Class
 use Rattle.elements.specs.Inside.{State, expecting, holding, start}
 use Rattle.syntax.specs.Expression.{Expr, symbol, quoted, list, Exprs, none, and, depth, depthAll}
-use Rattle.document.specs.Spelling.{leadClass, listClass, exprClass, isBlockParameter, parameters, join, flatten, flattenContent}
+use Rattle.document.specs.Spelling.{isBlockParameter}
+use Rattle.document.specs.Imperative.{parameters, join, flatten, flattenContent, regroup}
+use Rattle.document.specs.Lead.{leadClass, listClass, exprClass}
 use Rattle.document.specs.Meaning.{fine, judge, judgeList, judgeRoot}
-use Rattle.document.specs.Imperative.{regroup}
 use Rattle.document.proofs.BlockRules.{Child, Within, LeadsTo, Takes, step-takes, start-within}
 use Rattle.document.proofs.Blocks.{Read, read-on, inside-block, root-document, flatten-leaf}
 use Rattle.document.proofs.Regroup.{flatten-regroup}

@@ -11,23 +11,24 @@ use Rattle.elements.specs.Class as Class
 use Rattle.elements.specs.Rules.{ruleOf}
 use Rattle.elements.specs.Inside.{State, Step, go, bad, step, start, ended}
 use Rattle.syntax.specs.Expression.{Expr, symbol, quoted, list, Exprs, none, and, place}
-use Rattle.syntax.proofs.Atoms.{AtomsOf}
-use Rattle.document.specs.Document.{keepsRules}
-use Rattle.document.specs.Spelling.{leadClass, listClass, exprClass}
+use Rattle.syntax.specs.Atoms.{AtomsOf}
+use Rattle.document.specs.RulesTest.{keepsRules}
+use Rattle.document.specs.Lead.{leadClass, listClass, exprClass}
 use Rattle.document.specs.Meaning.{Verdict, fine, fault, Progress, reached, faultAt, advance, finish, judgeValue, valueTree}
 use Rattle.document.specs.Meaning.{judge, judgeList, run, judgeRoot, treeOf}
 use Rattle.document.specs.Faults.{Begun, due, Taken, Fine, FaultIn, FaultOf, fault-of, RootFault, no-document, in-document}
 use Rattle.document.proofs.Leads.{by-lead}
+use Rattle.document.proofs.RulesTest.{kept-test, test-kept}
 use Rattle.document.proofs.Values.{value-written}
 use Rattle.document.proofs.Nested.{AllText, AllTexts, not-fine, judge-sound, judge-complete}
 use Rattle.document.proofs.Steps.{begunOf, stateOf, Refused, Stepped, stepped, taken-go, refused-bad, ended-may, may-ended}
-use Rattle.document.proofs.Classes.{leads, Leading, start-leading, next-leads, taken-leading, isChild, allowed-child, lead-no-text}
+use Rattle.document.proofs.Classes.{leads, Leading, start-leading, next-leads, taken-leading, isChild, allowed-child, chosen-child, lead-no-text}
 
 fine-sound : (k : ℕ) (e : Expr) → AllText e → judge k e ≡ fine → Fine k e
-fine-sound k e a f = let h = judge-sound k e a f in record { tree = treeOf e; writes = h .1; lawful = h .0 }
+fine-sound k e a f = let h = judge-sound k e a f in record { tree = treeOf e; writes = h .1; lawful = test-kept k (treeOf e) (h .0) }
 
 fine-complete : (k : ℕ) (e : Expr) → Fine k e → judge k e ≡ fine
-fine-complete k e f = judge-complete k (f .tree) e (f .writes) (f .lawful) .1
+fine-complete k e f = judge-complete k (f .tree) e (f .writes) (kept-test k (f .tree) (f .lawful)) .1
 
 -- What is wrong with an expression in an element of kind k that its class alone does not say.
 data Wrong (k : ℕ) : Expr → ℕ → ℕ → Type 0 where
@@ -54,10 +55,10 @@ wrong-in : {at k : ℕ} {b b′ : Begun} {e : Expr} {es : Exprs} {n p : ℕ} →
 unfolding exprClass listClass place Class.isElement Class.isKind
 wrong-in l t (element f) = FaultIn.inside t f
 wrong-in l (Taken.parameter r) (value n w) = FaultIn.malformed r n w
-wrong-in {k} l (Taken.first-child d i a) (value {e} n w) = absurd (child-element e (allowed-child k a) n)
+wrong-in {k} l (Taken.first-child d i a) (value {e} n w) = absurd (child-element e (chosen-child k a) n)
 wrong-in {k} l (Taken.next-child i a s) (value {e} n w) = absurd (child-element e (allowed-child k a) n)
 wrong-in l (Taken.parameter r) bare = absurd (next-leads r l)
-wrong-in {k} l (Taken.first-child d i a) bare = absurd (allowed-child k a)
+wrong-in {k} l (Taken.first-child d i a) bare = absurd (chosen-child k a)
 wrong-in {k} l (Taken.next-child i a s) bare = absurd (allowed-child k a)
 
 refused-in : (at k : ℕ) {b : Begun} (e : Expr) (es : Exprs) {n : ℕ} → Refused k (exprClass e) b n
@@ -140,7 +141,7 @@ malformed-judged k (list at (and e es)) l n w =
     let c : ℕ = leadClass e in
     let some : c ≡ 0 → ⊥ = λ z. T-not (eqb c 0) (both (not (eqb c 0)) (not (eqb c Class.text)) l .0) (true-T (eq-eqb c 0 z)) in
     let sound : T (keepsRules k (valueTree c es)) → Fine k (list at (and e es)) =
-    λ t. record { tree = valueTree c es; writes = by-lead (valueTree c es) at c e es refl some (λ p. value-written k c at p es t); lawful = t } in
+    λ t. record { tree = valueTree c es; writes = by-lead (valueTree c es) at c e es refl some (λ p. value-written k c at p es t); lawful = test-kept k (valueTree c es) t } in
     let no : keepsRules k (valueTree c es) ≡ false = not-T-false (keepsRules k (valueTree c es)) (λ t. w (sound t)) in
     value-judged k at e es n ∙ rw no
 

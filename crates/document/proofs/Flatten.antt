@@ -7,15 +7,16 @@ use native.Mathlib.Omega.{arith}
 use lib.Dec.{T, eqb}
 use borrow.Author.Tests.{le-leb, lt-leb}
 use Rattle.laws.proofs.Booleans.{bool-case, true-T, T-true}
+use Rattle.elements.specs.Bytes.{among}
 use Rattle.elements.specs.Class as Class
 use Rattle.elements.specs.Inside.{State, expecting, holding, go, start}
 use Rattle.syntax.specs.Expression.{Expr, symbol, quoted, list, Exprs, none, and}
-use Rattle.document.specs.Spelling.{leadClass, listClass, exprClass, isBlockParameter, parameters, join, flatten, flattenContent}
+use Rattle.document.specs.Spelling.{isBlockParameter}
+use Rattle.document.specs.Imperative.{parameters, join, flatten, flattenContent, inCommand, loose, isCommand, block, stillOpen, childOf, opened, atInnermost, contentsOf, innermost, regroup}
+use Rattle.document.specs.Lead.{leadClass, listClass, exprClass}
 use Rattle.document.specs.Meaning.{fine, judge, judgeList, judgeRoot}
-use Rattle.document.specs.Imperative.{inCommand, loose, isCommand, block, stillOpen, childOf, opened}
-use Rattle.document.specs.Imperative.{atInnermost, contentsOf, innermost, regroup}
 use Rattle.document.proofs.Nested.{not-fine}
-use Rattle.document.proofs.BlockRules.{Child, Within, LeadsTo, Follows, Takes, step-takes, start-within}
+use Rattle.document.proofs.BlockRules.{Child, Level, Within, LeadsTo, Follows, Takes, step-takes, start-within}
 use Rattle.document.proofs.Blocks.{join-none, join-join, Read, read-on, inside-block, root-document, flatten-child, flatten-leaf}
 
 -- What follows ends an open block of significance s: nothing, or a command of no lesser significance.
@@ -54,31 +55,31 @@ content : Exprs → Exprs
 content none = none
 content (and e es) = cond (isBlockParameter (exprClass e)) (content es) (and e (content es))
 
--- Where a sort is held no parameter follows.
-no-more-parameters : (es : Exprs) (at k : ℕ) → T (Class.isBlock k) → (s : ℕ) → Read at k (holding s) es
+-- Where an alternative is held no parameter follows.
+no-more-parameters : (es : Exprs) (at k : ℕ) → T (Class.isBlock k) → (ks : List ℕ) → Level ks → Read at k (holding ks) es
     → (parameters es ≡ none) × (content es ≡ es)
 unfolding content parameters Within LeadsTo Follows
-no-more-parameters none at k b s h = (refl, refl)
-no-more-parameters (and e es) at k b s h =
-    let (s′, _, l, same, _, r) = taken k b at (holding s) tt e es h in
-    let leads : LeadsTo k (exprClass e) (holding s) = rw (← same) at l in
-    let (ps, es-same) = no-more-parameters es at k b s (rw (← same) at r) in
+no-more-parameters none at k b ks w h = (refl, refl)
+no-more-parameters (and e es) at k b ks w h =
+    let (s′, _, l, same, _, r) = taken k b at (holding ks) w e es h in
+    let leads : LeadsTo k (exprClass e) (holding ks) = rw (← same) at l in
+    let (ps, es-same) = no-more-parameters es at k b ks w (rw (← same) at r) in
     (rw (leads .0 .no-parameter) ps, rw (leads .0 .no-parameter, es-same))
 
 -- The parameters stand before the content.
 parameters-first : (es : Exprs) (at k : ℕ) → T (Class.isBlock k) → (s : State) → Within s → Read at k s es
     → join (parameters es) (content es) ≡ es
-unfolding content parameters join LeadsTo
+unfolding content parameters join Within LeadsTo
 parameters-first none at k b s w h = refl
 parameters-first (and e es) at k b s w h =
     let (s′, w′, l, _, _, r) = taken k b at s w e es h in
-    split s′ l r (parameters-first es at k b s′ w′ r)
+    split s′ w′ l r (parameters-first es at k b s′ w′ r)
   where
-    split : (s′ : State) → LeadsTo k (exprClass e) s′ → Read at k s′ es → join (parameters es) (content es) ≡ es
+    split : (s′ : State) → Within s′ → LeadsTo k (exprClass e) s′ → Read at k s′ es → join (parameters es) (content es) ≡ es
         → join (parameters (and e es)) (content (and e es)) ≡ and e es
-    split (expecting ps) l r ih = rw (T-true (isBlockParameter (exprClass e)) l) (ap (and e) ih)
-    split (holding t) l r ih =
-        let (ps, es-same) = no-more-parameters es at k b t r in
+    split (expecting ps) w l r ih = rw (T-true (isBlockParameter (exprClass e)) l) (ap (and e) ih)
+    split (holding ks) w l r ih =
+        let (ps, es-same) = no-more-parameters es at k b ks w r in
         rw (l .0 .no-parameter, ps, es-same)
 
 -- In a command all parameters may stand.
@@ -103,19 +104,21 @@ command-first (list at none) b = absurd b
 command-first (list at (and e es)) b =
     (list at (and e (parameters es)), flattenContent es, rw (T-true (Class.isBlock (leadClass e)) b), refl)
 
--- After a block of significance t among its siblings there follows what ends it.
-siblings-end : (es : Exprs) (at k : ℕ) → T (Class.isBlock k) → (t : ℕ) → t < Class.significance k → Read at k (holding t) es
-    → (r : Exprs) → Ends (Class.significance k) r → Ends t (join (flattenContent es) r)
+-- After a block of class t among its siblings, which are of its alternative, there follows what ends it.
+siblings-end : (es : Exprs) (at k : ℕ) → T (Class.isBlock k) → (ks : List ℕ) → Level ks → (t : ℕ) → T (among t ks)
+    → Class.significance t < Class.significance k → Read at k (holding ks) es
+    → (r : Exprs) → Ends (Class.significance k) r → Ends (Class.significance t) (join (flattenContent es) r)
 unfolding Within LeadsTo Follows join flatten Ends
-siblings-end none at k b t less h r ends = ends-lesser (Class.significance k) t r (omega arith) ends
-siblings-end (and e es) at k b t less h r ends =
-    let (s′, _, l, same, _, _) = taken k b at (holding t) tt e es h in
-    let (c, sort) : LeadsTo k (exprClass e) (holding t) = rw (← same) at l in
+siblings-end none at k b ks w t a less h r ends = ends-lesser (Class.significance k) (Class.significance t) r (omega arith) ends
+siblings-end (and e es) at k b ks w t a less h r ends =
+    let (s′, _, l, same, _, _) = taken k b at (holding ks) w e es h in
+    let (c, of) : LeadsTo k (exprClass e) (holding ks) = rw (← same) at l in
+    let level : Class.significance (exprClass e) ≡ Class.significance t = w t (exprClass e) a of in
     bool-case (Class.isBlock (exprClass e))
     (λ is.
     let (first, rest, flat-same, class-same) = command-first e (true-T is) in
     rw (flatten-child e es (c .no-parameter), flat-same)
-    (is-command first (rw class-same (true-T is)) (rw class-same (c .no-document)), rw (class-same, sort) (omega arith)))
+    (is-command first (rw class-same (true-T is)) (rw class-same (c .no-document)), rw (class-same, level) (omega arith)))
     (λ is-none. absurd (let z : Class.significance k ≡ 0 = c .alone is-none in omega arith))
 
 -- The laws of a child, and of the content of a block: each block gets back what was flattened out of it.
@@ -145,19 +148,19 @@ unfolding flatten
 flatten-parameter e es p = rw p
 
 -- From the law of the first expression and that of those that follow it to that of them all.
-content-step : (at k : ℕ) → T (Class.isBlock k) → (e : Expr) (es : Exprs) (s : State) → LeadsTo k (exprClass e) s → Read at k s es
+content-step : (at k : ℕ) → T (Class.isBlock k) → (e : Expr) (es : Exprs) (s : State) → Within s → LeadsTo k (exprClass e) s → Read at k s es
     → (blocks : List ℕ) (r : Exprs) → Ends (Class.significance k) r
     → (Child k (exprClass e) → (T (Class.isBlock (exprClass e)) → Ends (Class.significance (exprClass e)) (join (flattenContent es) r))
     → ChildLaw (Class.significance k) e blocks (join (flattenContent es) r))
     → ContentLaw (Class.significance k) es blocks r → ContentLaw (Class.significance k) (and e es) blocks r
-unfolding LeadsTo content
-content-step at k b e es (expecting ps) l h blocks r ends child-law law =
+unfolding Within LeadsTo content
+content-step at k b e es (expecting ps) w l h blocks r ends child-law law =
     let is = T-true (isBlockParameter (exprClass e)) l in
     rw (flatten-parameter e es is, is) law
-content-step at k b e es (holding t) l h blocks r ends child-law law =
-    let (c, sort) = l in
+content-step at k b e es (holding ks) w l h blocks r ends child-law law =
+    let (c, of) = l in
     rw (flatten-child e es (c .no-parameter), c .no-parameter, join-join)
-    (child-law c (λ is. rw sort (siblings-end es at k b t (rw sort at (c .lesser is)) h r ends)) ∙ (rw law (unfold atInnermost in refl)))
+    (child-law c (λ is. siblings-end es at k b ks w (exprClass e) of (c .lesser is) h r ends) ∙ (rw law (unfold atInnermost in refl)))
 
 -- A child that is fine is regrouped, and so is what is inside a block.
 mutual
@@ -187,7 +190,7 @@ mutual
   content-law none at k b s w h blocks r ends = ended-empty (Class.significance k) blocks r ends
   content-law (and e es) at k b s w h blocks r ends =
       let (s′, w′, l, _, f, h′) = taken k b at s w e es h in
-      content-step at k b e es s′ l h′ blocks r ends (λ c ends′. child-law e k c f blocks (join (flattenContent es) r) ends′)
+      content-step at k b e es s′ w′ l h′ blocks r ends (λ c ends′. child-law e k c f blocks (join (flattenContent es) r) ends′)
       (content-law es at k b s′ w′ h′ blocks r ends)
 
 document-regroup : (e : Expr) → exprClass e ≡ Class.document → judge 0 e ≡ fine

@@ -1,17 +1,34 @@
--- Each example of `specs/Examples.antt` has its answer, by computation: number, place, line, column and both counts.
+-- Each example of `specs/Examples.antt`, `specs/Outcomes.antt` and `specs/PrintingExamples.antt` has what is beside it, by computation: the whole outcome,
+-- or the answer alone (number, place, line, column and both counts).
 use mathlib.Core.Path.{_≡_, refl}
 use mathlib.Core.List.{List, map}
 use Rattle.document.specs.Spelling.{nested}
-use Rattle.document.specs.Examples.{Example, examples, settlements, open-points, faults, answered, room, bytes, Lent, memoryOf, readInto, short-of-room, Tidied, printable, paper, printedFrom, readIn, spelledOut}
+use Rattle.document.specs.Expected.{bytes, numbers, lentMemory, row, bare, keyed, typed, texts, joined, leaves, Whole, left}
+use Rattle.document.specs.Examples.{titled-A, untitled, same-id-twice, link-to-nowhere, listed, Example, examples, settlements, open-points, faults, answered, room, Lent, memoryOf, readInto, short-of-room, Tidied, printable, paper, printedFrom, readIn, spelledOut}
+use Rattle.document.specs.Outcomes.{outcomes, id-behind-type, escaped-by-number, images-and-a-link, table-and-list, two-spellings, row-too-short, id-again, link-on-line-3, reference-to-a-section}
+use Rattle.document.specs.PrintingExamples.{Print, printedAs, blank, escaped, prints}
 use Rattle.document.proofs.Compute.{computes}
+
+-- Opens how an outcome is written down.
+unfoldable written-down : Unit {0}
+unfolding bytes numbers lentMemory row bare keyed typed texts joined leaves left
+written-down = tt
+
+abbrev AllLeft : List Whole → Type 0
+AllLeft ws = map left ws ≡ map (λ (w : Whole). w .expected) ws
 
 abbrev AllAnswered : List Example → Type 0
 AllAnswered es = map answered es ≡ map (λ (e : Example). e .expected) es
 
--- The judged examples that document 01 marks with *, nested and imperative.
-pub judged : AllAnswered examples
-unfolding computes examples answered room bytes
+-- The judged examples that document 01 marks with *, and its printed listing: each answer, node word, place and pool byte, and the rest of the lent memory.
+pub judged : AllLeft examples
+unfolding computes written-down examples titled-A untitled same-id-twice link-to-nowhere listed
 judged = refl
+
+-- The texts beyond them.
+pub outcomes-judged : AllLeft outcomes
+unfolding computes written-down outcomes id-behind-type escaped-by-number images-and-a-link table-and-list two-spellings row-too-short id-again link-on-line-3 reference-to-a-section
+outcomes-judged = refl
 
 pub settled : AllAnswered settlements
 unfolding computes settlements answered room bytes
@@ -34,6 +51,11 @@ short-judged = refl
 pub short-unaltered : map (λ (l : Lent). readInto l .memory) short-of-room ≡ map memoryOf short-of-room
 unfolding computes short-of-room readInto memoryOf bytes
 short-unaltered = refl
+
+-- Printing: number, length and every byte of the output.
+pub prints-judged : map printedAs prints ≡ map (λ (p : Print). p .expected) prints
+unfolding computes written-down prints printedAs blank escaped titled-A same-id-twice link-to-nowhere id-behind-type images-and-a-link table-and-list two-spellings row-too-short reference-to-a-section
+prints-judged = refl
 
 -- Printing what was read gives the canonical spelling.
 pub tidied : map (λ (t : Tidied). printedFrom (readIn (t .spelling) (t .text))) printable

@@ -8,9 +8,11 @@ use Rattle.laws.proofs.Booleans.{cond-case, both, both-true, T-true, not-true}
 use Rattle.elements.specs.Class as Class
 use Rattle.elements.specs.Rules.{ruleOf}
 use Rattle.elements.specs.Inside.{State, step, start}
-use Rattle.document.specs.Document.{Tree, text, value, size, element, Trees, empty, holds, treeClass, keepsRules, keepRules}
-use Rattle.document.specs.Document.{Node, node, child, keyOf, typeOf, widthOr, heightOr, isNode, says, sayAll, isDocument, Document}
+use Rattle.document.specs.Document.{Tree, text, value, size, element, Trees, empty, holds, treeClass}
+use Rattle.document.specs.RulesTest.{keepsRules, keepRules, isDocument}
+use Rattle.document.specs.Document.{Node, node, child, keyOf, typeOf, widthOr, heightOr, isNode, says, sayAll, Document}
 use Rattle.document.specs.Canonical.{layout, layoutAll, treeLevels}
+use Rattle.document.proofs.RulesTest.{lawful-test}
 use Rattle.document.proofs.Nested.{goes-on}
 use Rattle.document.proofs.Arranged.{nodesIn, valuesOf, arrangedBy, Alike, alike-itself, AllAlike, all-alike-itself, all-alike-on, first-kept, holds-alike, low-node, arranged}
 
@@ -109,4 +111,4 @@ tree-laid-out t h =
 
 -- The layout of a document keeps the rules and says the document.
 pub laid-out : (d : Node) → Document d → T (isDocument (layout d)) × (says (layout d) ≡ d)
-laid-out d x = rw (x .said) at (tree-laid-out (x .tree) (x .lawful))
+laid-out d x = rw (x .said) at (tree-laid-out (x .tree) (lawful-test (x .tree) (x .lawful)))

@@ -5,10 +5,13 @@ use mathlib.Core.List.{List}
 use native.Mathlib.Omega.{arith}
 use lib.Dec.{T}
 use Rattle.syntax.specs.Expression.{Expr, Exprs, none, and, depth, depthAll}
-use Rattle.document.specs.Document.{Tree, text, value, size, element, Trees, empty, holds, keepsRules, Node, isNode, isDocument, says}
-use Rattle.document.specs.Spelling.{Spelling, Writes, writes-text, writes-value, writes-type, writes-size, writes-element, WritesAll, writes-none, writes-and, Spells}
+use Rattle.document.specs.Document.{Tree, text, value, size, element, Trees, empty, holds, Node, isNode, says}
+use Rattle.document.specs.RulesTest.{keepsRules, isDocument}
+use Rattle.document.specs.Spelling.{Spelling, Writes, writes-text, writes-value, writes-type, writes-size, writes-element, WritesAll, writes-none, writes-and, Spells, WithinLimits}
 use Rattle.document.specs.Canonical.{layout, treeLevels, mostLevelsIn}
 use Rattle.document.proofs.LaidOut.{layout-alike, document-node}
+use Rattle.document.proofs.RulesTest.{lawful-test}
+use Rattle.document.proofs.NestedForms.{spelled-form, nested-depth}
 
 -- The layout nests as deep as the tree.
 pub layout-levels : (k : ℕ) (t : Tree) → T (keepsRules k t) → T (isNode t) → treeLevels (layout (says t)) ≡ treeLevels t
@@ -46,8 +49,8 @@ mutual
   all-written-levels empty none writes-none = omega arith
   all-written-levels (holds t ts) (and e es) (writes-and w ws) = omega (arith, written-levels t e w, all-written-levels ts es ws)
 
--- The canonical spelling of a document that a text spells nests within 64 levels.
-pub spelled-levels : (s : Spelling) (d : Node) (bytes : List ℕ) → Spells s d bytes → treeLevels (layout d) ≤ 64
-spelled-levels s d bytes x =
-    let e : treeLevels (layout d) ≡ treeLevels (x .tree) = rw (x .said) at (document-levels (x .tree) (x .lawful)) in
-    omega (arith, written-levels (x .tree) (x .expression) (x .writes), x .nested-within)
+-- The canonical spelling of a document that a text within the limits spells nests within 64 levels.
+pub spelled-levels : (s : Spelling) (d : Node) (bytes : List ℕ) (x : Spells s d bytes) → WithinLimits s bytes (x .forest) → treeLevels (layout d) ≤ 64
+spelled-levels s d bytes x l =
+    let e : treeLevels (layout d) ≡ treeLevels (x .tree) = rw (x .said) at (document-levels (x .tree) (lawful-test (x .tree) (x .lawful))) in
+    omega (arith, written-levels (x .tree) (spelled-form x .expression) (spelled-form x .writes), nested-depth x l)

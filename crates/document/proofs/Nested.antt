@@ -11,12 +11,13 @@ use Rattle.laws.proofs.Booleans.{cond-case, both, both-true, and-false, true-T,
 use Rattle.elements.specs.Class as Class
 use Rattle.elements.specs.Inside.{State, Step, go, bad, step, start, ended}
 use Rattle.syntax.specs.Expression.{Expr, symbol, quoted, list, Exprs, none, and, place}
-use Rattle.syntax.proofs.Atoms.{AtomsOf, AllAtoms}
-use Rattle.document.specs.Value.{nonEmpty, isText, isValue}
-use Rattle.document.specs.Document.{Tree, text, value, size, element, Trees, empty, holds, treeClass, goesOn, keepsRules, keepRules, isDocument}
+use Rattle.syntax.specs.Atoms.{AtomsOf, AllAtoms}
+use Rattle.document.specs.Value.{nonEmpty, isValue}
+use Rattle.document.specs.RulesTest.{isText, goesOn, keepsRules, keepRules, isDocument}
+use Rattle.document.specs.Document.{Tree, text, value, size, element, Trees, empty, holds, treeClass}
 use Rattle.document.specs.Spelling.{Writes, writes-text, writes-value, writes-type, writes-size, writes-element, WritesAll}
-use Rattle.document.specs.Spelling.{writes-none, writes-and, WritesText, as-symbol, as-string, bracketed, leadClass, listClass}
-use Rattle.document.specs.Spelling.{exprClass}
+use Rattle.document.specs.Spelling.{writes-none, writes-and, WritesText, as-symbol, as-string, bracketed}
+use Rattle.document.specs.Lead.{leadClass, listClass, exprClass}
 use Rattle.document.specs.Meaning.{textBytes, onlyOne, sizeTree, valueTree, treeOf, listTree, treesOf, Verdict, fine, fault, Progress}
 use Rattle.document.specs.Meaning.{faultAt, advance, finish, judgeValue, judge, judgeList, run, judgeRoot}
 use Rattle.document.proofs.Leads.{by-lead}

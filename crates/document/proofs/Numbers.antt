@@ -7,17 +7,21 @@ use lib.Dec.{eqb}
 use Rattle.laws.proofs.Booleans.{cond-case}
 use Rattle.elements.specs.Bytes.{among}
 use Rattle.elements.specs.Class as Class
-use Rattle.elements.specs.Rules.{Slot, must, may, id-type, Content, any-of, exactly-one, ruleOf}
-use Rattle.elements.specs.Inside.{State, expecting, holding, Step, go, bad, step, start, ended, firstChild, nextChild, nextParameter, isInclude, allows, sort}
+use Rattle.elements.specs.Rules.{Slot, must, may, id-type, Content, alternatives, exactly-one, alternativesOf, ruleOf}
+use Rattle.elements.specs.Inside.{State, expecting, holding, Step, go, bad, step, start, ended, firstChild, nextChild, nextParameter, isInclude, someHas}
+use Rattle.elements.proofs.Alternatives.{chosen-case}
 use Rattle.syntax.specs.Expression.{Expr, symbol, quoted, list, Exprs, none, and, place}
 use Rattle.syntax.specs.Fault.{Opened, Hit, control, lone-return, no-escape, empty-string, unclosed-string, unopened, other-partner, left-open, too-deep}
-use Rattle.document.specs.Document.{Node, keepsRules}
+use Rattle.document.specs.Document.{Node}
+use Rattle.document.specs.RulesTest.{keepsRules}
 use Rattle.document.specs.Faults.{RootFault}
 use Rattle.document.specs.Account as Account
 use Rattle.document.specs.Account.{RefusedFor}
-use Rattle.document.specs.WellFormed.{First, nowhere, at-node, Check, sound, unsound, checkedBy, check}
+use Rattle.document.specs.WellFormed.{FirstFault, bad-row, repeated-id, unknown-link, unknown-footnote}
+use Rattle.document.specs.Check.{First, nowhere, at-node, Check, sound, unsound, checkedBy, check}
 use Rattle.document.proofs.Faults.{named-fault}
-use Rattle.document.specs.Spelling.{Spelling, leadClass, exprClass}
+use Rattle.document.specs.Spelling.{Spelling}
+use Rattle.document.specs.Lead.{leadClass, exprClass}
 use Rattle.document.specs.Meaning.{Verdict, fine, fault, Progress, reached, stopped, faultAt, advance, finish, judgeValue, judge, judgeRoot, valueTree}
 
 abbrev pub OfWalk : ℕ → Type 0
@@ -30,16 +34,16 @@ StepNumber (bad n) = OfWalk n
 first-child : (t : Content) (c : ℕ) → StepNumber (firstChild t c)
 unfolding firstChild
 first-child t c =
-    cond-case StepNumber (isInclude c) (λ _. omega arith) (λ _. cond-case StepNumber (allows t c) (λ _. tt) (λ _. omega arith))
+    cond-case StepNumber (isInclude c) (λ _. omega arith) (λ _. chosen-case c StepNumber (alternativesOf t) (λ _ _ _. tt) (λ _. omega arith))
 
-next-child : (t : Content) (s c : ℕ) → StepNumber (nextChild t s c)
+next-child : (t : Content) (ks : List ℕ) (c : ℕ) → StepNumber (nextChild t ks c)
 unfolding nextChild
-next-child (any-of ks) s c =
+next-child (alternatives kss) ks c =
     cond-case StepNumber (isInclude c) (λ _. omega arith)
-    (λ _. cond-case StepNumber (among c ks)
-    (λ _. cond-case StepNumber (eqb (sort c) s) (λ _. tt) (λ _. omega arith))
+    (λ _. cond-case StepNumber (someHas kss c)
+    (λ _. cond-case StepNumber (among c ks) (λ _. tt) (λ _. omega arith))
     (λ _. omega arith))
-next-child (exactly-one k) s c = cond-case StepNumber (isInclude c) (λ _. omega arith) (λ _. omega arith)
+next-child (exactly-one k) ks c = cond-case StepNumber (isInclude c) (λ _. omega arith) (λ _. omega arith)
 
 next-parameter : (ps : List Slot) (t : Content) (c : ℕ) → StepNumber (nextParameter ps t c)
 unfolding nextParameter
@@ -53,7 +57,7 @@ next-parameter (id-type ∷ ps) t c =
 step-number : (k : ℕ) (s : State) (c : ℕ) → StepNumber (step k s c)
 unfolding step
 step-number k (expecting ps) c = next-parameter ps (ruleOf k .content) c
-step-number k (holding s) c = next-child (ruleOf k .content) s c
+step-number k (holding ks) c = next-child (ruleOf k .content) ks c
 
 abbrev pub VerdictNumber : Verdict → Type 0
 VerdictNumber fine = Unit {0}
@@ -142,3 +146,10 @@ check-number d n i e =
     let numbers : CheckNumber (check d) =
     by-number 15 _ _ (omega arith) (by-number 16 _ _ (omega arith) (by-number 17 _ _ (omega arith) (by-number 18 _ _ (omega arith) tt))) in
     rw e at numbers
+
+-- The faults of a document are numbered 15 to 18.
+pub fault-number : {d : Node} {n i : ℕ} → FirstFault d n i → (15 ≤ n) × (n ≤ 18)
+fault-number (bad-row f) = omega arith
+fault-number (repeated-id r f) = omega arith
+fault-number (unknown-link r s f) = omega arith
+fault-number (unknown-footnote r s l f) = omega arith

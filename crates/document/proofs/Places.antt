@@ -13,7 +13,7 @@ use Rattle.elements.specs.Inside.{State, step, start}
 use Rattle.syntax.specs.Expression.{Expr, symbol, quoted, list, Exprs, none, and, place}
 use Rattle.document.specs.Document.{Tree, element, Trees, holds, isNode, says, sayAll, child}
 use Rattle.document.specs.Table.{count, countAll}
-use Rattle.document.specs.Spelling.{leadClass, listClass, exprClass}
+use Rattle.document.specs.Lead.{leadClass, listClass, exprClass}
 use Rattle.document.specs.Meaning.{sizeTree, valueTree, treeOf, listTree, treesOf, Verdict, fine, finish, judgeValue, judge}
 use Rattle.document.specs.Meaning.{judgeList, run, judgeRoot, places, listPlaces, allPlaces}
 use Rattle.document.proofs.Nested.{not-fine, passed}

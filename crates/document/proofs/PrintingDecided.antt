@@ -12,12 +12,16 @@ use lib.Seq.{length-take-le}
 use Rattle.laws.proofs.Booleans.{both, T-true, not-T-false, cond-case, true-T}
 use Rattle.elements.specs.Bytes.{same}
 use Rattle.elements.proofs.Same.{same-equal}
-use Rattle.document.specs.Document.{Tree, Node, isDocument, says}
+use Rattle.document.specs.Document.{Tree, Node, says, Document}
+use Rattle.document.specs.RulesTest.{isDocument}
 use Rattle.document.specs.Table.{recordLength, tableOf, pool, count}
-use Rattle.document.specs.WellFormed.{Check, sound, unsound, check, WellFormed}
+use Rattle.document.specs.Check.{Check, sound, unsound, check}
+use Rattle.document.specs.WellFormed.{WellFormed}
 use Rattle.document.specs.Canonical.{layout, treeLevels, canonical}
 use Rattle.document.specs.Printing.{IsDraft, IsTableOf, hasDraft, treeOfTable, Checked, checkedAs, checking, written, printing}
+use Rattle.document.proofs.RulesTest.{test-lawful}
 use Rattle.document.proofs.Records.{table-length}
+use Rattle.document.proofs.FirstFaults.{Decides, check-decides, well-formed-check}
 use Rattle.document.proofs.Prose.{same-refl}
 use Rattle.document.proofs.LaidOut.{laid-out}
 use Rattle.document.proofs.Levels.{document-levels}
@@ -53,7 +57,7 @@ draft-of t words bytes h =
     let (h4, strings) = both b (same (pool d) bytes) h3 in
     let (lawful, table) = both (isDocument t) (same (tableOf d) words) h4 in
     record {
-      document = record { tree = t; lawful = lawful; said = refl };
+      document = record { tree = t; lawful = test-lawful t lawful; said = refl };
       node-words = same-equal (tableOf (says t)) words table;
       pool-bytes = same-equal (pool (says t)) bytes strings;
       few-nodes = few;
@@ -119,13 +123,13 @@ module _ (words : List ℕ) (n : ℕ) (bytes : List ℕ) (m : ℕ) where
       (λ e. let (hn, hm, x) = tested-draft (true-T e) in of-draft (says t) hn hm x)
       (λ e. of-none)
 
-  well : (d : Node) → checkedAs (check d) .number ≡ 0 → WellFormed d
-  unfolding checkedAs WellFormed
-  well d = go (check d) refl
+  well : (d : Node) → Document d → checkedAs (check d) .number ≡ 0 → WellFormed d
+  unfolding checkedAs
+  well d doc = go (check d) refl (check-decides d doc)
     where
-      go : (c : Check) → check d ≡ c → checkedAs c .number ≡ 0 → c ≡ sound
-      go sound e z = refl
-      go (unsound i j) e z = absurd (omega (arith, check-number d i j e))
+      go : (c : Check) → check d ≡ c → Decides d c → checkedAs c .number ≡ 0 → WellFormed d
+      go sound e a z = a
+      go (unsound i j) e a z = absurd (omega (arith, check-number d i j e))
 
   -- A check that answers 0 is of a well-formed document.
   pub sound-table : checking words n bytes m .number ≡ 0
@@ -133,16 +137,16 @@ module _ (words : List ℕ) (n : ℕ) (bytes : List ℕ) (m : ℕ) where
   sound-table z = go (checking words n bytes m) checked-of z
     where
       go : (c : Checked) → CheckedOf words n bytes m c → c .number ≡ 0 → (recordLength * n ≤ length words) × (m ≤ length bytes) × (d : Node) × IsTableOf d w b
-      go c (of-draft d hn hm x) z = (hn, hm, d, record { draft = x; well-formed = well d z })
+      go c (of-draft d hn hm x) z = (hn, hm, d, record { draft = x; well-formed = well d (x .document) z })
       go c of-none z = absurd (omega arith)
 
   module _ (out : List ℕ) where
     -- Given the table of a well-formed document, printing writes the document's canonical spelling.
     pub prints : (d : Node) → recordLength * n ≤ length words → m ≤ length bytes → IsTableOf d w b → printing words n bytes m out ≡ written (canonical d) out
-    unfolding printing checkedAs WellFormed
+    unfolding printing checkedAs
     prints d hn hm x =
         let said : says (layout d) ≡ d = laid-out d (x .draft .document) .1 in
-        rw (checks d hn hm (x .draft), x .well-formed, tree-is d hn (x .draft), said)
+        rw (checks d hn hm (x .draft), well-formed-check d (x .draft .document) (x .well-formed), tree-is d hn (x .draft), said)
 
     -- Given no such table, it answers 20.
     pub refuses : (checking words n bytes m .number ≡ 0 → ⊥) → printing words n bytes m out ≡ record { number = 20; length = 0; out = out }

@@ -1,25 +1,28 @@
--- A document is well-formed just where the plain statements of `specs/Prose.antt` hold, and the node answered is the first that breaks them.
--- Assumes nothing.
-use Prim.Native.Nat.{ℕ, zero, suc, _+_, _≤_, _<_}
+-- Ids, links and footnote-refs: each search finds the first node that has the fault 16, 17 or 18, by the numbers of nodes; and no node has it just where the
+-- statements of `specs/Prose.antt` hold. Assumes nothing.
+use Prim.Native.Nat.{ℕ, _<_}
 use mathlib.Core.Path.{_≡_, _∙_, refl, sym, ap, subst}
 use mathlib.Core.Bool.{Bool, true, false, not, cond, _&&_, _||_}
 use mathlib.Core.Logic.{_⊎_, inl, inr}
-use mathlib.Core.List.{List, [], _∷_, _++_, map, append-nil, List·Memᴰ, List·Memᴰ·head, List·Memᴰ·tail, List·Memᴰ·not-nil, List·Memᴰ·cases-cons, List·Memᴰ·append-cases, List·Memᴰ·eq-of-singleton, Memᴰ·append-left, Memᴰ·append-right}
+use mathlib.Core.List.{List, [], _∷_, _++_, append-nil, List·Memᴰ, List·Memᴰ·head, List·Memᴰ·tail, List·Memᴰ·not-nil, List·Memᴰ·cases-cons, List·Memᴰ·append-cases, List·Memᴰ·eq-of-singleton, Memᴰ·append-left, Memᴰ·append-right, Memᴰ·map, Memᴰ·of-map}
 use native.Mathlib.Omega.{arith}
 use lib.Dec.{T, eqb, eqb→eq, eqb-refl}
 use lib.Seq.{append-snoc}
-use borrow.Author.Tests.{eqb-true, eq-eqb, not-false}
-use Rattle.laws.proofs.Booleans.{cond-case, bool-case, both, both-true, or-true, or-left, or-right, true-T, T-true, not-true, false-not-T}
+use borrow.Author.Tests.{eq-eqb}
+use Rattle.laws.proofs.Booleans.{cond-case, bool-case, both, both-true, or-true, or-left, or-right, true-T, T-true, not-true, not-T-false, false-not-T}
 use Rattle.elements.specs.Bytes.{same}
 use Rattle.elements.specs.Class as Class
-use Rattle.document.specs.Document.{Node, node, Nodes, childless, child}
+use Rattle.document.specs.Document.{Node, missing}
 use Rattle.document.specs.Value.{nonEmpty}
 use Rattle.document.specs.Table.{count}
-use Rattle.document.specs.WellFormed.{First, nowhere, at-node, orElse, childCount, Cells, any-number, exactly, cellsIn, cellsBelow, differs, badRow, badRowAmong, Entry, entries, hasId, isAmong, repeatedId, idsWhere, unknownTarget, unknownLink, unknownFootnote, Check, sound, unsound, checkedBy, check, WellFormed}
-use Rattle.document.specs.Prose.{nodeKind, nodeChildren, In, InSome, RowAt, RowAmong, RowsMatch, IdsDifferAmong, HasIdAmong, IdsDiffer, LinksFound, RefsFound, Prose}
+use Rattle.document.specs.Check.{First, nowhere, at-node, Entry, entries, hasId, isAmong, repeatedId, idsWhere, unknownTarget, unknownLink, unknownFootnote}
+use Rattle.document.specs.Visits.{nodeKind, nodeKey, Visit, visits, visitsOf}
+use Rattle.document.specs.WellFormed.{NodeAt, HasId, RepeatedId, UnknownLink, UnknownFootnote, None, FirstSuch}
+use Rattle.document.specs.Prose.{IdsDifferAmong, HasIdAmong, IdsDiffer, LinksFound, RefsFound}
 use Rattle.elements.proofs.Same.{same-equal}
-use Rattle.document.proofs.Records.{upFrom, entry-numbers}
-use Rattle.document.proofs.BadRow.{rowEntries, FirstBad, BadAnswer, bad-row-answer, BadRowAt, first-bad-row}
+use Rattle.document.proofs.Counted.{Counted, counted, one-number, earlier-less, less-earlier}
+use Rattle.document.proofs.Searches.{Finds, finds-same, firstOf, FirstIn, FirstAnswer, first-answer, test-finds}
+use Rattle.document.proofs.Records.{entryOf, entries-visits, entry-numbers}
 
 -- A string is the same as itself.
 pub same-refl : (xs : List ℕ) → T (same xs xs)
@@ -45,72 +48,6 @@ member-among s (u ∷ ts) m = go (List·Memᴰ·cases-cons m) (member-among s ts
     go : (s ≡ u) ⊎ List·Memᴰ s ts → (List·Memᴰ s ts → T (isAmong s ts)) → T (same s u || isAmong s ts)
     go (inl e) below = or-left (same s u) (isAmong s ts) (rw (← e) (same-refl s))
     go (inr h) below = or-right (same s u) (isAmong s ts) (below h)
-
--- The first entry of kind k whose target is none of the ids, with its number; those before have theirs among the ids.
-pub record FirstUnknown (k : ℕ) (ids : List (List ℕ)) (es : List Entry) (i : ℕ) : Type 0 where
-  pub before : List Entry
-  pub after : List Entry
-  pub entry : Entry
-  pub split : es ≡ before ++ entry ∷ after
-  pub number-is : entry .number ≡ i
-  pub kind-is : entry .kind ≡ k
-  pub unknown : List·Memᴰ (entry .key) ids → ⊥
-  pub known-before : (e : Entry) → List·Memᴰ e before → e .kind ≡ k → List·Memᴰ (e .key) ids
-
--- What an answer of the search for an unknown target says.
-abbrev pub TargetAnswer : ℕ → List (List ℕ) → List Entry → First → Type 0
-TargetAnswer k ids es nowhere = (e : Entry) → List·Memᴰ e es → e .kind ≡ k → List·Memᴰ (e .key) ids
-TargetAnswer k ids es (at-node i) = FirstUnknown k ids es i
-
--- An entry that fails the test has its target among the ids, or is of another kind.
-passed : (k : ℕ) (ids : List (List ℕ)) (e : Entry) → eqb (e .kind) k && not (isAmong (e .key) ids) ≡ false → e .kind ≡ k → List·Memᴰ (e .key) ids
-passed k ids e f h =
-    bool-case (isAmong (e .key) ids) (λ t. among-member (e .key) ids (true-T t))
-    (λ u. absurd (false-not-T f (both-true (eqb (e .kind) k) (not (isAmong (e .key) ids)) (true-T (eq-eqb _ _ h)) (rw u tt))))
-
-target-later : (k : ℕ) (ids : List (List ℕ)) (e : Entry) (es : List Entry) → (e .kind ≡ k → List·Memᴰ (e .key) ids)
-    → (f : First) → TargetAnswer k ids es f → TargetAnswer k ids (e ∷ es) f
-target-later k ids e es known nowhere a = λ e′ m. go e′ (List·Memᴰ·cases-cons m)
-  where
-    go : (e′ : Entry) → (e′ ≡ e) ⊎ List·Memᴰ e′ es → e′ .kind ≡ k → List·Memᴰ (e′ .key) ids
-    go e′ (inl q) = rw q known
-    go e′ (inr m) = a e′ m
-target-later k ids e es known (at-node i) a =
-    record {
-      before = e ∷ a .before;
-      after = a .after;
-      entry = a .entry;
-      split = ap (λ (l : List Entry). e ∷ l) (a .split);
-      number-is = a .number-is;
-      kind-is = a .kind-is;
-      unknown = a .unknown;
-      known-before = λ e′ m. go e′ (List·Memᴰ·cases-cons m);
-    }
-  where
-    go : (e′ : Entry) → (e′ ≡ e) ⊎ List·Memᴰ e′ (a .before) → e′ .kind ≡ k → List·Memᴰ (e′ .key) ids
-    go e′ (inl q) = rw q known
-    go e′ (inr m) = a .known-before e′ m
-
-target-answer : (k : ℕ) (ids : List (List ℕ)) (es : List Entry) → TargetAnswer k ids es (unknownTarget k ids es)
-unfolding unknownTarget
-target-answer k ids [] = λ e m. absurd (List·Memᴰ·not-nil m)
-target-answer k ids (e ∷ es) =
-    cond-case (TargetAnswer k ids (e ∷ es)) (eqb (e .kind) k && not (isAmong (e .key) ids)) found
-    (λ f. target-later k ids e es (passed k ids e f) (unknownTarget k ids es) (target-answer k ids es))
-  where
-    found : eqb (e .kind) k && not (isAmong (e .key) ids) ≡ true → FirstUnknown k ids (e ∷ es) (e .number)
-    found t =
-        let b = both (eqb (e .kind) k) (not (isAmong (e .key) ids)) (true-T t) in
-        record {
-          before = [];
-          after = es;
-          entry = e;
-          split = refl;
-          number-is = refl;
-          kind-is = eqb→eq _ _ (b .0);
-          unknown = λ m. false-not-T {b = isAmong (e .key) ids} (not-true _ (T-true _ (b .1))) (member-among (e .key) ids m);
-          known-before = λ e′ m. absurd (List·Memᴰ·not-nil m);
-        }
 
 -- The ids gathered are those of the blocks of the kinds that p names.
 gathered : (p : ℕ → Bool) (es : List Entry) (s : List ℕ) → List·Memᴰ s (idsWhere p es) → (b : Entry) × T (p (b .kind)) × HasIdAmong es s b
@@ -158,6 +95,9 @@ pub record FirstRepeated (es : List Entry) (i : ℕ) : Type 0 where
   pub earlier : Entry
   pub on-earlier : HasIdAmong before (block .key) earlier
   pub differ-before : IdsDifferAmong before
+
+pub block-stands : (es : List Entry) (i : ℕ) (r : FirstRepeated es i) → List·Memᴰ (r .block) es
+block-stands es i r = rw (r .split) (Memᴰ·append-right (r .before) (List·Memᴰ·head refl))
 
 abbrev pub RepeatAnswer : List Entry → First → Type 0
 RepeatAnswer es nowhere = IdsDifferAmong es
@@ -247,58 +187,6 @@ repeat-answer gone (e ∷ es) seen c =
           differ-before = c .differ;
         }
 
--- The entries are numbered from i on, one by one.
-abbrev Counted : ℕ → List Entry → Type 0
-Counted i [] = Unit {0}
-Counted i (e ∷ es) = (e .number ≡ i) × Counted (suc i) es
-
-counted : (es : List Entry) (i n : ℕ) → map (λ (e : Entry). e .number) es ≡ upFrom i n → Counted i es
-unfolding upFrom
-counted [] i n q = tt
-counted (e ∷ es) i zero q = absurd (let z : _≡_ {A = ℕ} 0 1 = cc in omega arith)
-counted (e ∷ es) i (suc n) q = (cc, counted es (suc i) n (cc))
-
-at-least : (es : List Entry) (i : ℕ) (f : Entry) → Counted i es → List·Memᴰ f es → i ≤ f .number
-at-least [] i f c m = absurd (List·Memᴰ·not-nil m)
-at-least (e ∷ es) i f (q, c) m = go (at-least es (suc i) f c) (List·Memᴰ·cases-cons m)
-  where
-    go : (List·Memᴰ f es → suc i ≤ f .number) → (f ≡ e) ⊎ List·Memᴰ f es → i ≤ f .number
-    go below (inl x) = rw x (omega arith)
-    go below (inr x) = omega (arith, below x)
-
--- Two entries of one number are one entry.
-one-number : (es : List Entry) (i : ℕ) (e f : Entry) → Counted i es → List·Memᴰ e es → List·Memᴰ f es → e .number ≡ f .number → e ≡ f
-one-number [] i e f c m m′ h = absurd (List·Memᴰ·not-nil m)
-one-number (a ∷ es) i e f (q, c) m m′ h = go (one-number es (suc i) e f c) (List·Memᴰ·cases-cons m) (List·Memᴰ·cases-cons m′)
-  where
-    go : (List·Memᴰ e es → List·Memᴰ f es → e .number ≡ f .number → e ≡ f) → (e ≡ a) ⊎ List·Memᴰ e es → (f ≡ a) ⊎ List·Memᴰ f es → e ≡ f
-    go below (inl x) (inl y) = x ∙ sym y
-    go below (inl x) (inr y) =
-        let l : suc i ≤ f .number = at-least es (suc i) f c y in
-        let z : e .number ≡ i = ap (λ (v : Entry). v .number) x ∙ q in
-        absurd (omega arith)
-    go below (inr x) (inl y) =
-        let l : suc i ≤ e .number = at-least es (suc i) e c x in
-        let z : f .number ≡ i = ap (λ (v : Entry). v .number) y ∙ q in
-        absurd (omega arith)
-    go below (inr x) (inr y) = below x y h
-
--- An earlier entry has a smaller number.
-earlier-less : (before : List Entry) (i : ℕ) (e f : Entry) (after : List Entry) → Counted i (before ++ e ∷ after) → List·Memᴰ f before
-    → f .number < e .number
-earlier-less [] i e f after c m = absurd (List·Memᴰ·not-nil m)
-earlier-less (a ∷ before) i e f after (q, c) m = go (earlier-less before (suc i) e f after c) (List·Memᴰ·cases-cons m)
-  where
-    go : (List·Memᴰ f before → f .number < e .number) → (f ≡ a) ⊎ List·Memᴰ f before → f .number < e .number
-    go below (inl x) =
-        let l : suc i ≤ e .number = at-least (before ++ e ∷ after) (suc i) e c (Memᴰ·append-right before (List·Memᴰ·head refl)) in
-        let z : f .number ≡ i = ap (λ (v : Entry). v .number) x ∙ q in
-        omega arith
-    go below (inr x) = below x
-
-entries-counted : (d : Node) → Counted 0 (entries 0 d)
-entries-counted d = counted (entries 0 d) 0 (count d) (entry-numbers d 0)
-
 -- 16 is answered just where two blocks have one id: the first of them that comes after another.
 pub repeated-answer : (d : Node) → RepeatAnswer (entries 0 d) (repeatedId [] (entries 0 d))
 repeated-answer d =
@@ -308,189 +196,262 @@ repeated-answer d =
     none : IdsDifferAmong []
     none = unfold IdsDifferAmong in λ e f m. absurd (List·Memᴰ·not-nil m)
 
-not-repeated : (d : Node) (i : ℕ) → IdsDiffer d → FirstRepeated (entries 0 d) i → ⊥
-unfolding IdsDiffer IdsDifferAmong
-not-repeated d i differ r =
-    let c : Counted 0 (r .before ++ r .block ∷ r .after) = subst (λ (l : List Entry). Counted 0 l) (r .split) (entries-counted d) in
-    let h = r .on-earlier in
-    let l : r .earlier .number < r .block .number = earlier-less (r .before) 0 (r .block) (r .earlier) (r .after) c (h .stands) in
-    let m : List·Memᴰ (r .earlier) (entries 0 d) = rw (r .split) (Memᴰ·append-left (r .block ∷ r .after) (h .stands)) in
-    let m′ : List·Memᴰ (r .block) (entries 0 d) = rw (r .split) (Memᴰ·append-right (r .before) (List·Memᴰ·head refl)) in
-    let q : r .earlier .number ≡ r .block .number = differ (r .earlier) (r .block) m m′ (h .has-id) (r .has-id) (h .id-is) in
-    omega arith
+abbrev entryNumber : Entry → ℕ
+entryNumber e = e .number
 
-abbrev pub LinkAnswer : Node → First → Type 0
-LinkAnswer d = TargetAnswer Class.link (idsWhere Class.isBlock (entries 0 d)) (entries 0 d)
+pub entries-counted : (d : Node) → Counted entryNumber 0 (entries 0 d)
+entries-counted d = counted entryNumber (entries 0 d) 0 (count d) (entry-numbers d 0)
 
--- 17 is answered just where a link's target is on no block: the first such link.
-pub link-answer : (d : Node) → LinkAnswer d (unknownLink (entries 0 d))
-unfolding unknownLink
-link-answer d = target-answer Class.link (idsWhere Class.isBlock (entries 0 d)) (entries 0 d)
+-- The entries that have an id are the blocks that have it, by number.
+module _ (d : Node) where
+  visit-entry : (v : Visit) → List·Memᴰ v (visitsOf d) → List·Memᴰ (entryOf v) (entries 0 d)
+  unfolding visitsOf
+  visit-entry v m = rw (entries-visits d 0 missing 0) (Memᴰ·map entryOf m)
 
-abbrev pub RefAnswer : Node → First → Type 0
-RefAnswer d = TargetAnswer Class.footnote-ref (idsWhere (eqb Class.footnote) (entries 0 d)) (entries 0 d)
+  pub entry-visit : (e : Entry) → List·Memᴰ e (entries 0 d) → (v : Visit) × List·Memᴰ v (visitsOf d) × (entryOf v ≡ e)
+  unfolding visitsOf
+  entry-visit e m = Memᴰ·of-map entryOf (visits 0 missing 0 d) (rw (entries-visits d 0 missing 0) at m)
 
--- 18 is answered just where a footnote-ref's target is on no footnote: the first such footnote-ref.
-pub ref-answer : (d : Node) → RefAnswer d (unknownFootnote (entries 0 d))
-unfolding unknownFootnote
-ref-answer d = target-answer Class.footnote-ref (idsWhere (eqb Class.footnote) (entries 0 d)) (entries 0 d)
+  entry-id : (s : List ℕ) (b : Entry) → HasIdAmong (entries 0 d) s b → (v : Visit) × HasId d s (b .number) v × (entryOf v ≡ b)
+  unfolding entryOf hasId
+  entry-id s b h =
+      let (v, m, e) = entry-visit b (h .stands) in
+      let (k, n) = both (Class.isBlock (b .kind)) (nonEmpty (b .key)) (h .has-id) in (
+        v,
+        record {
+          there = m;
+          number-is = ap (λ (z : Entry). z .number) e;
+          is-block = rw (ap (λ (z : Entry). z .kind) e) k;
+          present = rw (h .id-is) at n;
+          id-is = ap (λ (z : Entry). z .key) e ∙ h .id-is;
+        },
+        e,
+      )
 
--- The row r may stand where rows must have c cells.
-abbrev Fits : Cells → Node → Type 0
-Fits c r = differs c (childCount (nodeChildren r)) ≡ false
+  id-entry : (s : List ℕ) (i : ℕ) (v : Visit) → HasId d s i v → HasIdAmong (entries 0 d) s (entryOf v)
+  unfolding entryOf hasId
+  id-entry s i v h =
+      record {
+        stands = visit-entry v (h .there);
+        has-id = both-true (Class.isBlock (nodeKind (v .visited))) (nonEmpty (nodeKey (v .visited))) (h .is-block) (rw (h .id-is) (h .present));
+        id-is = h .id-is;
+      }
 
--- In every table of d every row fits.
-abbrev TablesFit : (Node → Type 0) → Type 0
-TablesFit Inside = (t r : Node) → Inside t → nodeKind t ≡ Class.table → RowAmong r (nodeChildren t) → Fits (cellsIn (nodeChildren t)) r
+  -- Where ids differ among entries, no block of them has the id of an earlier one of them.
+  differ-none : (es : List Entry) → IdsDifferAmong es → (i : ℕ) (a : RepeatedId d i) → List·Memᴰ (entryOf (a .block)) es
+      → List·Memᴰ (entryOf (a .other)) es → ⊥
+  unfolding IdsDifferAmong entryOf
+  differ-none es differ i a m n =
+      let h = id-entry (a .id) i (a .block) (a .has-id) in
+      let g = id-entry (a .id) (a .earlier) (a .other) (a .also-has) in
+      let q : a .block .number ≡ a .other .number =
+      differ (entryOf (a .block)) (entryOf (a .other)) m n (h .has-id) (g .has-id) (h .id-is ∙ sym (g .id-is)) in
+      omega (arith, a .has-id .number-is, a .also-has .number-is, a .before)
 
--- The rows that a surrounding table with c cells binds fit, and so do those of the tables inside.
-abbrev Matches : Cells → Node → Type 0
-Matches c n = ((r : Node) → RowAt r n → Fits c r) × TablesFit (λ t. In t n)
-
-abbrev MatchesAll : Cells → Nodes → Type 0
-MatchesAll c ns = ((r : Node) → RowAmong r ns → Fits c r) × TablesFit (λ t. InSome t ns)
-
-module _ (c : Cells) (k : ℕ) (key type text : List ℕ) (w h : ℕ) (ns : Nodes) where
-  abbrev whole : Node
-  whole = node k key type text w h ns
-
-  -- A node's own rows and those below it.
-  matches-node : eqb k Class.row && differs c (childCount ns) ≡ false → MatchesAll (cellsBelow c k ns) ns → Matches c whole
-  unfolding RowAt In cellsBelow nodeKind nodeChildren
-  matches-node f (fit, tables) = (λ r. own r, λ t r. below t r)
+  -- The search decides fault 16, and names the first block that has it.
+  pub repeated-found : Finds (RepeatedId d) (repeatedId [] (entries 0 d))
+  repeated-found = from (repeatedId [] (entries 0 d)) (repeated-answer d)
     where
-      own : (r : Node) → ((k ≡ Class.row) × (r ≡ whole)) ⊎ ((k ≡ Class.body) × RowAmong r ns) → Fits c r
-      own r (inl (q, e)) = rw e (rw q at f)
-      own r (inr (q, m)) = rw q at (fit r m)
+      first : (i : ℕ) → FirstRepeated (entries 0 d) i → FirstSuch (RepeatedId d) i
+      first i r =
+          let (v, hv, ev) = entry-id (r .block .key) (r .block) (record { stands = block-stands (entries 0 d) i r; has-id = r .has-id; id-is = refl }) in
+          let (u, hu, eu) = entry-id (r .block .key) (r .earlier) (record { stands = stood; has-id = r .on-earlier .has-id; id-is = r .on-earlier .id-is }) in
+          record {
+            has =
+                record {
+                  id = r .block .key;
+                  block = v;
+                  has-id = subst (λ (n : ℕ). HasId d (r .block .key) n v) (r .number-is) hv;
+                  earlier = r .earlier .number;
+                  before = omega (arith, earlier-less entryNumber (r .before) 0 (r .block) (r .earlier) (r .after) counts (r .on-earlier .stands), r .number-is);
+                  other = u;
+                  also-has = hu;
+                };
+            none-before = λ j l a.
+                differ-none (r .before) (r .differ-before) j a
+                (back (entryOf (a .block)) (visit-entry (a .block) (a .has-id .there)) (unfold entryOf in omega (arith, l, a .has-id .number-is)))
+                (back (entryOf (a .other)) (visit-entry (a .other) (a .also-has .there)) (unfold entryOf in omega (arith, l, a .before, a .also-has .number-is)));
+          }
+        where
+          stood : List·Memᴰ (r .earlier) (entries 0 d)
+          stood = rw (r .split) (Memᴰ·append-left (r .block ∷ r .after) (r .on-earlier .stands))
 
-      below : (t r : Node) → (t ≡ whole) ⊎ InSome t ns → nodeKind t ≡ Class.table → RowAmong r (nodeChildren t) → Fits (cellsIn (nodeChildren t)) r
-      below t r (inl e) = rw e (λ q m. rw q at (fit r m))
-      below t r (inr x) = tables t r x
+          counts : Counted entryNumber 0 (r .before ++ r .block ∷ r .after)
+          counts = subst (λ (l : List Entry). Counted entryNumber 0 l) (r .split) (entries-counted d)
 
-neither : (f g : First) → orElse f g ≡ nowhere → (f ≡ nowhere) × (g ≡ nowhere)
-unfolding orElse
-neither nowhere g e = (refl, e)
-neither (at-node i) g e = (e, cc)
+          back : (e : Entry) → List·Memᴰ e (entries 0 d) → e .number < i → List·Memᴰ e (r .before)
+          back e m l = less-earlier entryNumber (r .before) 0 (r .block) e (r .after) counts (rw (r .split) at m) (omega (arith, l, r .number-is))
 
--- Where no bad row is found, all rows fit.
-mutual
-  unfolding badRow RowAt In
+      from : (f : First) → RepeatAnswer (entries 0 d) f → Finds (RepeatedId d) f
+      from nowhere a = λ i r. differ-none (entries 0 d) a i r (visit-entry (r .block) (r .has-id .there)) (visit-entry (r .other) (r .also-has .there))
+      from (at-node i) a = first i a
 
-  no-bad-row : (n : Node) (i : ℕ) (c : Cells) → badRow i c n ≡ nowhere → Matches c n
-  no-bad-row (node k key type text w h ns) i c e =
-      cond-case (λ (f : First). f ≡ nowhere → Matches c (node k key type text w h ns)) (eqb k Class.row && differs c (childCount ns))
-      (λ t q. absurd (let z : _≡_ {A = ℕ} 0 1 = cc in omega arith))
-      (λ f q. matches-node c k key type text w h ns f (no-bad-row-all ns (i + 1) (cellsBelow c k ns) q)) e
+  -- No block has it just where ids differ.
+  pub ids-differ-none : (IdsDiffer d → None (RepeatedId d)) × (None (RepeatedId d) → IdsDiffer d)
+  unfolding IdsDiffer IdsDifferAmong
+  ids-differ-none = (
+    λ differ i a. differ-none (entries 0 d) (unfold IdsDifferAmong in differ) i a (visit-entry (a .block) (a .has-id .there)) (visit-entry (a .other) (a .also-has .there)),
+    to,
+  )
+    where
+      repeats : None (RepeatedId d) → (e f : Entry) → HasIdAmong (entries 0 d) (e .key) e → HasIdAmong (entries 0 d) (e .key) f → f .number < e .number → ⊥
+      repeats none e f h g l =
+          let (v, hv, ev) = entry-id (e .key) e h in
+          let (u, hu, eu) = entry-id (e .key) f g in
+          none (e .number) (record { id = e .key; block = v; has-id = hv; earlier = f .number; before = l; other = u; also-has = hu })
 
-  no-bad-row-all : (ns : Nodes) (i : ℕ) (c : Cells) → badRowAmong i c ns ≡ nowhere → MatchesAll c ns
-  no-bad-row-all childless i c e = (λ r m. absurd m, λ t r m. absurd m)
-  no-bad-row-all (child n ns) i c e =
-      let q = neither (badRow i c n) (badRowAmong (i + count n) c ns) e in
-      let a : Matches c n = no-bad-row n i c (q .0) in
-      let b : MatchesAll c ns = no-bad-row-all ns (i + count n) c (q .1) in
-      (λ r. elim [ inl m ↦ a .0 r m | inr m ↦ b .0 r m ], λ t r. elim [ inl m ↦ a .1 t r m | inr m ↦ b .1 t r m ])
+      to : None (RepeatedId d) → (e f : Entry) → List·Memᴰ e (entries 0 d) → List·Memᴰ f (entries 0 d) → T (hasId e) → T (hasId f) → e .key ≡ f .key
+          → e .number ≡ f .number
+      to none e f m n he hf q =
+          let a : f .number < e .number → ⊥ =
+          repeats none e f (record { stands = m; has-id = he; id-is = refl }) (record { stands = n; has-id = hf; id-is = sym q }) in
+          let b : e .number < f .number → ⊥ =
+          repeats none f e (record { stands = n; has-id = hf; id-is = refl }) (record { stands = m; has-id = he; id-is = q }) in
+          omega arith
 
--- A row that fits has as many cells as the head has names.
-exactly-fits : (c : Cells) (m n : ℕ) → differs c m ≡ false → c ≡ exactly n → m ≡ n
-unfolding differs
-exactly-fits c m n f e = sym (eqb-true n m (not-false (eqb n m) (rw e at f)))
+-- A node of kind k whose target is the id of no block of the kinds that p names.
+record Unfound (d : Node) (k : ℕ) (p : ℕ → Bool) (i : ℕ) : Type 0 where
+  naming : Visit
+  at-number : NodeAt d i k naming
+  on-none : (j : ℕ) (b : Visit) → HasId d (nodeKey (naming .visited)) j b → T (p (nodeKind (b .visited))) → ⊥
 
-rows-known : (d : Node) → badRow 0 any-number d ≡ nowhere → RowsMatch d
-unfolding RowsMatch
-rows-known d q t r n x k e m =
-    exactly-fits (cellsIn (nodeChildren t)) (childCount (nodeChildren r)) n (no-bad-row d 0 any-number q .1 t r x k m) e
+module _ (d : Node) (k : ℕ) (p : ℕ → Bool) where
+  abbrev ids : List (List ℕ)
+  ids = idsWhere p (entries 0 d)
 
-row-known : (d : Node) (i : ℕ) → RowsMatch d → BadRowAt d i → ⊥
-unfolding RowsMatch
-row-known d i rows a = a .other-count (rows (a .table) (a .visit .visited) (a .names) (a .table-in) (a .is-table) (a .has-head) (a .its-row))
+  -- The test of the search, of a document's entries.
+  isUnknown : Entry → Bool
+  isUnknown e = eqb (e .kind) k && not (isAmong (e .key) ids)
 
--- What was found by a search that finds no fault.
-at-nowhere : (P : First → Type 0) (f : First) → P f → f ≡ nowhere → P nowhere
-at-nowhere P f a e = rw e at a
+  target-first : (es : List Entry) → unknownTarget k ids es ≡ firstOf entryNumber isUnknown es
+  unfolding unknownTarget firstOf isUnknown
+  target-first [] = refl
+  target-first (e ∷ es) = rw (target-first es)
 
-split-member : (es before after : List Entry) (e : Entry) → es ≡ before ++ e ∷ after → List·Memᴰ e es
-split-member es before after e q = rw q (Memᴰ·append-right before (List·Memᴰ·head refl))
+  target-answer : FirstAnswer entryNumber isUnknown (entries 0 d) (unknownTarget k ids (entries 0 d))
+  target-answer = rw (target-first (entries 0 d)) (first-answer entryNumber isUnknown (entries 0 d) 0 (entries-counted d))
+
+  unknown-unfound : (e : Entry) → List·Memᴰ e (entries 0 d) → e .kind ≡ k → isAmong (e .key) ids ≡ false → Unfound d k p (e .number)
+  unfolding entryOf
+  unknown-unfound e m q f =
+      let (v, mv, ev) = entry-visit d e m in
+      record {
+        naming = v;
+        at-number = record { there = mv; number-is = ap (λ (z : Entry). z .number) ev; kind-is = ap (λ (z : Entry). z .kind) ev ∙ q };
+        on-none = λ j b h t.
+            let g : HasId d (e .key) j b = subst (λ (s : List ℕ). HasId d s j b) (ap (λ (z : Entry). z .key) ev) h in
+            false-not-T f (member-among (e .key) ids (gathers p (entries 0 d) (e .key) (entryOf b) t (id-entry d (e .key) j b g)));
+      }
+
+  -- Where a block has the id, the target is found.
+  known : (i : ℕ) (a : Unfound d k p i) (b : Entry) → T (p (b .kind)) → HasIdAmong (entries 0 d) (nodeKey (a .naming .visited)) b → ⊥
+  unfolding entryOf
+  known i a b t h =
+      let (u, hu, eu) = entry-id d (nodeKey (a .naming .visited)) b h in
+      a .on-none (b .number) u hu (subst (λ (n : ℕ). T (p n)) (ap (λ (z : Entry). z .kind) (sym eu)) t)
+
+  unfound-unknown : (i : ℕ) → Unfound d k p i → (e : Entry) × List·Memᴰ e (entries 0 d) × (e .number ≡ i) × (isUnknown e ≡ true)
+  unfolding entryOf isUnknown
+  unfound-unknown i a =
+      let v : Visit = a .naming in
+      let out : isAmong (nodeKey (v .visited)) ids ≡ false =
+      not-T-false _ (λ t.
+      let (b, q, h) = gathered p (entries 0 d) (nodeKey (v .visited)) (among-member _ ids t) in
+      known i a b q h) in
+      (entryOf v, visit-entry d v (a .at-number .there), a .at-number .number-is, rw (eq-eqb _ _ (a .at-number .kind-is), out))
+
+  target-found : Finds (Unfound d k p) (unknownTarget k ids (entries 0 d))
+  unfolding isUnknown
+  target-found =
+      test-finds entryNumber isUnknown (entries 0 d) (Unfound d k p) (λ e m t.
+      let (q, u) = both (eqb (e .kind) k) (not (isAmong (e .key) ids)) (true-T t) in
+      unknown-unfound e m (eqb→eq _ _ q) (not-true _ (T-true _ u))) unfound-unknown (unknownTarget k ids (entries 0 d)) target-answer
+
+  -- The search names an entry of the document.
+  pub target-stands : (i : ℕ) → unknownTarget k ids (entries 0 d) ≡ at-node i → (e : Entry) × List·Memᴰ e (entries 0 d) × (e .number ≡ i)
+  target-stands i q =
+      let a : FirstIn entryNumber isUnknown (entries 0 d) i = subst (FirstAnswer entryNumber isUnknown (entries 0 d)) q target-answer in
+      (a .found, a .stands, a .number-is)
+
+  -- Each target is found just where no node has such a one.
+  abbrev TargetsFound : Type 0
+  TargetsFound = (e : Entry) → List·Memᴰ e (entries 0 d) → e .kind ≡ k → (b : Entry) × T (p (b .kind)) × HasIdAmong (entries 0 d) (e .key) b
+
+  targets-none : (TargetsFound → None (Unfound d k p)) × (None (Unfound d k p) → TargetsFound)
+  unfolding entryOf
+  targets-none = (
+    λ found i a.
+        let (b, t, h) = found (entryOf (a .naming)) (visit-entry d (a .naming) (a .at-number .there)) (a .at-number .kind-is) in
+        known i a b t h,
+    λ none e m q.
+        bool-case (isAmong (e .key) ids) (λ t. gathered p (entries 0 d) (e .key) (among-member (e .key) ids (true-T t)))
+        (λ f. absurd (none (e .number) (unknown-unfound e m q f))),
+  )
 
 module _ (d : Node) where
-  links-known : LinkAnswer d nowhere → LinksFound d
-  unfolding LinksFound
-  links-known a e m k =
-      let (b, q, h) = gathered Class.isBlock (entries 0 d) (e .key) (a e m k) in
-      (b, h)
+  link-unfound : (i : ℕ) → UnknownLink d i → Unfound d Class.link Class.isBlock i
+  link-unfound i a = record { naming = a .link; at-number = a .is-link; on-none = λ j b h t. a .on-none j b h }
 
-  link-known : (i : ℕ) → LinksFound d → LinkAnswer d (at-node i) → ⊥
+  unfound-link : (i : ℕ) → Unfound d Class.link Class.isBlock i → UnknownLink d i
+  unfound-link i a = record { link = a .naming; is-link = a .at-number; on-none = λ j b h. a .on-none j b h (h .is-block) }
+
+  -- The search decides fault 17, and names the first link that has it.
+  pub link-found : Finds (UnknownLink d) (unknownLink (entries 0 d))
+  unfolding unknownLink
+  link-found =
+      finds-same (Unfound d Class.link Class.isBlock) (UnknownLink d) unfound-link link-unfound (unknownLink (entries 0 d))
+      (target-found d Class.link Class.isBlock)
+
+  -- No link has it just where every link's target is the id of a block.
+  pub links-found-none : (LinksFound d → None (UnknownLink d)) × (None (UnknownLink d) → LinksFound d)
   unfolding LinksFound hasId
-  link-known i found a =
-      let (b, h) = found (a .entry) (split-member (entries 0 d) (a .before) (a .after) (a .entry) (a .split)) (a .kind-is) in
-      a .unknown (gathers Class.isBlock (entries 0 d) (a .entry .key) b (both (Class.isBlock (b .kind)) (nonEmpty (b .key)) (h .has-id) .0) h)
+  links-found-none = (
+    λ found i a. targets-none d Class.link Class.isBlock .0 (λ e m q.
+        let (b, h) = found e m q in
+        (b, both (Class.isBlock (b .kind)) (nonEmpty (b .key)) (h .has-id) .0, h)) i (link-unfound i a),
+    λ none e m q.
+        let (b, t, h) = targets-none d Class.link Class.isBlock .1 (λ i a. none i (unfound-link i a)) e m q in
+        (b, h),
+  )
 
-  refs-known : RefAnswer d nowhere → RefsFound d
+  footnote-unfound : (i : ℕ) → UnknownFootnote d i → Unfound d Class.footnote-ref (eqb Class.footnote) i
+  footnote-unfound i a =
+      record {
+        naming = a .reference;
+        at-number = a .is-reference;
+        on-none = λ j b h t. a .on-none j b h (omega (arith, eqb→eq Class.footnote (nodeKind (b .visited)) t));
+      }
+
+  unfound-footnote : (i : ℕ) → Unfound d Class.footnote-ref (eqb Class.footnote) i → UnknownFootnote d i
+  unfound-footnote i a =
+      record {
+        reference = a .naming;
+        is-reference = a .at-number;
+        on-none = λ j b h e. a .on-none j b h (true-T (eq-eqb Class.footnote (nodeKind (b .visited)) (omega (arith, e))));
+      }
+
+  -- The search decides fault 18, and names the first footnote-ref that has it.
+  pub footnote-found : Finds (UnknownFootnote d) (unknownFootnote (entries 0 d))
+  unfolding unknownFootnote
+  footnote-found =
+      finds-same (Unfound d Class.footnote-ref (eqb Class.footnote)) (UnknownFootnote d) unfound-footnote footnote-unfound (unknownFootnote (entries 0 d))
+      (target-found d Class.footnote-ref (eqb Class.footnote))
+
+  -- No footnote-ref has it just where every one's target is the id of a footnote.
+  pub refs-found-none : (RefsFound d → None (UnknownFootnote d)) × (None (UnknownFootnote d) → RefsFound d)
   unfolding RefsFound
-  refs-known a e m k =
-      let (b, q, h) = gathered (eqb Class.footnote) (entries 0 d) (e .key) (a e m k) in
-      (b, sym (eqb→eq Class.footnote (b .kind) q), h)
-
-  ref-known : (i : ℕ) → RefsFound d → RefAnswer d (at-node i) → ⊥
-  unfolding RefsFound
-  ref-known i found a =
-      let (b, q, h) = found (a .entry) (split-member (entries 0 d) (a .before) (a .after) (a .entry) (a .split)) (a .kind-is) in
-      a .unknown (gathers (eqb Class.footnote) (entries 0 d) (a .entry .key) b (true-T (eq-eqb Class.footnote (b .kind) (sym q))) h)
-
-  none-repeated : RepeatAnswer (entries 0 d) nowhere → IdsDiffer d
-  unfolding IdsDiffer
-  none-repeated a = a
-
--- What the number n, with node i, says of a document: the fault of that number, and that it has none of a smaller number.
-pub data Broken (d : Node) (n i : ℕ) : Type 0 where
-  bad-row : n ≡ 15 → FirstBad (rowEntries 0 any-number d) i → BadRowAt d i → Broken d n i
-  repeated-id : n ≡ 16 → RowsMatch d → FirstRepeated (entries 0 d) i → Broken d n i
-  unknown-link : n ≡ 17 → RowsMatch d → IdsDiffer d → LinkAnswer d (at-node i) → Broken d n i
-  unknown-ref : n ≡ 18 → RowsMatch d → IdsDiffer d → LinksFound d → RefAnswer d (at-node i) → Broken d n i
-
-abbrev pub CheckAnswer : Node → Check → Type 0
-CheckAnswer d sound = Prose d
-CheckAnswer d (unsound n i) = Broken d n i
-
--- A search first, and what the later ones answer where it finds nothing.
-check-by : (P : Check → Type 0) (n : ℕ) (f : First) (next : Check) → ((i : ℕ) → f ≡ at-node i → P (unsound n i)) → (f ≡ nowhere → P next)
-    → P (checkedBy n f next)
-unfolding checkedBy
-check-by P n nowhere next here on = on refl
-check-by P n (at-node i) next here on = here i refl
-
--- The check answers that the document is sound just where the plain statements hold, or else the first fault and its node.
-pub check-answer : (d : Node) → CheckAnswer d (check d)
-unfolding check
-check-answer d =
-    check-by (CheckAnswer d) 15 (badRow 0 any-number d) _ (λ i e.
-    let a : FirstBad (rowEntries 0 any-number d) i = subst (BadAnswer (rowEntries 0 any-number d)) e (bad-row-answer d) in
-    bad-row refl a (first-bad-row d i a)) (λ e.
-    let rows : RowsMatch d = rows-known d e in
-    check-by (CheckAnswer d) 16 (repeatedId [] (entries 0 d)) _ (λ i e. repeated-id refl rows (subst (RepeatAnswer (entries 0 d)) e (repeated-answer d))) (λ e.
-    let ids : IdsDiffer d = none-repeated d (at-nowhere (RepeatAnswer (entries 0 d)) _ (repeated-answer d) e) in
-    check-by (CheckAnswer d) 17 (unknownLink (entries 0 d)) _ (λ i e. unknown-link refl rows ids (subst (LinkAnswer d) e (link-answer d))) (λ e.
-    let links : LinksFound d = links-known d (at-nowhere (LinkAnswer d) _ (link-answer d) e) in
-    check-by (CheckAnswer d) 18 (unknownFootnote (entries 0 d)) _ (λ i e. unknown-ref refl rows ids links (subst (RefAnswer d) e (ref-answer d))) (λ e.
-    record { rows-match = rows; ids-differ = ids; links-found = links; refs-found = refs-known d (at-nowhere (RefAnswer d) _ (ref-answer d) e) }))))
-
-not-broken : (d : Node) (n i : ℕ) → Broken d n i → Prose d → ⊥
-not-broken d n i (bad-row e f h) p = row-known d i (p .rows-match) h
-not-broken d n i (repeated-id e r h) p = not-repeated d i (p .ids-differ) h
-not-broken d n i (unknown-link e r s h) p = link-known d i (p .links-found) h
-not-broken d n i (unknown-ref e r s l h) p = ref-known d i (p .refs-found) h
-
--- A document is well-formed just where its rows match, its ids differ, and its links and footnote-refs find their blocks.
-pub well-formed-prose : (d : Node) → (WellFormed d → Prose d) × (Prose d → WellFormed d)
-unfolding WellFormed
-well-formed-prose d = (λ e. subst (CheckAnswer d) e (check-answer d), from (check d) (check-answer d))
-  where
-    from : (c : Check) → CheckAnswer d c → Prose d → c ≡ sound
-    from sound a p = refl
-    from (unsound n i) a p = absurd (not-broken d n i a p)
+  refs-found-none = (
+    λ found i a. targets-none d Class.footnote-ref (eqb Class.footnote) .0 (λ e m q.
+        let (b, k, h) = found e m q in
+        (b, true-T (eq-eqb Class.footnote (b .kind) (sym k)), h)) i (footnote-unfound i a),
+    λ none e m q.
+        let (b, t, h) = targets-none d Class.footnote-ref (eqb Class.footnote) .1 (λ i a. none i (unfound-footnote i a)) e m q in
+        (b, sym (eqb→eq Class.footnote (b .kind) t), h),
+  )
 
 -- A number names at most one entry of a document.
 pub number-names-one : (d : Node) (e f : Entry) → List·Memᴰ e (entries 0 d) → List·Memᴰ f (entries 0 d) → e .number ≡ f .number → e ≡ f
-number-names-one d e f m m′ q = one-number (entries 0 d) 0 e f (entries-counted d) m m′ q
+number-names-one d e f m m′ q = one-number entryNumber (entries 0 d) 0 e f (entries-counted d) m m′ q
 
 -- Where ids differ, an id names at most one block: so a link's target, and a footnote-ref's, is on exactly one.
 pub exactly-one-block : (d : Node) → IdsDiffer d → (s : List ℕ) (b b′ : Entry) → HasIdAmong (entries 0 d) s b → HasIdAmong (entries 0 d) s b′ → b ≡ b′

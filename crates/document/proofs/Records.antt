@@ -1,6 +1,6 @@
 -- The laws of the table and the pool: the nodes in document order, each with its number, its parent's number and where its strings begin.
 -- Assumes nothing.
-use Prim.Native.Nat.{ℕ, zero, suc, _+_, _*_}
+use Prim.Native.Nat.{ℕ, zero, suc, _+_, _*_, _≤_, _<_}
 use mathlib.Core.Path.{_≡_, _∙_, refl, sym, ap, subst}
 use mathlib.Core.Logic.{_⊎_, inl, inr}
 use mathlib.Core.List.{List, [], _∷_, _++_, map, map-map, map-append, append-assoc, append-nil, List·Memᴰ, List·Memᴰ·head, List·Memᴰ·tail, List·Memᴰ·not-nil, List·Memᴰ·cases-cons, List·Memᴰ·append-cases, Memᴰ·append-left, Memᴰ·append-right}
@@ -11,35 +11,13 @@ use lib.ListN.{length, take, drop, length-append}
 use lib.Seq.{take-at, drop-at}
 use Rattle.document.specs.Document.{Node, node, Nodes, childless, child, missing}
 use Rattle.document.specs.Table.{recordLength, count, countAll, pool, poolAll, offset, rows, rowsAll, tableOf}
-use Rattle.document.specs.WellFormed.{Entry, entries, entriesAmong}
-use Rattle.document.specs.Prose.{nodeKind, nodeKey, nodeChildren, OneOf}
-
--- The n numbers i, i + 1, i + 2, ...
-unfoldable pub upFrom : ℕ → ℕ → List ℕ
-upFrom i zero = []
-upFrom i (suc n) = i ∷ upFrom (suc i) n
+use Rattle.document.specs.Check.{Entry, entries, entriesAmong}
+use Rattle.document.specs.Visits.{nodeKind, nodeKey, nodeType, nodeText, nodeWidth, nodeHeight, Visit, visits, visitsAll, visitsOf, upFrom, endOf, typeStart, textStart, wordsOf, stringsOf, each, Spans, Holder}
 
 upFrom-append : (i m n : ℕ) → upFrom i (m + n) ≡ upFrom i m ++ upFrom (i + m) n
 unfolding upFrom
 upFrom-append i zero n = rw (zero-add n, add-zero i)
 upFrom-append i (suc m) n = rw (suc-add m n, add-suc i m) (ap (λ (l : List ℕ). i ∷ l) (upFrom-append (suc i) m n ∙ rw suc-add))
-
--- A node met in document order: its number, its parent's, and where its strings begin in the pool.
-pub record Visit : Type 0 where
-  pub number : ℕ
-  pub parent : ℕ
-  pub start : ℕ
-  pub visited : Node
-
-unfoldable mutual
-  pub visits : ℕ → ℕ → ℕ → Node → List Visit
-  visits i parent p (node k key type text w h ns) =
-      record { number = i; parent = parent; start = p; visited = node k key type text w h ns }
-      ∷ visitsAll (i + 1) i (p + length key + length type + length text) ns
-
-  pub visitsAll : ℕ → ℕ → ℕ → Nodes → List Visit
-  visitsAll i parent p childless = []
-  visitsAll i parent p (child n ns) = visits i parent p n ++ visitsAll (i + count n) parent (p + length (pool n)) ns
 
 abbrev visitNumbers : List Visit → List ℕ
 visitNumbers vs = map (λ (v : Visit). v .number) vs
@@ -88,50 +66,6 @@ entry-numbers d i =
     rw (entries-visits d i 0 0)
     (map-map (λ (e : Entry). e .number) entryOf (visits i 0 0 d) ∙ visit-numbers d i 0 0)
 
-unfoldable pub nodeType : Node → List ℕ
-nodeType (node k key type text w h ns) = type
-
-unfoldable pub nodeText : Node → List ℕ
-nodeText (node k key type text w h ns) = text
-
-unfoldable pub nodeWidth : Node → ℕ
-nodeWidth (node k key type text w h ns) = w
-
-unfoldable pub nodeHeight : Node → ℕ
-nodeHeight (node k key type text w h ns) = h
-
--- Where a visited node's type and text begin in the pool: its key begins at `start`.
-unfoldable pub typeStart : Visit → ℕ
-typeStart v = v .start + length (nodeKey (v .visited))
-
-unfoldable pub textStart : Visit → ℕ
-textStart v = typeStart v + length (nodeType (v .visited))
-
--- The eleven words of a node: "kind; parent; end, one past the last descendant; offset and length in the pool of id or target; of type; of text; image width; height".
-unfoldable pub wordsOf : Visit → List ℕ
-wordsOf v =
-    nodeKind (v .visited)
-    ∷ v .parent
-    ∷ (v .number + count (v .visited))
-    ∷ offset (v .start) (nodeKey (v .visited))
-    ∷ length (nodeKey (v .visited))
-    ∷ offset (typeStart v) (nodeType (v .visited))
-    ∷ length (nodeType (v .visited))
-    ∷ offset (textStart v) (nodeText (v .visited))
-    ∷ length (nodeText (v .visited))
-    ∷ nodeWidth (v .visited)
-    ∷ nodeHeight (v .visited)
-    ∷ []
-
--- The bytes of a node's own strings, in the pool's order.
-unfoldable pub stringsOf : Visit → List ℕ
-stringsOf v = nodeKey (v .visited) ++ (nodeType (v .visited) ++ nodeText (v .visited))
-
--- What f gives of the visits, one after the other.
-unfoldable pub each : (Visit → List ℕ) → List Visit → List ℕ
-each f [] = []
-each f (v ∷ vs) = f v ++ each f vs
-
 each-append : (f : Visit → List ℕ) (s t : List Visit) → each f (s ++ t) ≡ each f s ++ each f t
 unfolding each
 each-append f [] t = refl
@@ -139,7 +73,7 @@ each-append f (v ∷ s) t = rw (each-append f s t, append-assoc)
 
 -- The rows are the records of the visits, in order.
 mutual
-  unfolding count rows visits each wordsOf typeStart textStart nodeKind nodeKey nodeType nodeText nodeWidth nodeHeight
+  unfolding count rows visits each wordsOf endOf typeStart textStart nodeKind nodeKey nodeType nodeText nodeWidth nodeHeight
 
   pub rows-records : (n : Node) (i parent p : ℕ) → rows i parent p n ≡ each wordsOf (visits i parent p n)
   rows-records (node k key type text w h ns) i parent p =
@@ -170,10 +104,6 @@ mutual
         ← (pool-strings n i parent p),
         ← (pool-strings-all ns (i + count n) parent (p + length (pool n))),
       )
-
--- The visits of a document.
-unfoldable pub visitsOf : Node → List Visit
-visitsOf d = visits 0 missing 0 d
 
 -- The table is the records of the nodes in document order, eleven words each.
 pub table-records : (d : Node) → tableOf d ≡ each wordsOf (visitsOf d)
@@ -327,78 +257,168 @@ module _ (d : Node) (v : Visit) (m : List·Memᴰ v (visitsOf d)) where
       rw e (named ((a .before ++ key) ++ type) (nodeText (v .visited)) (a .after) (v .start + length key + length type)
       (omega (arith, length-append (a .before ++ key) type, length-append (a .before) key, a .from)))
 
--- The visited node is a child of a visited one, whose number its parent word is.
-pub record HasParent (vs : List Visit) (v : Visit) : Type 0 where
-  pub holder : Visit
-  pub holder-visited : List·Memᴰ holder vs
-  pub number-is : holder .number ≡ v .parent
-  pub holds : OneOf (v .visited) (nodeChildren (holder .visited))
+-- From their own numbers up to their ends, these nodes lie from i up to j.
+abbrev AllWithin : ℕ → ℕ → List Visit → Type 0
+AllWithin i j vs = (v : Visit) → List·Memᴰ v vs → (i ≤ v .number) × (endOf v ≤ j)
 
--- A visited node is the first, or has its parent among the visited.
-pub record IsFirst (i parent : ℕ) (n : Node) (v : Visit) : Type 0 where
-  pub number-is : v .number ≡ i
-  pub parent-is : v .parent ≡ parent
-  pub visited-is : v .visited ≡ n
+within-cons : (u : Visit) (vs : List Visit) → AllWithin (u .number + 1) (endOf u) vs → AllWithin (u .number) (endOf u) (u ∷ vs)
+within-cons u vs a v m = go (List·Memᴰ·cases-cons m)
+  where
+    go : (v ≡ u) ⊎ List·Memᴰ v vs → (u .number ≤ v .number) × (endOf v ≤ endOf u)
+    go (inl x) = rw x (omega arith)
+    go (inr x) = omega (arith, a v x)
 
-has-parent-in : (s t : List Visit) (v : Visit) → ((u : Visit) → List·Memᴰ u s → List·Memᴰ u t) → HasParent s v → HasParent t v
-has-parent-in s t v into h =
-    record { holder = h .holder; holder-visited = into (h .holder) (h .holder-visited); number-is = h .number-is; holds = h .holds }
+within-append : (s t : List Visit) (i j k : ℕ) → i ≤ j → j ≤ k → AllWithin i j s → AllWithin j k t → AllWithin i k (s ++ t)
+within-append s t i j k l l′ a b v m = go (List·Memᴰ·append-cases s m)
+  where
+    go : List·Memᴰ v s ⊎ List·Memᴰ v t → (i ≤ v .number) × (endOf v ≤ k)
+    go (inl x) = omega (arith, a v x)
+    go (inr x) = omega (arith, b v x)
 
 mutual
-  unfolding visits OneOf nodeChildren
+  unfolding count visits endOf
 
-  visit-parent : (n : Node) (i parent p : ℕ) (v : Visit) → List·Memᴰ v (visits i parent p n)
-      → IsFirst i parent n v ⊎ HasParent (visits i parent p n) v
-  visit-parent (node k key type text w h ns) i parent p v m =
-      go (λ x. visit-parent-all ns (i + 1) i (p + length key + length type + length text) v x) (List·Memᴰ·cases-cons m)
+  visits-within : (n : Node) (i parent p : ℕ) → AllWithin i (i + count n) (visits i parent p n)
+  visits-within (node k key type text w h ns) i parent p =
+      within-cons _ _ (λ v m. omega (arith, visits-within-all ns (i + 1) _ _ v m))
+
+  visits-within-all : (ns : Nodes) (i parent p : ℕ) → AllWithin i (i + countAll ns) (visitsAll i parent p ns)
+  visits-within-all childless i parent p = λ v m. absurd (List·Memᴰ·not-nil m)
+  visits-within-all (child n ns) i parent p =
+      within-append _ _ i (i + count n) (i + (count n + countAll ns)) (omega arith) (omega arith) (visits-within n i _ _) (λ v m.
+      omega (arith, visits-within-all ns (i + count n) _ _ v m))
+
+-- A node counts itself.
+number-below-end : (v : Visit) → v .number < endOf v
+unfolding endOf
+number-below-end v = omega (arith, positive (v .visited))
+  where
+    positive : (n : Node) → 0 < count n
+    positive (node k key type text w h ns) = unfold count in omega arith
+
+-- None of these has v in it; or v's holder is one of them.
+abbrev SpannedByNone : List Visit → Visit → Type 0
+SpannedByNone vs v = (u : Visit) → List·Memᴰ u vs → Spans u v → ⊥
+
+abbrev Held : List Visit → Visit → Type 0
+Held vs v = (h : Visit) × Holder vs v h
+
+-- Below a node stand nodes that it holds, or that others below it hold.
+holder-below : (u : Visit) (vs : List Visit) (v : Visit) → AllWithin (u .number + 1) (endOf u) vs → List·Memᴰ v vs
+    → ((v .parent ≡ u .number) × SpannedByNone vs v) ⊎ Held vs v → Held (u ∷ vs) v
+holder-below u vs v within m (inl (e, none)) = (
+  u,
+  record {
+    there = List·Memᴰ·head refl;
+    number-is = sym e;
+    spans = omega (arith, within v m, number-below-end v);
+    innermost = λ x y s. go x (List·Memᴰ·cases-cons y) s;
+  },
+)
+  where
+    go : (x : Visit) → (x ≡ u) ⊎ List·Memᴰ x vs → Spans x v → (x .number ≤ u .number) × (endOf u ≤ endOf x)
+    go x (inl y) s = rw y (omega arith)
+    go x (inr y) s = absurd (none x y s)
+holder-below u vs v within m (inr (h, a)) = (
+  h,
+  record {
+    there = List·Memᴰ·tail (a .there);
+    number-is = a .number-is;
+    spans = a .spans;
+    innermost = λ x y s. go x (List·Memᴰ·cases-cons y) s;
+  },
+)
+  where
+    go : (x : Visit) → (x ≡ u) ⊎ List·Memᴰ x vs → Spans x v → (x .number ≤ h .number) × (endOf h ≤ endOf x)
+    go x (inl y) s = rw y (omega (arith, within h (a .there)))
+    go x (inr y) s = a .innermost x y s
+
+first-or-below : (u : Visit) (vs : List Visit) (v : Visit) → AllWithin (u .number + 1) (endOf u) vs
+    → (List·Memᴰ v vs → ((v .parent ≡ u .number) × SpannedByNone vs v) ⊎ Held vs v) → (v ≡ u) ⊎ List·Memᴰ v vs
+    → ((v .number ≡ u .number) × (v .parent ≡ u .parent)) ⊎ Held (u ∷ vs) v
+first-or-below u vs v within below (inl x) = inl (rw x (refl, refl))
+first-or-below u vs v within below (inr x) = inr (holder-below u vs v within x (below x))
+
+-- A node has in it only what stands on its side of j.
+module _ (s t : List Visit) (i j k : ℕ) (within-s : AllWithin i j s) (within-t : AllWithin j k t) (v : Visit) where
+  on-left : List·Memᴰ v s → (u : Visit) → List·Memᴰ u (s ++ t) → Spans u v → List·Memᴰ u s
+  on-left m u n x = go (List·Memᴰ·append-cases s n)
     where
-      whole : Visit
-      whole = record { number = i; parent = parent; start = p; visited = node k key type text w h ns }
+      go : List·Memᴰ u s ⊎ List·Memᴰ u t → List·Memᴰ u s
+      go (inl y) = y
+      go (inr y) = absurd (omega (arith, within-s v m, number-below-end v, within-t u y, x .above))
 
-      rest : List Visit
-      rest = visitsAll (i + 1) i (p + length key + length type + length text) ns
+  on-right : List·Memᴰ v t → (u : Visit) → List·Memᴰ u (s ++ t) → Spans u v → List·Memᴰ u t
+  on-right m u n x = go (List·Memᴰ·append-cases s n)
+    where
+      go : List·Memᴰ u s ⊎ List·Memᴰ u t → List·Memᴰ u t
+      go (inl y) = absurd (omega (arith, within-t v m, within-s u y, x .below))
+      go (inr y) = y
 
-      into : ((v .parent ≡ i) × OneOf (v .visited) ns) ⊎ HasParent rest v → HasParent (whole ∷ rest) v
-      into (inl (e, o)) = record { holder = whole; holder-visited = List·Memᴰ·head refl; number-is = sym e; holds = o }
-      into (inr h) = has-parent-in rest (whole ∷ rest) v (λ u x. List·Memᴰ·tail x) h
+  holder-left : List·Memᴰ v s → Held s v → Held (s ++ t) v
+  holder-left m (h, a) = (
+    h,
+    record {
+      there = Memᴰ·append-left t (a .there);
+      number-is = a .number-is;
+      spans = a .spans;
+      innermost = λ u n x. a .innermost u (on-left m u n x) x;
+    },
+  )
 
-      go : (List·Memᴰ v rest → ((v .parent ≡ i) × OneOf (v .visited) ns) ⊎ HasParent rest v) → (v ≡ whole) ⊎ List·Memᴰ v rest
-          → IsFirst i parent (node k key type text w h ns) v ⊎ HasParent (whole ∷ rest) v
-      go below (inl x) = inl (rw x (record { number-is = refl; parent-is = refl; visited-is = refl }))
-      go below (inr x) = inr (into (below x))
+  holder-right : List·Memᴰ v t → Held t v → Held (s ++ t) v
+  holder-right m (h, a) = (
+    h,
+    record {
+      there = Memᴰ·append-right s (a .there);
+      number-is = a .number-is;
+      spans = a .spans;
+      innermost = λ u n x. a .innermost u (on-right m u n x) x;
+    },
+  )
 
-  visit-parent-all : (ns : Nodes) (i parent p : ℕ) (v : Visit) → List·Memᴰ v (visitsAll i parent p ns)
-      → ((v .parent ≡ parent) × OneOf (v .visited) ns) ⊎ HasParent (visitsAll i parent p ns) v
-  visit-parent-all childless i parent p v m = absurd (List·Memᴰ·not-nil m)
-  visit-parent-all (child n ns) i parent p v m =
-      go (λ x. visit-parent n i parent p v x) (λ x. visit-parent-all ns (i + count n) parent (p + length (pool n)) v x)
+  holder-append : (parent : ℕ) → (List·Memᴰ v s → ((v .number ≡ i) × (v .parent ≡ parent)) ⊎ Held s v)
+      → (List·Memᴰ v t → ((v .parent ≡ parent) × SpannedByNone t v) ⊎ Held t v) → List·Memᴰ v s ⊎ List·Memᴰ v t
+      → ((v .parent ≡ parent) × SpannedByNone (s ++ t) v) ⊎ Held (s ++ t) v
+  holder-append parent one more (inl m) = go (one m)
+    where
+      go : ((v .number ≡ i) × (v .parent ≡ parent)) ⊎ Held s v → ((v .parent ≡ parent) × SpannedByNone (s ++ t) v) ⊎ Held (s ++ t) v
+      go (inl (e, q)) = inl (q, λ u n x. omega (arith, within-s u (on-left m u n x), x .above))
+      go (inr a) = inr (holder-left m a)
+  holder-append parent one more (inr m) = go (more m)
+    where
+      go : ((v .parent ≡ parent) × SpannedByNone t v) ⊎ Held t v → ((v .parent ≡ parent) × SpannedByNone (s ++ t) v) ⊎ Held (s ++ t) v
+      go (inl (q, none)) = inl (q, λ u n x. none u (on-right m u n x) x)
+      go (inr a) = inr (holder-right m a)
+
+mutual
+  unfolding count visits endOf
+
+  -- A visited node is the first, or has its holder among the visited.
+  visit-holder : (n : Node) (i parent p : ℕ) (v : Visit) → List·Memᴰ v (visits i parent p n)
+      → ((v .number ≡ i) × (v .parent ≡ parent)) ⊎ Held (visits i parent p n) v
+  visit-holder (node k key type text w h ns) i parent p v m =
+      first-or-below _ _ v (λ u x. omega (arith, visits-within-all ns (i + 1) _ _ u x)) (λ x. visit-holder-all ns (i + 1) _ _ v x) (List·Memᴰ·cases-cons m)
+
+  -- Of these nodes and those in them, one is in none of them, and under the parent; or its holder is one of them.
+  visit-holder-all : (ns : Nodes) (i parent p : ℕ) (v : Visit) → List·Memᴰ v (visitsAll i parent p ns)
+      → ((v .parent ≡ parent) × SpannedByNone (visitsAll i parent p ns) v) ⊎ Held (visitsAll i parent p ns) v
+  visit-holder-all childless i parent p v m = absurd (List·Memᴰ·not-nil m)
+  visit-holder-all (child n ns) i parent p v m =
+      holder-append (visits i parent p n) _ i (i + count n) (i + count n + countAll ns) (visits-within n i _ _) (visits-within-all ns (i + count n) _ _)
+      v parent (λ x. visit-holder n i _ _ v x) (λ x. visit-holder-all ns (i + count n) _ _ v x)
       (List·Memᴰ·append-cases (visits i parent p n) m)
-    where
-      first : List Visit
-      first = visits i parent p n
 
-      rest : List Visit
-      rest = visitsAll (i + count n) parent (p + length (pool n)) ns
-
-      from-first : IsFirst i parent n v ⊎ HasParent first v → ((v .parent ≡ parent) × OneOf (v .visited) (child n ns)) ⊎ HasParent (first ++ rest) v
-      from-first (inl h) = inl (h .parent-is, inl (h .visited-is))
-      from-first (inr h) = inr (has-parent-in first (first ++ rest) v (λ u x. Memᴰ·append-left rest x) h)
-
-      from-rest : ((v .parent ≡ parent) × OneOf (v .visited) ns) ⊎ HasParent rest v
-          → ((v .parent ≡ parent) × OneOf (v .visited) (child n ns)) ⊎ HasParent (first ++ rest) v
-      from-rest (inl h) = inl (h .0, inr (h .1))
-      from-rest (inr h) = inr (has-parent-in rest (first ++ rest) v (λ u x. Memᴰ·append-right first x) h)
-
-      go : (List·Memᴰ v first → IsFirst i parent n v ⊎ HasParent first v)
-          → (List·Memᴰ v rest → ((v .parent ≡ parent) × OneOf (v .visited) ns) ⊎ HasParent rest v) → List·Memᴰ v first ⊎ List·Memᴰ v rest
-          → ((v .parent ≡ parent) × OneOf (v .visited) (child n ns)) ⊎ HasParent (first ++ rest) v
-      go a b (inl x) = from-first (a x)
-      go a b (inr x) = from-rest (b x)
-
--- The parent word: the root's is 4,294,967,295, and every other node's is the number of the node that has it as a child.
-pub parent-word : (d : Node) (v : Visit) → List·Memᴰ v (visitsOf d) → IsFirst 0 missing d v ⊎ HasParent (visitsOf d) v
+-- The parent word: that of node 0 is 4,294,967,295, and every other node's is the number of the innermost node that has it in it.
+pub parent-word : (d : Node) (v : Visit) → List·Memᴰ v (visitsOf d)
+    → ((v .number ≡ 0) × (v .parent ≡ missing)) ⊎ ((h : Visit) × Holder (visitsOf d) v h)
 unfolding visitsOf
-parent-word d v m = visit-parent d 0 missing 0 v m
+parent-word d v m = visit-holder d 0 missing 0 v m
+
+-- Every node's number is below the count of nodes.
+pub visit-below : (d : Node) (v : Visit) → List·Memᴰ v (visitsOf d) → v .number < count d
+unfolding visitsOf
+visit-below d v m = omega (arith, visits-within d 0 missing 0 v m, number-below-end v)
 
 -- A visited node's own visits, those from its number up to its end word, stand together among all.
 pub record Subtree (i : ℕ) (vs : List Visit) (v : Visit) : Type 0 where
@@ -427,7 +447,7 @@ mutual
 mutual
   unfolding visits
 
-  subtree-in : (n : Node) (i parent p : ℕ) (v : Visit) → List·Memᴰ v (visits i parent p n) → Subtree i (visits i parent p n) v
+  pub subtree-in : (n : Node) (i parent p : ℕ) (v : Visit) → List·Memᴰ v (visits i parent p n) → Subtree i (visits i parent p n) v
   subtree-in (node k key type text w h ns) i parent p v m =
       go (λ x. subtree-in-all ns (i + 1) i (p + length key + length type + length text) v x) (List·Memᴰ·cases-cons m)
     where

@@ -12,10 +12,10 @@ use Rattle.elements.specs.Bytes.{among}
 use Rattle.elements.specs.Class as Class
 use Rattle.elements.specs.Inside.{State, start}
 use Rattle.syntax.specs.Expression.{Expr, symbol, quoted, list, Exprs, none, and}
-use Rattle.document.specs.Spelling.{leadClass, listClass, exprClass, isBlockParameter, parameters, join, flatten, flattenContent}
+use Rattle.document.specs.Spelling.{isBlockParameter}
+use Rattle.document.specs.Imperative.{parameters, join, flatten, flattenContent, notAllowed, inCommand, loose, isCommand, block, stillOpen, childOf, opened, atInnermost, contentsOf, innermost, regroup}
+use Rattle.document.specs.Lead.{leadClass, listClass, exprClass}
 use Rattle.document.specs.Meaning.{fine, judge, judgeList, judgeRoot}
-use Rattle.document.specs.Imperative.{notAllowed, inCommand, loose, isCommand, block, stillOpen, childOf, opened}
-use Rattle.document.specs.Imperative.{atInnermost, contentsOf, innermost, regroup}
 use Rattle.document.proofs.Nested.{not-fine}
 use Rattle.document.proofs.Blocks.{join-none, join-join, Read, read-on, inside-block, root-document}
 use Rattle.document.proofs.Blocks.{block-no-parameter, parameters-child, flatten-child, flatten-leaf}

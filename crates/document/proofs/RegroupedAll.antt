@@ -9,8 +9,9 @@ use lib.Dec.{eqb, leb}
 use Rattle.laws.proofs.Booleans.{cond-case}
 use Rattle.elements.specs.Class as Class
 use Rattle.syntax.specs.Expression.{Expr, symbol, quoted, list, Exprs, none, and}
-use Rattle.document.specs.Spelling.{exprClass, isBlockParameter, join}
-use Rattle.document.specs.Imperative.{notAllowed, inCommand, loose, isCommand, block, stillOpen, childOf, opened, atInnermost, contentsOf, innermost, regroup}
+use Rattle.document.specs.Spelling.{isBlockParameter}
+use Rattle.document.specs.Imperative.{join, notAllowed, inCommand, loose, isCommand, block, stillOpen, childOf, opened, atInnermost, contentsOf, innermost, regroup}
+use Rattle.document.specs.Lead.{exprClass}
 
 -- The laws of a property of expressions, `P n e`, and of runs of them, `Ps n es`, within a bound n that runs share out.
 pub record Laws (P : ℕ → Expr → Type 0) (Ps : ℕ → Exprs → Type 0) : Type 0 where

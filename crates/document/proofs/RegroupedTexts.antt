@@ -2,7 +2,7 @@
 use Prim.Native.Nat.{ℕ}
 use native.Mathlib.Omega.{arith}
 use Rattle.syntax.specs.Expression.{Expr, Exprs, and}
-use Rattle.syntax.proofs.Atoms.{AtomsOf}
+use Rattle.syntax.specs.Atoms.{AtomsOf}
 use Rattle.document.specs.Imperative.{notAllowed, regroup}
 use Rattle.document.proofs.Nested.{AllText, AllTexts}
 use Rattle.document.proofs.RegroupedAll.{Laws, regrouped-all}

@@ -1,14 +1,16 @@
 -- Demand 2 over the definitions: the canonical spelling of a document is a nested spelling of it, so reading it gives that document back, and the table of a document
 -- that was read is printed. Assumes nothing.
 use Prim.Native.Nat.{ℕ, _≤_}
-use mathlib.Core.Path.{refl}
+use mathlib.Core.Path.{_≡_, refl}
 use mathlib.Core.List.{List}
+use native.Mathlib.Omega.{arith}
 use lib.Dec.{leb, leb→le}
 use borrow.Author.Tests.{le-leb}
 use lib.ListN.{length}
 use Rattle.laws.proofs.Booleans.{true-T}
+use Rattle.syntax.specs.Syntax.{levels}
 use Rattle.document.specs.Document.{Node, Document}
-use Rattle.document.specs.Spelling.{Spelling, nested, Spells}
+use Rattle.document.specs.Spelling.{Spelling, nested, mostLevels, mostBytes, Spells}
 use Rattle.document.specs.Table.{count, pool, tableOf}
 use Rattle.document.specs.Canonical.{layout, treeLevels, canonical}
 use Rattle.document.specs.Printing.{IsTableOf}
@@ -18,20 +20,23 @@ use Rattle.document.proofs.LaidOut.{laid-out}
 use Rattle.document.proofs.Levels.{spelled-levels}
 use Rattle.document.proofs.CanonicalSpells.{canonical-spells}
 
--- The canonical spelling of a document that nests within the limit spells it, by the rules alone.
-pub canonical-spelling : (d : Node) → Document d → treeLevels (layout d) ≤ 64 → Spells nested d (canonical d)
+-- The canonical spelling of a document spells it, by the rules alone, and nests as deep as the document's layout.
+pub canonical-spelling : (d : Node) → Document d → (sp : Spells nested d (canonical d)) × (levels (sp .forest) ≡ treeLevels (layout d))
 unfolding canonical
-canonical-spelling d doc levels =
+canonical-spelling d doc =
     let (lawful, said) = laid-out d doc in
-    rw said at (canonical-spells (layout d) lawful levels)
+    rw said at (canonical-spells (layout d) lawful)
 
 -- What is printed of a table can be read back, where it is short enough and the room is enough.
-pub readable-back : (d : Node) (words bytes : List ℕ) (m : Memory) → IsTableOf d words bytes → length (canonical d) ≤ 65536 → Fits d m
+pub readable-back : (d : Node) (words bytes : List ℕ) (m : Memory) → IsTableOf d words bytes → length (canonical d) ≤ mostBytes → Fits d m
     → Readable nested (canonical d) m d
+unfolding mostLevels
 readable-back d words bytes m x short fits =
+    let (sp, deep) = canonical-spelling d (x .draft .document) in
+    let nests : treeLevels (layout d) ≤ 64 = leb→le _ _ (x .draft .nests-within) in
     record {
-      short = short;
-      spells = canonical-spelling d (x .draft .document) (leb→le _ _ (x .draft .nests-within));
+      spells = sp;
+      within = record { short = short; nests = omega (arith, deep) };
       well-formed = x .well-formed;
       few-nodes = leb→le _ _ (x .draft .few-nodes);
       fits = fits;
@@ -47,7 +52,7 @@ printable s text m d r short =
         node-words = refl;
         pool-bytes = refl;
         few-nodes = true-T (le-leb (count d) 4096 (r .few-nodes));
-        nests-within = true-T (le-leb (treeLevels (layout d)) 64 (spelled-levels s d text sp));
+        nests-within = true-T (le-leb (treeLevels (layout d)) 64 (spelled-levels s d text sp (r .within)));
         short-pool = true-T (le-leb (length (pool d)) 65536 short);
       };
       well-formed = r .well-formed;

@@ -1,14 +1,14 @@
--- Two texts that spell one document, in either spelling each, are read alike. Assumes nothing.
-use Prim.Native.Nat.{ℕ, _≤_}
+-- Two texts within the limits that spell one document, in either spelling each, are read alike. Assumes nothing.
+use Prim.Native.Nat.{ℕ}
 use mathlib.Core.Path.{_≡_, refl}
 use mathlib.Core.Bool.{Bool, true, false, cond}
 use mathlib.Core.List.{List}
 use lib.Dec.{ltb}
 use lib.ListN.{length}
 use Rattle.document.specs.Document.{Node}
-use Rattle.document.specs.Spelling.{Spelling, Spells}
+use Rattle.document.specs.Spelling.{Spelling, Spells, WithinLimits}
 use Rattle.document.specs.Table.{count, pool}
-use Rattle.document.specs.WellFormed.{Check, sound, unsound, check}
+use Rattle.document.specs.Check.{Check, sound, unsound, check}
 use Rattle.document.specs.Answer.{answerAt, Memory, Outcome, noRoom, filled, nodeRoom, checked, stored, outcome}
 use Rattle.document.specs.Demand.{Alike}
 use Rattle.document.proofs.Account.{spelled-stored}
@@ -34,7 +34,7 @@ stored-alike text text′ ps ps′ m d =
     (either (ltb (length (m .pool)) (length (pool d))) (alike refl refl refl refl refl)
     (checked-alike text text′ ps ps′ m d (check d)))
 
-pub same-document : (s s′ : Spelling) (d : Node) (text text′ : List ℕ) (m : Memory) → length text ≤ 65536 → length text′ ≤ 65536
-    → Spells s d text → Spells s′ d text′ → Alike (outcome s text m) (outcome s′ text′ m)
-same-document s s′ d text text′ m short short′ a b =
-    rw (spelled-stored s text m d short a, spelled-stored s′ text′ m d short′ b) (stored-alike text text′ _ _ m d)
+pub same-document : (s s′ : Spelling) (d : Node) (text text′ : List ℕ) (m : Memory) (a : Spells s d text) (b : Spells s′ d text′)
+    → WithinLimits s text (a .forest) → WithinLimits s′ text′ (b .forest) → Alike (outcome s text m) (outcome s′ text′ m)
+same-document s s′ d text text′ m a b l l′ =
+    rw (spelled-stored s text m d a l, spelled-stored s′ text′ m d b l′) (stored-alike text text′ _ _ m d)

@@ -1,21 +1,24 @@
 -- In a document the rows that a table's head binds are those of the table's body, so that rule 15 reads as document 01 puts it. Assumes nothing.
 use Prim.Native.Nat.{ℕ, _+_, _≤_}
 use mathlib.Core.Path.{_≡_, _∙_, refl, sym, ap, subst}
-use mathlib.Core.Bool.{Bool, true, false, cond}
+use mathlib.Core.Bool.{Bool, true, false, not, cond, _&&_, _||_}
 use mathlib.Core.Logic.{_⊎_, inl, inr}
 use mathlib.Core.List.{List, [], _∷_}
 use native.Mathlib.Omega.{arith}
-use lib.Dec.{T, eqb}
-use borrow.Author.Tests.{eqb-true, eq-eqb, ne-eqb}
-use Rattle.laws.proofs.Booleans.{cond-case, both}
+use lib.Dec.{T, eqb, eqb→eq}
+use borrow.Author.Tests.{eqb-true, eqb-false, eq-eqb, ne-eqb}
+use Rattle.laws.proofs.Booleans.{cond-case, bool-case, both, or-true, not-true, T-true}
 use Rattle.elements.specs.Bytes.{among}
 use Rattle.elements.specs.Class as Class
-use Rattle.elements.specs.Rules.{Slot, must, may, id-type, Content, any-of, exactly-one, rules, ruleIn, ruleOf}
-use Rattle.elements.specs.Inside.{State, expecting, holding, Step, go, bad, sort, isInclude, allows, firstChild, nextChild, nextParameter, step, start}
-use Rattle.document.specs.Document.{Tree, text, value, size, element, Trees, empty, holds, treeClass, goesOn, keepsRules, keepRules, Node, node, Nodes, childless, child, isNode, says, sayAll, isDocument, Document}
-use Rattle.document.specs.WellFormed.{childCount, Cells, exactly, headCells, cellsIn, WellFormed}
-use Rattle.document.specs.Prose.{nodeKind, nodeChildren, OneOf, In, InSome, RowAt, RowAmong, RowsMatch, RowsMatchHead, IdsDiffer, LinksFound, RefsFound}
-use Rattle.document.proofs.Prose.{well-formed-prose}
+use Rattle.elements.specs.Rules.{Slot, must, may, id-type, Content, alternatives, exactly-one, alternativesOf, Rule, rules, ruleIn, ruleOf}
+use Rattle.elements.specs.Inside.{State, expecting, holding, Step, go, bad, isInclude, someHas, allows, firstChild, nextChild, nextParameter, step, start}
+use Rattle.elements.proofs.Alternatives.{chosen-case, some-has}
+use Rattle.document.specs.Document.{Tree, text, value, size, element, Trees, empty, holds, treeClass, Node, node, Nodes, childless, child, isNode, says, sayAll, Document}
+use Rattle.document.specs.RulesTest.{goesOn, keepsRules, keepRules}
+use Rattle.document.specs.Check.{Cells, exactly, headCells, cellsIn}
+use Rattle.document.specs.Visits.{childCount, nodeKind, nodeChildren}
+use Rattle.document.specs.Prose.{OneOf, In, InSome, RowAt, RowAmong, RowsMatch, RowsMatchHead}
+use Rattle.document.proofs.RulesTest.{kept-test}
 
 -- 1 if the two are the same class, else 0.
 abbrev one : ℕ → ℕ → ℕ
@@ -30,7 +33,7 @@ slotCount c (id-type ∷ ps) = one c Class.id + one c Class.type + slotCount c p
 
 room : ℕ → State → ℕ
 room c (expecting ps) = slotCount c ps
-room c (holding s) = 0
+room c (holding ks) = 0
 
 -- A step over an expression of class x leaves room for so many fewer of class c.
 abbrev Taken : ℕ → ℕ → ℕ → Step → Type 0
@@ -59,18 +62,20 @@ module _ (c x : ℕ) where
   none-taken t f a = one-other c x (λ e. let z : _≡_ {A = Bool} true false = sym a ∙ rw e at f in let y : _≡_ {A = ℕ} 0 1 = cc in omega arith)
 
   first-taken : (t : Content) → allows t c ≡ false → Taken c x 0 (firstChild t x)
-  unfolding firstChild room
+  unfolding firstChild room allows
   first-taken t f =
       cond-case (Taken c x 0) (isInclude x) (λ i. tt)
-      (λ i. cond-case (Taken c x 0) (allows t x) (λ a. omega (arith, none-taken t f a)) (λ a. tt))
+      (λ i. chosen-case x (Taken c x 0) (alternativesOf t)
+      (λ ks m a. omega (arith, none-taken t f (T-true (someHas (alternativesOf t) x) (some-has x m a))))
+      (λ a. tt))
 
-  next-taken : (t : Content) (s : ℕ) → allows t c ≡ false → Taken c x 0 (nextChild t s x)
-  unfolding nextChild room allows
-  next-taken (any-of ks) s f =
+  next-taken : (t : Content) (ks : List ℕ) → allows t c ≡ false → Taken c x 0 (nextChild t ks x)
+  unfolding nextChild room allows alternativesOf
+  next-taken (alternatives kss) ks f =
       cond-case (Taken c x 0) (isInclude x) (λ i. tt)
-      (λ i. cond-case (Taken c x 0) (among x ks)
-      (λ a. cond-case (Taken c x 0) (eqb (sort x) s) (λ e. omega (arith, none-taken (any-of ks) f a)) (λ e. tt)) (λ a. tt))
-  next-taken (exactly-one k) s f = cond-case (Taken c x 0) (isInclude x) (λ i. tt) (λ i. tt)
+      (λ i. cond-case (Taken c x 0) (someHas kss x)
+      (λ a. cond-case (Taken c x 0) (among x ks) (λ e. omega (arith, none-taken (alternatives kss) f a)) (λ e. tt)) (λ a. tt))
+  next-taken (exactly-one k) ks f = cond-case (Taken c x 0) (isInclude x) (λ i. tt) (λ i. tt)
 
   parameter-taken : (ps : List Slot) (t : Content) → allows t c ≡ false → Taken c x (slotCount c ps) (nextParameter ps t x)
   unfolding nextParameter room slotCount
@@ -91,7 +96,7 @@ module _ (c x : ℕ) where
   step-taken : (k : ℕ) (s : State) → allows (ruleOf k .content) c ≡ false → Taken c x (room c s) (step k s x)
   unfolding step room
   step-taken k (expecting ps) f = parameter-taken ps (ruleOf k .content) f
-  step-taken k (holding s) f = next-taken (ruleOf k .content) s f
+  step-taken k (holding ks) f = next-taken (ruleOf k .content) ks f
 
 -- How many of these nodes are of kind c.
 kindCount : ℕ → Nodes → ℕ
@@ -156,9 +161,18 @@ mutual
 
 -- A document's node has at most as many children of class c as its kind has parameters of that class, where its content does not allow c.
 document-bounded : (d : Node) → Document d → (c : ℕ) (t : Node) → In t d → Bounded c t
-unfolding isDocument
-document-bounded d doc c t x =
-    tree-bounded (doc .tree) 0 c t (both (eqb (treeClass (doc .tree)) Class.document) _ (doc .lawful) .1) (rw (doc .said) x)
+document-bounded d doc c t x = tree-bounded (doc .tree) 0 c t (kept-test 0 (doc .tree) (doc .lawful .keeps)) (rw (doc .said) x)
+
+-- The root of a document is no part of a table.
+tree-kind : (t : Tree) → treeClass t ≡ Class.document → nodeKind (says t) ≤ Class.text
+unfolding says nodeKind treeClass
+tree-kind (text s) e = omega arith
+tree-kind (value c s) e = omega arith
+tree-kind (size w h) e = omega arith
+tree-kind (element k ts) e = omega arith
+
+pub root-kind : (d : Node) → Document d → nodeKind d ≤ Class.text
+root-kind d doc = rw (doc .said) at (tree-kind (doc .tree) (doc .lawful .root))
 
 -- A node of a kind counts.
 kind-counted : (ns : Nodes) (n : Node) (c : ℕ) → OneOf n ns → nodeKind n ≡ c → 1 ≤ kindCount c ns
@@ -184,7 +198,7 @@ only-head (child (node k key type words w g ms) ns) h l (inr x) e =
     rw (ne-eqb k Class.head q) (only-head ns h (omega arith) x e)
 
 -- Where a number of cells is bound, there is a head of that many names.
-some-head : (ns : Nodes) (n : ℕ) → cellsIn ns ≡ exactly n
+pub some-head : (ns : Nodes) (n : ℕ) → cellsIn ns ≡ exactly n
     → (h : Node) × OneOf h ns × (nodeKind h ≡ Class.head) × (childCount (nodeChildren h) ≡ n)
 unfolding OneOf cellsIn headCells nodeKind nodeChildren
 some-head childless n = λ e. absurd (let z : _≡_ {A = ℕ} 0 1 = cc in omega arith)
@@ -231,7 +245,7 @@ body-bound (child (node k key type words w g ms) ns) b r (inl x) e m =
 body-bound (child (node k key type words w g ms) ns) b r (inr x) e m = inr (body-bound ns b r x e m)
 
 -- A node stands in itself, and a child of a node that stands in d stands in d.
-in-itself : (n : Node) → In n n
+pub in-itself : (n : Node) → In n n
 unfolding In
 in-itself (node k key type words w h ns) = inl refl
 
@@ -257,42 +271,82 @@ mutual
 table-rules : (allows (ruleOf Class.table .content) Class.row ≡ false) × (room Class.row (start Class.table) ≡ 0)
     × (allows (ruleOf Class.table .content) Class.head ≡ false) × (room Class.head (start Class.table) ≡ 1)
     × (allows (ruleOf Class.body .content) Class.body ≡ false) × (room Class.body (start Class.body) ≡ 0)
-unfolding allows ruleOf ruleIn rules room slotCount start among
+unfolding allows someHas alternativesOf ruleOf ruleIn rules room slotCount start among
 table-rules = (refl, refl, refl, refl, refl, refl)
 
--- In a document the table's head binds just the rows of the table's body.
-pub rows-match-head : (d : Node) → Document d → (RowsMatch d → RowsMatchHead d) × (RowsMatchHead d → RowsMatch d)
-unfolding RowsMatch RowsMatchHead
-rows-match-head d doc = (to, from)
+-- No rule but that of kind k lets an expression of class c stand.
+noneIn : ℕ → Rule → Bool
+noneIn c r = not (allows (r .content) c) && eqb (slotCount c (r .parameters)) 0
+
+onlyIn : ℕ → ℕ → List Rule → Bool
+onlyIn c k [] = true
+onlyIn c k (r ∷ rs) = (eqb (r .kind) k || noneIn c r) && onlyIn c k rs
+
+only-in : (rs : List Rule) (c k j : ℕ) → T (onlyIn c k rs) → (j ≡ k → ⊥) → (allows (ruleIn rs j .content) c ≡ false) × (slotCount c (ruleIn rs j .parameters) ≡ 0)
+unfolding onlyIn noneIn ruleIn allows slotCount among someHas alternativesOf
+only-in [] c k j t other = (refl, refl)
+only-in (r ∷ rs) c k j t other =
+    cond-case (λ (x : Rule). (allows (x .content) c ≡ false) × (slotCount c (x .parameters) ≡ 0)) (eqb j (r .kind))
+    (λ e. own (eqb-true j (r .kind) e) (or-true (eqb (r .kind) k) (noneIn c r) (both (eqb (r .kind) k || noneIn c r) _ t .0)))
+    (λ e. only-in rs c k j (both (eqb (r .kind) k || noneIn c r) _ t .1) other)
   where
-    bounded : (c k n : ℕ) (t : Node) → In t d → nodeKind t ≡ k → allows (ruleOf k .content) c ≡ false → room c (start k) ≡ n
-        → kindCount c (nodeChildren t) ≤ n
-    bounded c k n t x e f r =
-        let l : kindCount c (nodeChildren t) ≤ room c (start (nodeKind t)) = document-bounded d doc c t x (rw e f) in
-        let q : room c (start (nodeKind t)) ≡ n = rw e r in
-        omega arith
+    own : j ≡ r .kind → T (eqb (r .kind) k) ⊎ T (noneIn c r) → (allows (r .content) c ≡ false) × (slotCount c (r .parameters) ≡ 0)
+    own e (inl x) = absurd (other (e ∙ eqb→eq (r .kind) k x))
+    own e (inr x) =
+        let b = both (not (allows (r .content) c)) (eqb (slotCount c (r .parameters)) 0) x in
+        (not-true _ (T-true _ (b .0)), eqb→eq _ _ (b .1))
 
-    to : RowsMatch d → RowsMatchHead d
-    to m t h b r x k oh kh ob kb or kr =
-        let l : kindCount Class.head (nodeChildren t) ≤ 1 = bounded Class.head Class.table 1 t x k (table-rules .2) (table-rules .3) in
-        m t r (childCount (nodeChildren h)) x k (only-head (nodeChildren t) h l oh kh)
-        (body-bound (nodeChildren t) b r ob kb (row-bound (nodeChildren b) r or kr))
+-- "head; body; row | none | names; rows; cells" and "table | summary, type?, head?, body | none": a row stands in a body only, a body in a table only.
+rows-in-bodies : T (onlyIn Class.row Class.body rules)
+unfolding onlyIn noneIn allows rules slotCount among someHas alternativesOf
+rows-in-bodies = tt
 
-    from : RowsMatchHead d → RowsMatch d
-    from m t r n x k e a =
-        let (h, oh, kh, ch) = some-head (nodeChildren t) n e in
-        let (b, ob, kb, ab) = in-body (nodeChildren t) r (bounded Class.row Class.table 0 t x k (table-rules .0) (table-rules .1)) a in
-        let xb : In b d = in-child d t b x ob in
-        let (or, kr) = own-row (nodeChildren b) r (bounded Class.body Class.body 0 b xb kb (table-rules .4) (table-rules .5)) ab in
-        m t h b r x k oh kh ob kb or kr ∙ ch
+bodies-in-tables : T (onlyIn Class.body Class.table rules)
+unfolding onlyIn noneIn allows rules slotCount among someHas alternativesOf
+bodies-in-tables = tt
 
--- A document is well-formed just where every row of a table with head has as many cells as the head has names, no two blocks have one id,
--- every link's target is the id of a block, and every footnote-ref's the id of a footnote.
-pub well-formed-document : (d : Node) → Document d
-    → (WellFormed d → RowsMatchHead d × IdsDiffer d × LinksFound d × RefsFound d)
-    × (RowsMatchHead d × IdsDiffer d × LinksFound d × RefsFound d → WellFormed d)
-well-formed-document d doc = (
-  λ w. let p = well-formed-prose d .0 w in (rows-match-head d doc .0 (p .rows-match), p .ids-differ, p .links-found, p .refs-found),
-  λ a. well-formed-prose d .1
-      (record { rows-match = rows-match-head d doc .1 (a .0); ids-differ = a .1; links-found = a .2; refs-found = a .3 }),
-)
+module _ (d : Node) (doc : Document d) where
+  bounded : (c k n : ℕ) (t : Node) → In t d → nodeKind t ≡ k → allows (ruleOf k .content) c ≡ false → room c (start k) ≡ n
+      → kindCount c (nodeChildren t) ≤ n
+  bounded c k n t x e f r =
+      let l : kindCount c (nodeChildren t) ≤ room c (start (nodeKind t)) = document-bounded d doc c t x (rw e f) in
+      let q : room c (start (nodeKind t)) ≡ n = rw e r in
+      omega arith
+
+  -- A document's node that has a child of class c is of the one kind that lets it stand.
+  holder-kind : (c k : ℕ) → T (onlyIn c k rules) → (t n : Node) → In t d → OneOf n (nodeChildren t) → nodeKind n ≡ c → nodeKind t ≡ k
+  unfolding room start ruleOf
+  holder-kind c k t u n x o e =
+      bool-case (eqb (nodeKind u) k) (λ y. eqb-true (nodeKind u) k y) (λ y.
+      let (f, r) = only-in rules c k (nodeKind u) t (eqb-false (nodeKind u) k y) in
+      absurd (no-kind (nodeChildren u) n c (bounded c (nodeKind u) 0 u x refl f r) o e))
+
+  pub row-in-body : (b r : Node) → In b d → OneOf r (nodeChildren b) → nodeKind r ≡ Class.row → nodeKind b ≡ Class.body
+  row-in-body b r = holder-kind Class.row Class.body rows-in-bodies b r
+
+  pub body-in-table : (t b : Node) → In t d → OneOf b (nodeChildren t) → nodeKind b ≡ Class.body → nodeKind t ≡ Class.table
+  body-in-table t b = holder-kind Class.body Class.table bodies-in-tables t b
+
+  -- A table's head says how many cells its rows must have.
+  pub head-binds : (t h : Node) → In t d → nodeKind t ≡ Class.table → OneOf h (nodeChildren t) → nodeKind h ≡ Class.head
+      → cellsIn (nodeChildren t) ≡ exactly (childCount (nodeChildren h))
+  head-binds t h x k o e =
+      only-head (nodeChildren t) h (bounded Class.head Class.table 1 t x k (table-rules .2) (table-rules .3)) o e
+
+  -- In a document the table's head binds just the rows of the table's body.
+  pub rows-match-head : (RowsMatch d → RowsMatchHead d) × (RowsMatchHead d → RowsMatch d)
+  unfolding RowsMatch RowsMatchHead
+  rows-match-head = (to, from)
+    where
+      to : RowsMatch d → RowsMatchHead d
+      to m t h b r x k oh kh ob kb or kr =
+          m t r (childCount (nodeChildren h)) x k (head-binds t h x k oh kh)
+          (body-bound (nodeChildren t) b r ob kb (row-bound (nodeChildren b) r or kr))
+
+      from : RowsMatchHead d → RowsMatch d
+      from m t r n x k e a =
+          let (h, oh, kh, ch) = some-head (nodeChildren t) n e in
+          let (b, ob, kb, ab) = in-body (nodeChildren t) r (bounded Class.row Class.table 0 t x k (table-rules .0) (table-rules .1)) a in
+          let xb : In b d = in-child d t b x ob in
+          let (or, kr) = own-row (nodeChildren b) r (bounded Class.body Class.body 0 b xb kb (table-rules .4) (table-rules .5)) ab in
+          m t h b r x k oh kh ob kb or kr ∙ ch

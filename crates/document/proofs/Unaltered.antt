@@ -12,7 +12,7 @@ use Rattle.document.specs.Answer.{answerAt, Memory, Outcome, refusal, no
 use Rattle.document.specs.Account as Account
 use Rattle.document.specs.Account.{keepsMemory, Answers, too-long, ill-formed, no-node-room, no-pool-room, has-fault, accepted}
 use Rattle.document.proofs.Account.{answers}
-use Rattle.document.proofs.Numbers.{refused-number, check-number}
+use Rattle.document.proofs.Numbers.{refused-number, fault-number}
 
 -- None of 15 to 18 is among the numbers that keep the memory.
 filled-number : (n : ℕ) → (15 ≤ n) × (n ≤ 18) → T (keepsMemory n) → ⊥
@@ -28,11 +28,11 @@ unfolding refusal noRoom filled answerAt keepsMemory
 numbered s text m o (too-long long) = (omega arith, λ _. refl)
 numbered s text m o (ill-formed short f) = (omega arith, λ _. refl)
 numbered s text m o (Account.refused short utf8 f) = (refused-number f .1, λ _. refl)
-numbered s text m o (no-node-room short sp none) = (omega arith, λ _. refl)
-numbered s text m o (no-pool-room short sp nodes none) = (omega arith, λ _. refl)
-numbered s text m o (has-fault {d = d} {n = n} {i = i} short sp nodes bytes e) =
-    let h = check-number d n i e in (omega (arith, h), λ t. absurd (filled-number n h t))
-numbered s text m o (accepted short sp nodes bytes e) = (omega arith, λ t. absurd t)
+numbered s text m o (no-node-room sp l none) = (omega arith, λ _. refl)
+numbered s text m o (no-pool-room sp l nodes none) = (omega arith, λ _. refl)
+numbered s text m o (has-fault {n = n} sp l nodes bytes f) =
+    let h = fault-number f in (omega (arith, h), λ t. absurd (filled-number n h t))
+numbered s text m o (accepted sp l nodes bytes w) = (omega arith, λ t. absurd t)
 
 pub demand-1 : (s : Spelling) (text : List ℕ) (m : Memory)
     → (outcome s text m .answer .number ≤ 19) × (T (keepsMemory (outcome s text m .answer .number)) → outcome s text m .memory ≡ m)

@@ -11,7 +11,8 @@ use Rattle.elements.specs.Class as Class
 use Rattle.syntax.specs.Expression.{Expr, symbol, quoted, list, Exprs, none, and}
 use Rattle.elements.specs.Characters.{typeCharacter, idCharacter}
 use Rattle.document.specs.Value.{nonEmpty, every, isValue, isSize, isDecimal, targetCharacter}
-use Rattle.document.specs.Document.{Tree, value, size, keepsRules}
+use Rattle.document.specs.Document.{Tree, value, size}
+use Rattle.document.specs.RulesTest.{keepsRules}
 use Rattle.document.specs.Spelling.{WritesText, as-symbol, as-string, WritesNumber, Writes, writes-value, writes-type, writes-size}
 use Rattle.document.specs.Spelling.{holdsText, bracketed}
 use Rattle.document.specs.Meaning.{textBytes, symbolBytes, onlyOne, numberOf, sizeTree, valueTree}

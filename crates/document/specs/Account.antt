@@ -1,22 +1,23 @@
 -- What a read answers and leaves in the lent memory, told by the rules alone: one case for each number of document 01, "Numbers answered".
--- No scan and no judge is in these cases. That reading answers so, and in no other way, is proved in `proofs/Account.antt`.
+-- No scan, no judge, no stack of blocks and no search is in these cases. That reading answers so, and in no other way, is proved in `proofs/Account.antt`.
 use Prim.Native.Nat.{ℕ, _≤_, _<_}
 use mathlib.Core.Path.{_≡_}
 use mathlib.Core.List.{List}
 use mathlib.Core.Bool.{Bool, _&&_, _||_}
 use lib.Dec.{T, eqb, leb}
 use lib.ListN.{length, getD}
+use Rattle.elements.specs.Class as Class
 use Rattle.utf8.specs.Scalar.{IsUtf8, IllFormedAt}
 use Rattle.syntax.specs.Syntax.{Forest, another, Ok, bytesOf, levels}
 use Rattle.syntax.specs.Expression.{Expr, Exprs, none, and, place, locate, depth}
 use Rattle.syntax.specs.Fault.{Fault}
-use Rattle.document.specs.Document.{Tree, Node, isDocument}
-use Rattle.document.specs.Spelling.{Spelling, nested, imperative, mostLevels, Writes, Spells}
-use Rattle.document.specs.Meaning.{places}
-use Rattle.document.specs.Imperative.{regroup}
+use Rattle.document.specs.Document.{Tree, Node, Lawful}
+use Rattle.document.specs.Spelling.{Spelling, nested, imperative, mostLevels, mostBytes, Writes, Spells, WithinLimits, nodePlaces}
+use Rattle.document.specs.Imperative.{block}
+use Rattle.document.specs.Takes.{Takes}
 use Rattle.document.specs.Faults.{RootFault}
 use Rattle.document.specs.Table.{count, pool}
-use Rattle.document.specs.WellFormed.{sound, unsound, check}
+use Rattle.document.specs.WellFormed.{FirstFault, WellFormed}
 use Rattle.document.specs.Answer.{Memory, Outcome, refusal, noRoom, filled, nodeRoom}
 
 -- The text is concrete syntax, nested within the limit, with these expressions.
@@ -27,10 +28,11 @@ pub record Scans (s : Spelling) (text : List ℕ) (es : Exprs) : Type 0 where
   pub within : levels forest ≤ mostLevels s
   pub expressions : locate 0 forest ≡ es
 
--- The nested form of a text's expressions: of one in the nested spelling, of all in the imperative one.
+-- The nested form of a text's expressions: of one in the nested spelling; of all in the imperative one, where the first is the document's command and its block
+-- takes all that follow.
 pub data NestedForm : Spelling → Exprs → Expr → Type 0 where
   as-it-stands : {e : Expr} → NestedForm nested (and e none) e
-  regrouped : (e : Expr) (es : Exprs) → NestedForm imperative (and e es) (regroup e es)
+  regrouped : {e : Expr} {es content : Exprs} → Takes (Class.significance Class.document) es content none → NestedForm imperative (and e es) (block e content)
 
 -- The numbers 3 to 12 and 19, with their places, of a text that is UTF-8.
 pub data RefusedFor (s : Spelling) (text : List ℕ) : ℕ → ℕ → Type 0 where
@@ -42,7 +44,7 @@ pub data RefusedFor (s : Spelling) (text : List ℕ) : ℕ → ℕ → Type 0 wh
   -- 8 to 12
   against-rules : {es : Exprs} {e : Expr} {n p : ℕ} → Scans s text es → NestedForm s es e → RootFault e n p → RefusedFor s text n p
   -- 19
-  too-deep : {es : Exprs} {e : Expr} {t : Tree} → s ≡ imperative → Scans s text es → NestedForm s es e → Writes t e → T (isDocument t) → 64 < depth e
+  too-deep : {es : Exprs} {e : Expr} {t : Tree} → s ≡ imperative → Scans s text es → NestedForm s es e → Writes t e → Lawful t → 64 < depth e
       → RefusedFor s text 19 0
 
 -- "1 to 14 and 19 keep all lent memory unaltered."
@@ -52,19 +54,19 @@ keepsMemory n = (leb 1 n && leb n 14) || eqb n 19
 -- The outcome of reading the text into the lent memory m.
 pub data Answers (s : Spelling) (text : List ℕ) (m : Memory) : Outcome → Type 0 where
   -- 1
-  too-long : 65536 < length text → Answers s text m (refusal text m 1 65536)
+  too-long : mostBytes < length text → Answers s text m (refusal text m 1 mostBytes)
   -- 2
-  ill-formed : {p : ℕ} → length text ≤ 65536 → IllFormedAt text p → Answers s text m (refusal text m 2 p)
+  ill-formed : {p : ℕ} → length text ≤ mostBytes → IllFormedAt text p → Answers s text m (refusal text m 2 p)
   -- 3 to 12, 19
-  refused : {n p : ℕ} → length text ≤ 65536 → IsUtf8 text → RefusedFor s text n p → Answers s text m (refusal text m n p)
+  refused : {n p : ℕ} → length text ≤ mostBytes → IsUtf8 text → RefusedFor s text n p → Answers s text m (refusal text m n p)
   -- 13
-  no-node-room : {d : Node} → length text ≤ 65536 → Spells s d text → nodeRoom m < count d → Answers s text m (noRoom text m 13 d)
+  no-node-room : {d : Node} (spells : Spells s d text) → WithinLimits s text (spells .forest) → nodeRoom m < count d → Answers s text m (noRoom text m 13 d)
   -- 14
-  no-pool-room : {d : Node} → length text ≤ 65536 → Spells s d text → count d ≤ nodeRoom m → length (m .pool) < length (pool d)
+  no-pool-room : {d : Node} (spells : Spells s d text) → WithinLimits s text (spells .forest) → count d ≤ nodeRoom m → length (m .pool) < length (pool d)
       → Answers s text m (noRoom text m 14 d)
-  -- 15 to 18
-  has-fault : {d : Node} {n i : ℕ} → length text ≤ 65536 → (spells : Spells s d text) → count d ≤ nodeRoom m → length (pool d) ≤ length (m .pool)
-      → check d ≡ unsound n i → Answers s text m (filled text m n (getD (places (spells .expression)) i 0) (places (spells .expression)) d)
+  -- 15 to 18: at the place of the node that has the fault
+  has-fault : {d : Node} {n i : ℕ} (spells : Spells s d text) → WithinLimits s text (spells .forest) → count d ≤ nodeRoom m → length (pool d) ≤ length (m .pool)
+      → FirstFault d n i → Answers s text m (filled text m n (getD (nodePlaces spells) i 0) (nodePlaces spells) d)
   -- 0
-  accepted : {d : Node} → length text ≤ 65536 → (spells : Spells s d text) → count d ≤ nodeRoom m → length (pool d) ≤ length (m .pool)
-      → check d ≡ sound → Answers s text m (filled text m 0 0 (places (spells .expression)) d)
+  accepted : {d : Node} (spells : Spells s d text) → WithinLimits s text (spells .forest) → count d ≤ nodeRoom m → length (pool d) ≤ length (m .pool)
+      → WellFormed d → Answers s text m (filled text m 0 0 (nodePlaces spells) d)

@@ -14,7 +14,7 @@ use Rattle.document.specs.Spelling.{Spelling, nested, imperative, mostLe
 use Rattle.document.specs.Meaning.{Verdict, fine, fault, judgeRoot, treeOf, places}
 use Rattle.document.specs.Imperative.{regroup}
 use Rattle.document.specs.Table.{recordLength, count, pool, tableOf}
-use Rattle.document.specs.WellFormed.{Check, sound, unsound, check}
+use Rattle.document.specs.Check.{Check, sound, unsound, check}
 
 -- "A read returns number, place, line, column, node count, pool count."
 pub record Answer : Type 0 where

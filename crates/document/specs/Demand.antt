@@ -4,7 +4,7 @@ use mathlib.Core.Path.{_≡_}
 use mathlib.Core.List.{List}
 use lib.ListN.{length}
 use Rattle.document.specs.Document.{Node}
-use Rattle.document.specs.Spelling.{Spelling, Spells}
+use Rattle.document.specs.Spelling.{Spelling, Spells, WithinLimits}
 use Rattle.document.specs.Table.{recordLength, count, pool, tableOf}
 use Rattle.document.specs.WellFormed.{WellFormed}
 use Rattle.document.specs.Answer.{Memory, Outcome, over}
@@ -17,8 +17,8 @@ pub record Fits (d : Node) (m : Memory) : Type 0 where
 
 -- The text is within the limits and spells the well-formed document d, for which the room is enough.
 pub record Readable (s : Spelling) (text : List ℕ) (m : Memory) (d : Node) : Type 0 where
-  pub short : length text ≤ 65536
   pub spells : Spells s d text
+  pub within : WithinLimits s text (spells .forest)
   pub well-formed : WellFormed d
   pub few-nodes : count d ≤ 4096
   pub fits : Fits d m

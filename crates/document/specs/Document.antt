@@ -1,12 +1,13 @@
 -- What a document is. Document 01, "Spelling": "A document is a tree of elements and values that keeps the rules above, its root of kind 1, each text one or more code points."
 use Prim.Native.Nat.{ℕ}
 use mathlib.Core.Path.{_≡_}
-use mathlib.Core.Bool.{Bool, true, false, cond, _&&_}
+use mathlib.Core.Bool.{Bool, true, false, cond}
 use mathlib.Core.List.{List, [], _++_}
 use lib.Dec.{T, eqb}
 use Rattle.elements.specs.Class as Class
 use Rattle.elements.specs.Inside.{State, Step, go, bad, step, start, ended}
-use Rattle.document.specs.Value.{isValue, isText, isSize}
+use Rattle.syntax.specs.Atoms.{IsText}
+use Rattle.document.specs.Value.{isValue, isSize}
 
 -- An element with its parameters among its children, in the order in which they are written.
 mutual
@@ -26,22 +27,23 @@ treeClass (value c s) = c
 treeClass (size w h) = Class.size
 treeClass (element k ts) = k
 
-unfoldable pub goesOn : Step → (State → Bool) → Bool
-goesOn (go s) rest = rest s
-goesOn (bad n) rest = false
+-- The step is one that goes on, and so does what follows from there.
+unfoldable pub GoesOn : Step → (State → Type 0) → Type 0
+GoesOn (go s) Rest = Rest s
+GoesOn (bad n) Rest = ⊥
 
--- The tree, inside an element of kind k, keeps the rules.
+-- The tree, inside an element of kind k, keeps the rules: "each text one or more code points".
 unfoldable mutual
-  pub keepsRules : ℕ → Tree → Bool
-  keepsRules k (text s) = isText s
-  keepsRules k (value c s) = isValue k c s
-  keepsRules k (size w h) = isSize w h
-  keepsRules k (element c ts) = Class.isElement c && keepRules c (start c) ts
+  pub KeepsRules : ℕ → Tree → Type 0
+  KeepsRules k (text s) = IsText s
+  KeepsRules k (value c s) = T (isValue k c s)
+  KeepsRules k (size w h) = T (isSize w h)
+  KeepsRules k (element c ts) = T (Class.isElement c) × KeepRules c (start c) ts
 
   -- What follows inside an element of kind k, read so far to this state.
-  pub keepRules : ℕ → State → Trees → Bool
-  keepRules k s empty = ended k s
-  keepRules k s (holds t ts) = keepsRules k t && goesOn (step k s (treeClass t)) (λ s′. keepRules k s′ ts)
+  pub KeepRules : ℕ → State → Trees → Type 0
+  KeepRules k s empty = T (ended k s)
+  KeepRules k s (holds t ts) = KeepsRules k t × GoesOn (step k s (treeClass t)) (λ s′. KeepRules k s′ ts)
 
 -- A node of a document: kind, id or target, type, text, image width, image height, children. A string that is missing is empty.
 mutual
@@ -116,11 +118,12 @@ unfoldable mutual
   sayAll (holds t ts) = cond (isNode t) (child (says t) (sayAll ts)) (sayAll ts)
 
 -- A tree that keeps the rules, its root of kind 1.
-unfoldable pub isDocument : Tree → Bool
-isDocument t = eqb (treeClass t) Class.document && keepsRules 0 t
+pub record Lawful (t : Tree) : Type 0 where
+  pub root : treeClass t ≡ Class.document
+  pub keeps : KeepsRules 0 t
 
 -- A document: what such a tree says.
 pub record Document (d : Node) : Type 0 where
   pub tree : Tree
-  pub lawful : T (isDocument tree)
+  pub lawful : Lawful tree
   pub said : says tree ≡ d

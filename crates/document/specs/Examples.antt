@@ -1,16 +1,85 @@
--- The judged examples of document 01 that are marked *, its settlements, the open points of docs/DECISIONS.md, and texts for the numbers 2 to 18,
--- each as one list of texts and answers.
--- That each text has the answer beside it is proved in `proofs/Judged.antt`.
+-- The judged examples of document 01 that are marked * and its printed listing, each with the whole outcome of the read;
+-- and with their answers alone its settlements, the open points of docs/DECISIONS.md, and texts for the numbers 2 to 18, each as one list.
+-- That each text has what is beside it is proved in `proofs/Judged.antt`.
 use Prim.Native.Nat.{ℕ}
 use Prim.Native.String.{String}
 use mathlib.Core.List.{List, [], _∷_, _++_}
 use lib.ListN.{length, replicate}
-use Rattle.utf8.specs.Scalar.{encodeAll}
-use Rattle.elements.specs.Bytes.{codes}
 use Rattle.document.specs.Spelling.{Spelling, nested, imperative}
 use Rattle.document.specs.Answer.{Answer, Memory, Outcome, outcome, over}
 use Rattle.document.specs.Printing.{Printed, printing}
+use Rattle.document.specs.Expected.{bytes, no-parent, bare, keyed, texts, Table, Whole, refusedAs, fills}
 
+-- The table of a document whose title is A, however it is spelled.
+unfoldable pub titled-A : Table
+titled-A = record { rows = bare 1 no-parent 3 ∷ bare 8 0 3 ∷ texts 1 3 0 1 ∷ []; pool = bytes "A" }
+
+-- An empty title.
+unfoldable pub untitled : Table
+untitled = record { rows = bare 1 no-parent 2 ∷ bare 8 0 2 ∷ []; pool = [] }
+
+-- A document and a section in it, both with the id x: in the pool each id stands before the title inside.
+unfoldable pub same-id-twice : Table
+same-id-twice =
+    record {
+      rows = keyed 1 no-parent 6 0 1 ∷ bare 8 0 3 ∷ texts 1 3 1 1 ∷ keyed 3 0 6 2 1 ∷ bare 8 3 6 ∷ texts 4 6 3 1 ∷ [];
+      pool = bytes "xAxB";
+    }
+
+-- A link, whose target x is on no block.
+unfoldable pub link-to-nowhere : Table
+link-to-nowhere =
+    record {
+      rows =
+          bare 1 no-parent 8
+          ∷ bare 8 0 3
+          ∷ texts 1 3 0 1
+          ∷ bare 3 0 8
+          ∷ bare 8 3 6
+          ∷ texts 4 6 1 1
+          ∷ bare 5 3 8
+          ∷ keyed 13 6 8 2 1
+          ∷ [];
+      pool = bytes "ABx";
+    }
+
+-- The document of the printed listing: kind, parent and end are the numbers of its lines.
+unfoldable pub listed : Table
+listed =
+    record {
+      rows =
+          bare 1 no-parent 8
+          ∷ bare 8 0 3
+          ∷ texts 1 3 0 1
+          ∷ bare 3 0 8
+          ∷ bare 8 3 6
+          ∷ texts 4 6 1 1
+          ∷ bare 5 3 8
+          ∷ texts 6 8 2 2
+          ∷ [];
+      pool = bytes "ABhi";
+    }
+
+-- The judged examples. The third has the second's table.
+unfoldable pub examples : List Whole
+examples =
+    refusedAs nested (bytes "") 7 0 1 1
+    ∷ fills nested (bytes "[document [title \"A\"]]") 0 0 1 1 3 1 titled-A (0 ∷ 10 ∷ 17 ∷ [])
+    ∷ fills nested (bytes "(document (title A))") 0 0 1 1 3 1 titled-A (0 ∷ 10 ∷ 17 ∷ [])
+    ∷ fills nested (bytes "[document [title]]") 0 0 1 1 2 0 untitled (0 ∷ 10 ∷ [])
+    ∷ refusedAs nested (bytes "[document]") 9 0 1 1
+    ∷ refusedAs nested (bytes "[document [title A)]") 5 18 1 19
+    ∷ refusedAs nested (bytes "[document [title \"\"]]") 4 17 1 18
+    ∷ refusedAs nested (bytes "[document [title A] [paragraph]]") 8 20 1 21
+    ∷ refusedAs nested (bytes "[document [title A] [section [title B] [footnote [type t] [id f]]]]") 9 39 1 40
+    ∷ refusedAs nested (bytes "[document [title A] [section [title B] [paragraph] [subsection [title C]]]]") 11 51 1 52
+    ∷ fills nested (bytes "[document [title A] [id x] [section [title B] [id x]]]") 16 27 1 28 6 4 same-id-twice (0 ∷ 10 ∷ 17 ∷ 27 ∷ 36 ∷ 43 ∷ [])
+    ∷ fills nested (bytes "[document [title A] [section [title B] [paragraph [link [target x]]]]]") 17 50 1 51 8 3 link-to-nowhere (0 ∷ 10 ∷ 17 ∷ 20 ∷ 29 ∷ 36 ∷ 39 ∷ 50 ∷ [])
+    ∷ refusedAs imperative (bytes "[document [title A]] hi") 8 21 1 22
+    ∷ fills imperative (bytes "[document [title A]] [section [title B]] [paragraph] hi") 0 0 1 1 8 4 listed (0 ∷ 10 ∷ 17 ∷ 21 ∷ 30 ∷ 37 ∷ 41 ∷ 53 ∷ [])
+    ∷ []
+
+-- A text and what reading it answers.
 pub record Example : Type 0 where
   pub spelling : Spelling
   pub text : List ℕ
@@ -21,9 +90,6 @@ abbrev pub exampleOf : Spelling → List ℕ → ℕ → ℕ → ℕ → ℕ →
 exampleOf s t n p line column nodes pool =
     record { spelling = s; text = t; expected = record { number = n; place = p; line = line; column = column; nodes = nodes; pool = pool } }
 
-unfoldable pub bytes : String → List ℕ
-bytes s = encodeAll (codes s)
-
 -- The same of a text that is written out, as UTF-8.
 abbrev pub example : Spelling → String → ℕ → ℕ → ℕ → ℕ → ℕ → ℕ → Example
 example s t = exampleOf s (bytes t)
@@ -32,27 +98,8 @@ example s t = exampleOf s (bytes t)
 unfoldable pub room : Memory
 room = record { nodes = replicate 704 7; places = replicate 64 7; pool = replicate 64 7 }
 
--- What reading the text answers.
 unfoldable pub answered : Example → Answer
 answered e = outcome (e .spelling) (e .text) room .answer
-
--- The judged examples.
-unfoldable pub examples : List Example
-examples =
-    example nested "" 7 0 1 1 0 0
-    ∷ example nested "[document [title \"A\"]]" 0 0 1 1 3 1
-    ∷ example nested "(document (title A))" 0 0 1 1 3 1
-    ∷ example nested "[document [title]]" 0 0 1 1 2 0
-    ∷ example nested "[document]" 9 0 1 1 0 0
-    ∷ example nested "[document [title A)]" 5 18 1 19 0 0
-    ∷ example nested "[document [title \"\"]]" 4 17 1 18 0 0
-    ∷ example nested "[document [title A] [paragraph]]" 8 20 1 21 0 0
-    ∷ example nested "[document [title A] [section [title B] [footnote [type t] [id f]]]]" 9 39 1 40 0 0
-    ∷ example nested "[document [title A] [section [title B] [paragraph] [subsection [title C]]]]" 11 51 1 52 0 0
-    ∷ example nested "[document [title A] [id x] [section [title B] [id x]]]" 16 27 1 28 6 4
-    ∷ example nested "[document [title A] [section [title B] [paragraph [link [target x]]]]]" 17 50 1 51 8 3
-    ∷ example imperative "[document [title A]] hi" 8 21 1 22 0 0
-    ∷ []
 
 -- "Its settlements": each text would be answered otherwise under the source's reading.
 unfoldable pub settlements : List Example

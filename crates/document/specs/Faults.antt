@@ -3,15 +3,16 @@
 use Prim.Native.Nat.{ℕ}
 use mathlib.Core.Path.{_≡_}
 use mathlib.Core.Bool.{false}
-use mathlib.Core.List.{List, [], _∷_}
+use mathlib.Core.List.{List, [], _∷_, List·Memᴰ}
 use lib.Dec.{T}
 use Rattle.elements.specs.Bytes.{among}
 use Rattle.elements.specs.Class as Class
-use Rattle.elements.specs.Rules.{Slot, must, may, id-type, Content, any-of, exactly-one, ruleOf}
-use Rattle.elements.specs.Inside.{sort, isInclude}
+use Rattle.elements.specs.Rules.{Slot, must, may, id-type, Content, alternatives, exactly-one, ruleOf}
+use Rattle.elements.specs.Inside.{isInclude}
 use Rattle.syntax.specs.Expression.{Expr, list, Exprs, none, and, place}
-use Rattle.document.specs.Document.{Tree, keepsRules}
-use Rattle.document.specs.Spelling.{Writes, exprClass, leadClass}
+use Rattle.document.specs.Document.{Tree, KeepsRules}
+use Rattle.document.specs.Spelling.{Writes}
+use Rattle.document.specs.Lead.{exprClass, leadClass}
 
 -- "an expression is the next one if it is a list led by that name": an expression of class c is the next of these parameters, and leaves those.
 pub data Next : List Slot → ℕ → List Slot → Type 0 where
@@ -34,37 +35,42 @@ pub data Absent : List Slot → ℕ → Type 0 where
   passed-over : {c n : ℕ} {ps : List Slot} → (c ≡ n → ⊥) → Absent ps c → Absent (may n ∷ ps) c
   both-passed-over : {c : ℕ} {ps : List Slot} → (c ≡ Class.id → ⊥) → (c ≡ Class.type → ⊥) → Absent ps c → Absent (id-type ∷ ps) c
 
--- How an element has begun: these parameters may still come, or it has children, the first of this sort.
+-- How an element has begun: these parameters may still come, or it has children of this alternative of its row, which the first child chose.
 pub data Begun : Type 0 where
   due : List Slot → Begun
-  children : ℕ → Begun
+  children : List ℕ → Begun
 
 -- An expression of class c stands at a content place.
 pub data ContentPlace (c : ℕ) : Begun → Type 0 where
   first : {ps : List Slot} → NoneDue ps c → ContentPlace c (due ps)
-  further : {s : ℕ} → ContentPlace c (children s)
+  further : {ks : List ℕ} → ContentPlace c (children ks)
 
--- A child of class c may stand in this content: a verbatim's second text may not.
+-- A child of class c may stand in this content: it is of one of its alternatives. A verbatim's second text may not.
 pub data Allowed (c : ℕ) : Content → Begun → Type 0 where
-  one-of : {ks : List ℕ} {b : Begun} → T (among c ks) → Allowed c (any-of ks) b
+  one-of : {kss : List (List ℕ)} {ks : List ℕ} {b : Begun} → List·Memᴰ ks kss → T (among c ks) → Allowed c (alternatives kss) b
   the-one : {ps : List Slot} → Allowed c (exactly-one c) (due ps)
 
--- A child of class c is of the first child's sort, or is the first.
+-- A first child of class c chooses this alternative of a content: "parts only or sections only", "subsections only, or paragraphs, formal items and footnotes".
+pub data Chooses (c : ℕ) : Content → List ℕ → Type 0 where
+  one-of : {kss : List (List ℕ)} {ks : List ℕ} → List·Memᴰ ks kss → T (among c ks) → Chooses c (alternatives kss) ks
+  the-one : Chooses c (exactly-one c) (c ∷ [])
+
+-- A child of class c is of the first child's sort, which is the alternative that this chose, or is the first.
 pub data SameSort (c : ℕ) : Begun → Type 0 where
   the-first : {ps : List Slot} → SameSort c (due ps)
-  as-first : {s : ℕ} → sort c ≡ s → SameSort c (children s)
+  as-first : {ks : List ℕ} → T (among c ks) → SameSort c (children ks)
 
 -- How an element that has begun so goes on after an expression of class c that may stand there.
 pub data Taken (k c : ℕ) : Begun → Begun → Type 0 where
   parameter : {ps qs : List Slot} → Next ps c qs → Taken k c (due ps) (due qs)
-  first-child : {ps : List Slot} → NoneDue ps c → (T (isInclude c) → ⊥) → Allowed c (ruleOf k .content) (due ps) → Taken k c (due ps) (children (sort c))
-  next-child : {s : ℕ} → (T (isInclude c) → ⊥) → Allowed c (ruleOf k .content) (children s) → sort c ≡ s → Taken k c (children s) (children s)
+  first-child : {ps : List Slot} {ks : List ℕ} → NoneDue ps c → (T (isInclude c) → ⊥) → Chooses c (ruleOf k .content) ks → Taken k c (due ps) (children ks)
+  next-child : {ks : List ℕ} → (T (isInclude c) → ⊥) → Allowed c (ruleOf k .content) (children ks) → SameSort c (children ks) → Taken k c (children ks) (children ks)
 
 -- The expression writes a tree that keeps the rules inside an element of kind k.
 pub record Fine (k : ℕ) (e : Expr) : Type 0 where
   pub tree : Tree
   pub writes : Writes tree e
-  pub lawful : T (keepsRules k tree)
+  pub lawful : KeepsRules k tree
 
 -- None of these parameters is required.
 pub data NoneRequired : List Slot → Type 0 where
@@ -74,8 +80,8 @@ pub data NoneRequired : List Slot → Type 0 where
 
 -- An element that has begun so may end: with a child, or where no required parameter is left and its content may be empty.
 pub data MayEnd (k : ℕ) : Begun → Type 0 where
-  no-child : {ps : List Slot} {ks : List ℕ} → NoneRequired ps → ruleOf k .content ≡ any-of ks → MayEnd k (due ps)
-  some-child : {s : ℕ} → MayEnd k (children s)
+  no-child : {ps : List Slot} {kss : List (List ℕ)} → NoneRequired ps → ruleOf k .content ≡ alternatives kss → MayEnd k (due ps)
+  some-child : {ks : List ℕ} → MayEnd k (children ks)
 
 mutual
   -- The expressions that follow in an element of kind k at place `at`, which has begun so, have the fault n at place p.

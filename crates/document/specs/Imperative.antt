@@ -1,4 +1,5 @@
--- The nested expression that an imperative text stands for. Document 01, "Imperative": each command takes what follows it, up to the next command that ends it;
+-- The run of expressions for a nested one, and back: the nested expression that an imperative text stands for. They need not be believed: that the one is what `Flat` tells is proved in
+-- `proofs/Flat.antt`, and the other what `Takes` tells in `proofs/Takes.antt`. Document 01, "Imperative": each command takes what follows it, up to the next command that ends it;
 -- what may not stand where it stands is put as an expression that is allowed nowhere, so that the nested meaning refuses it at its own place.
 use Prim.Native.Nat.{ℕ}
 use mathlib.Core.Bool.{Bool, not, cond, _&&_, _||_}
@@ -6,7 +7,36 @@ use mathlib.Core.List.{List, [], _∷_, map}
 use lib.Dec.{eqb, leb}
 use Rattle.elements.specs.Class as Class
 use Rattle.syntax.specs.Expression.{Expr, symbol, quoted, list, Exprs, none, and, place}
-use Rattle.document.specs.Spelling.{exprClass, isBlockParameter, join}
+use Rattle.document.specs.Spelling.{Spelling, nested, imperative, isBlockParameter}
+use Rattle.document.specs.Lead.{leadClass, exprClass}
+
+unfoldable pub parameters : Exprs → Exprs
+parameters none = none
+parameters (and e es) = cond (isBlockParameter (exprClass e)) (and e (parameters es)) (parameters es)
+
+unfoldable pub join : Exprs → Exprs → Exprs
+join none fs = fs
+join (and e es) fs = and e (join es fs)
+
+-- The run of expressions for a nested one. "Imperative, kinds 1 to 7 close before their content, which follows."
+unfoldable mutual
+  pub flatten : Expr → Exprs
+  flatten (symbol at s) = and (symbol at s) none
+  flatten (quoted at s) = and (quoted at s) none
+  flatten (list at es) = flattenList at es
+
+  pub flattenList : ℕ → Exprs → Exprs
+  flattenList at none = and (list at none) none
+  flattenList at (and e es) =
+      cond (Class.isBlock (leadClass e)) (and (list at (and e (parameters es))) (flattenContent es)) (and (list at (and e es)) none)
+
+  pub flattenContent : Exprs → Exprs
+  flattenContent none = none
+  flattenContent (and e es) = cond (isBlockParameter (exprClass e)) (flattenContent es) (join (flatten e) (flattenContent es))
+
+unfoldable pub spelledAs : Spelling → Expr → Exprs
+spelledAs nested e = and e none
+spelledAs imperative e = flatten e
 
 -- The empty list is allowed nowhere.
 unfoldable pub notAllowed : Expr → Expr

@@ -1,10 +1,16 @@
 pub mod Value
 pub mod Document
+pub mod RulesTest
 pub mod Spelling
+pub mod Lead
 pub mod Meaning
 pub mod Imperative
+pub mod Takes
 pub mod Table
+pub mod Visits
+pub mod Placed
 pub mod WellFormed
+pub mod Check
 pub mod Answer
 pub mod Demand
 pub mod Prose
@@ -12,4 +18,10 @@ pub mod Faults
 pub mod Account
 pub mod Canonical
 pub mod Printing
+pub mod PrintAccount
+pub mod Expected
 pub mod Examples
+pub mod Outcomes
+pub mod PrintingExamples
+pub mod Sizes
+pub mod Plain

@@ -8,8 +8,9 @@ use Rattle.elements.specs.Class as Class
 use Rattle.elements.specs.Inside.{State, Step, go, bad, step, start, ended}
 use Rattle.syntax.specs.Expression.{Expr, symbol, quoted, list, Exprs, none, and, place}
 use Rattle.document.specs.Value.{isDecimal, decimalAfter}
-use Rattle.document.specs.Document.{Tree, text, value, size, element, Trees, empty, holds, keepsRules}
-use Rattle.document.specs.Spelling.{leadClass, exprClass}
+use Rattle.document.specs.Document.{Tree, text, value, size, element, Trees, empty, holds}
+use Rattle.document.specs.RulesTest.{keepsRules}
+use Rattle.document.specs.Lead.{leadClass, exprClass}
 
 -- The bytes of the one text, or the one symbol, that an id, target or type holds; what holds anything else has none, which no value may be.
 unfoldable pub textBytes : Expr → List ℕ

@@ -6,9 +6,11 @@ use mathlib.Core.List.{List, [], _∷_}
 use lib.Dec.{T, eqb, leb, ltb}
 use lib.ListN.{length, getD, take, drop}
 use Rattle.elements.specs.Bytes.{same}
-use Rattle.document.specs.Document.{Tree, Node, node, Nodes, childless, child, missing, isDocument, says, Document}
+use Rattle.document.specs.Document.{Tree, Node, node, Nodes, childless, child, missing, says, Document}
+use Rattle.document.specs.RulesTest.{isDocument}
 use Rattle.document.specs.Table.{recordLength, tableOf, pool, count}
-use Rattle.document.specs.WellFormed.{Check, sound, unsound, check, WellFormed}
+use Rattle.document.specs.Check.{Check, sound, unsound, check}
+use Rattle.document.specs.WellFormed.{WellFormed}
 use Rattle.document.specs.Answer.{over}
 use Rattle.document.specs.Canonical.{layout, treeLevels, canonical}
 

@@ -6,17 +6,8 @@ use mathlib.Core.List.{List, List·Memᴰ}
 use lib.Dec.{T}
 use Rattle.elements.specs.Class as Class
 use Rattle.document.specs.Document.{Node, node, Nodes, childless, child}
-use Rattle.document.specs.WellFormed.{childCount, exactly, cellsIn, Entry, entries, hasId}
-
-unfoldable pub nodeKind : Node → ℕ
-nodeKind (node k key type text w h ns) = k
-
--- The id of a block, or the target of what names one.
-unfoldable pub nodeKey : Node → List ℕ
-nodeKey (node k key type text w h ns) = key
-
-unfoldable pub nodeChildren : Node → Nodes
-nodeChildren (node k key type text w h ns) = ns
+use Rattle.document.specs.Check.{exactly, cellsIn, Entry, entries, hasId}
+use Rattle.document.specs.Visits.{nodeKind, nodeChildren, childCount}
 
 -- The node n is one of these.
 unfoldable pub OneOf : Node → Nodes → Type 0

@@ -2,14 +2,15 @@
 use Prim.Native.Nat.{ℕ, _≤_}
 use mathlib.Core.Path.{_≡_}
 use mathlib.Core.Bool.{Bool, cond, _||_}
-use mathlib.Core.List.{List}
+use mathlib.Core.List.{List, [], _∷_, _++_}
 use lib.Dec.{T, eqb}
+use lib.ListN.{length}
 use Rattle.utf8.specs.Scalar.{IsUtf8}
 use Rattle.elements.specs.Class as Class
 use Rattle.syntax.specs.Syntax.{Forest, another, Ok, bytesOf, levels}
-use Rattle.syntax.specs.Expression.{Expr, symbol, quoted, list, Exprs, none, and, locate, depth}
+use Rattle.syntax.specs.Expression.{Expr, symbol, quoted, list, Exprs, none, and, place, locate}
 use Rattle.document.specs.Value.{isDecimal, decimalAfter}
-use Rattle.document.specs.Document.{Tree, text, value, size, element, Trees, empty, holds, Node, isDocument, says}
+use Rattle.document.specs.Document.{Tree, text, value, size, element, Trees, empty, holds, treeClass, Node, Lawful, says}
 
 pub data Spelling : Type 0 where
   nested imperative : Spelling
@@ -45,70 +46,90 @@ mutual
     writes-none : WritesAll empty none
     writes-and : {t : Tree} {ts : Trees} {e : Expr} {es : Exprs} → Writes t e → WritesAll ts es → WritesAll (holds t ts) (and e es)
 
--- The class of an expression: a text's, or that of the name that leads a list; 0 for any other list. "a list led by the symbol of its name".
-unfoldable pub leadClass : Expr → ℕ
-leadClass (symbol at s) = Class.classOf s
-leadClass (quoted at s) = 0
-leadClass (list at es) = 0
-
-unfoldable pub listClass : Exprs → ℕ
-listClass none = 0
-listClass (and e es) = leadClass e
-
-unfoldable pub exprClass : Expr → ℕ
-exprClass (symbol at s) = Class.text
-exprClass (quoted at s) = Class.text
-exprClass (list at es) = listClass es
-
 -- The parameters of kinds 1 to 7.
 unfoldable pub isBlockParameter : ℕ → Bool
 isBlockParameter c = eqb c Class.title || eqb c Class.id || eqb c Class.type
-
-unfoldable pub parameters : Exprs → Exprs
-parameters none = none
-parameters (and e es) = cond (isBlockParameter (exprClass e)) (and e (parameters es)) (parameters es)
-
-unfoldable pub join : Exprs → Exprs → Exprs
-join none fs = fs
-join (and e es) fs = and e (join es fs)
-
--- The run of expressions for a nested one. "Imperative, kinds 1 to 7 close before their content, which follows."
-unfoldable mutual
-  pub flatten : Expr → Exprs
-  flatten (symbol at s) = and (symbol at s) none
-  flatten (quoted at s) = and (quoted at s) none
-  flatten (list at es) = flattenList at es
-
-  pub flattenList : ℕ → Exprs → Exprs
-  flattenList at none = and (list at none) none
-  flattenList at (and e es) =
-      cond (Class.isBlock (leadClass e)) (and (list at (and e (parameters es))) (flattenContent es)) (and (list at (and e es)) none)
-
-  pub flattenContent : Exprs → Exprs
-  flattenContent none = none
-  flattenContent (and e es) = cond (isBlockParameter (exprClass e)) (flattenContent es) (join (flatten e) (flattenContent es))
-
-unfoldable pub spelledAs : Spelling → Expr → Exprs
-spelledAs nested e = and e none
-spelledAs imperative e = flatten e
 
 -- "64 levels", and imperative "Its brackets nest at most 59 deep."
 unfoldable pub mostLevels : Spelling → ℕ
 mostLevels nested = 64
 mostLevels imperative = 59
 
+-- 1, "text over 65,536 bytes"
+abbrev pub mostBytes : ℕ
+mostBytes = 65536
+
+-- What a block has in its brackets, and what follows them.
+unfoldable pub parametersOf : Trees → Trees
+parametersOf empty = empty
+parametersOf (holds t ts) = cond (isBlockParameter (treeClass t)) (holds t (parametersOf ts)) (parametersOf ts)
+
+unfoldable pub contentOf : Trees → Trees
+contentOf empty = empty
+contentOf (holds t ts) = cond (isBlockParameter (treeClass t)) (contentOf ts) (holds t (contentOf ts))
+
+-- The expression is brackets around the name of kind k and these expressions.
+pub data Bracketed (k : ℕ) (es : Exprs) : Expr → Type 0 where
+  brackets-around : {at p : ℕ} → Bracketed k es (bracketed at p k es)
+
+-- "Imperative, kinds 1 to 7 close before their content, which follows." The run of expressions writes the tree, and goes on with `rest`.
+mutual
+  pub data Flat : Tree → Exprs → Exprs → Type 0 where
+    flat-block : {k : ℕ} {ts : Trees} {e : Expr} {es fs rest : Exprs} → T (Class.isBlock k) → Bracketed k es e → WritesAll (parametersOf ts) es
+        → FlatAll (contentOf ts) fs rest → Flat (element k ts) (and e fs) rest
+    flat-other : {t : Tree} {e : Expr} {rest : Exprs} → (T (Class.isBlock (treeClass t)) → ⊥) → Writes t e → Flat t (and e rest) rest
+
+  pub data FlatAll : Trees → Exprs → Exprs → Type 0 where
+    flat-none : {rest : Exprs} → FlatAll empty rest rest
+    flat-and : {t : Tree} {ts : Trees} {es more rest : Exprs} → Flat t es more → FlatAll ts more rest → FlatAll (holds t ts) es rest
+
+-- The expressions of a text write the tree: one of them, nested, or all of them, imperative.
+pub data WritesIn : Spelling → Tree → Exprs → Type 0 where
+  as-nested : {t : Tree} {e : Expr} → Writes t e → WritesIn nested t (and e none)
+  as-imperative : {t : Tree} {es : Exprs} → Flat t es none → WritesIn imperative t es
+
 -- The text spells the document d in this spelling: it is UTF-8 and the bytes of concrete syntax whose expressions write a tree that keeps the rules and says d.
--- `within` is the limit on nesting that number 6 is about, and `nested-within` that of number 19.
+-- No limit is in it: those on length and nesting stand in `WithinLimits`.
 pub record Spells (spelling : Spelling) (d : Node) (bytes : List ℕ) : Type 0 where
   pub utf8 : IsUtf8 bytes
   pub forest : Forest
   pub syntax : Ok another forest
   pub spelled : bytesOf forest ≡ bytes
-  pub within : levels forest ≤ mostLevels spelling
-  pub expression : Expr
-  pub expressions : locate 0 forest ≡ spelledAs spelling expression
-  pub nested-within : depth expression ≤ 64
   pub tree : Tree
-  pub writes : Writes tree expression
-  pub lawful : T (isDocument tree)
+  pub writes : WritesIn spelling tree (locate 0 forest)
+  pub lawful : Lawful tree
   pub said : says tree ≡ d
+
+-- The limits on a text: 1, "text over 65,536 bytes", and 6, "65th level (imperative: 60th)".
+pub record WithinLimits (spelling : Spelling) (text : List ℕ) (forest : Forest) : Type 0 where
+  pub short : length text ≤ mostBytes
+  pub nests : levels forest ≤ mostLevels spelling
+
+-- The places of the nodes: "The place list has one word a node, the offset of its first byte". A node's first byte is that of the expression that writes it; values are no nodes.
+unfoldable mutual
+  pub placesOf : (t : Tree) (e : Expr) → Writes t e → List ℕ
+  placesOf (text s) e w = place e ∷ []
+  placesOf (value c s) e w = []
+  placesOf (size v h) e w = []
+  placesOf (element k ts) e (writes-element ws) = place e ∷ placesOfAll ts _ ws
+
+  pub placesOfAll : (ts : Trees) (es : Exprs) → WritesAll ts es → List ℕ
+  placesOfAll empty es w = []
+  placesOfAll (holds t ts) es (writes-and w ws) = placesOf t _ w ++ placesOfAll ts _ ws
+
+unfoldable mutual
+  pub flatPlaces : {t : Tree} {es rest : Exprs} → Flat t es rest → List ℕ
+  flatPlaces (flat-block {e = e} b x ps cs) = place e ∷ (placesOfAll _ _ ps ++ flatPlacesAll cs)
+  flatPlaces (flat-other b w) = placesOf _ _ w
+
+  pub flatPlacesAll : {ts : Trees} {es rest : Exprs} → FlatAll ts es rest → List ℕ
+  flatPlacesAll flat-none = []
+  flatPlacesAll (flat-and f fs) = flatPlaces f ++ flatPlacesAll fs
+
+unfoldable pub placesIn : {s : Spelling} {t : Tree} {es : Exprs} → WritesIn s t es → List ℕ
+placesIn (as-nested w) = placesOf _ _ w
+placesIn (as-imperative f) = flatPlaces f
+
+-- The place list of a text that spells a document.
+unfoldable pub nodePlaces : {s : Spelling} {d : Node} {text : List ℕ} → Spells s d text → List ℕ
+nodePlaces sp = placesIn (sp .writes)

@@ -4,7 +4,6 @@ use mathlib.Core.Bool.{Bool, true, false, cond, _&&_, _||_}
 use mathlib.Core.List.{List, [], _∷_}
 use lib.Dec.{eqb, leb}
 use lib.ListN.{length}
-use Rattle.utf8.specs.Sequence.{validUpTo}
 use Rattle.elements.specs.Class as Class
 use Rattle.elements.specs.Characters.{isDigit, typeCharacter, idCharacter, uriCharacter}
 
@@ -30,10 +29,6 @@ isValue k c s =
     && cond (eqb c Class.type) (every typeCharacter s)
     (cond (eqb c Class.id) (every idCharacter s)
     (cond (eqb c Class.target) (every (targetCharacter k) s) false))
-
--- "each text one or more code points"
-unfoldable pub isText : List ℕ → Bool
-isText s = nonEmpty s && eqb (validUpTo s) (length s)
 
 -- "at most 65,535 each"
 unfoldable pub isSize : ℕ → ℕ → Bool

@@ -1,122 +1,81 @@
--- Faults 15 to 18 of a document, each with the number of the first node that has it. Document 01, "Numbers answered".
-use Prim.Native.Nat.{ℕ, suc, _+_}
+-- Faults 15 to 18 of a document, and what is well-formed: each fault is said of a node by its number, with no search. Document 01, "Numbers answered".
+use Prim.Native.Nat.{ℕ, _<_}
 use mathlib.Core.Path.{_≡_}
-use mathlib.Core.Bool.{Bool, false, not, cond, _&&_, _||_}
-use mathlib.Core.List.{List, [], _∷_, _++_}
-use lib.Dec.{eqb}
-use Rattle.elements.specs.Bytes.{same}
+use mathlib.Core.List.{List, List·Memᴰ}
+use lib.Dec.{T}
 use Rattle.elements.specs.Class as Class
 use Rattle.document.specs.Value.{nonEmpty}
-use Rattle.document.specs.Document.{Node, node, Nodes, childless, child}
-use Rattle.document.specs.Table.{count}
+use Rattle.document.specs.Document.{Node}
+use Rattle.document.specs.Visits.{nodeKind, nodeKey, nodeChildren, childCount, Visit, visitsOf}
 
-pub data First : Type 0 where
-  nowhere : First
-  at-node : ℕ → First
+-- Node number i of the document d is v, and of kind k.
+pub record NodeAt (d : Node) (i k : ℕ) (v : Visit) : Type 0 where
+  pub there : List·Memᴰ v (visitsOf d)
+  pub number-is : v .number ≡ i
+  pub kind-is : nodeKind (v .visited) ≡ k
 
-unfoldable pub orElse : First → First → First
-orElse nowhere f = f
-orElse (at-node i) f = at-node i
+-- 15, "row of a table with head, count of cells differs": node i is a row of a body of a table, and the table has a head with another number of names.
+pub record BadRow (d : Node) (i : ℕ) : Type 0 where
+  pub row : Visit
+  pub body : Visit
+  pub table : Visit
+  pub head : Visit
+  pub is-row : NodeAt d i Class.row row
+  pub in-body : NodeAt d (row .parent) Class.body body
+  pub in-table : NodeAt d (body .parent) Class.table table
+  pub is-head : NodeAt d (head .number) Class.head head
+  pub its-head : head .parent ≡ table .number
+  pub other-count : childCount (nodeChildren (row .visited)) ≡ childCount (nodeChildren (head .visited)) → ⊥
 
-unfoldable pub childCount : Nodes → ℕ
-childCount childless = 0
-childCount (child n ns) = suc (childCount ns)
+-- Node i is v, a block, and has the id s: "blocks are kinds 1 to 7".
+pub record HasId (d : Node) (s : List ℕ) (i : ℕ) (v : Visit) : Type 0 where
+  pub there : List·Memᴰ v (visitsOf d)
+  pub number-is : v .number ≡ i
+  pub is-block : T (Class.isBlock (nodeKind (v .visited)))
+  pub present : T (nonEmpty s)
+  pub id-is : nodeKey (v .visited) ≡ s
 
--- How many cells the rows of a table must have: any number, or as many as its head has names.
-pub data Cells : Type 0 where
-  any-number : Cells
-  exactly : ℕ → Cells
-
-unfoldable pub headCells : Cells → Node → Cells
-headCells c (node k key type text w h ns) = cond (eqb k Class.head) (exactly (childCount ns)) c
-
-unfoldable pub cellsIn : Nodes → Cells
-cellsIn childless = any-number
-cellsIn (child n ns) = headCells (cellsIn ns) n
-
-unfoldable pub differs : Cells → ℕ → Bool
-differs any-number m = false
-differs (exactly n) m = not (eqb n m)
-
--- What holds for the children of a node of kind k: a table's head binds its body, and that its rows.
-unfoldable pub cellsBelow : Cells → ℕ → Nodes → Cells
-cellsBelow c k ns = cond (eqb k Class.table) (cellsIn ns) (cond (eqb k Class.body) c any-number)
-
--- 15, "row of a table with head, count of cells differs": from node number i on, under rows that must have c cells.
-unfoldable mutual
-  pub badRow : ℕ → Cells → Node → First
-  badRow i c (node k key type text w h ns) =
-      cond (eqb k Class.row && differs c (childCount ns)) (at-node i) (badRowAmong (i + 1) (cellsBelow c k ns) ns)
-
-  pub badRowAmong : ℕ → Cells → Nodes → First
-  badRowAmong i c childless = nowhere
-  badRowAmong i c (child n ns) = orElse (badRow i c n) (badRowAmong (i + count n) c ns)
-
--- A node with its number, in document order.
-pub record Entry : Type 0 where
-  pub number : ℕ
-  pub kind : ℕ
-  pub key : List ℕ
-
-unfoldable mutual
-  pub entries : ℕ → Node → List Entry
-  entries i (node k key type text w h ns) = record { number = i; kind = k; key = key } ∷ entriesAmong (i + 1) ns
-
-  pub entriesAmong : ℕ → Nodes → List Entry
-  entriesAmong i childless = []
-  entriesAmong i (child n ns) = entries i n ++ entriesAmong (i + count n) ns
-
--- A block that has an id.
-unfoldable pub hasId : Entry → Bool
-hasId e = Class.isBlock (e .kind) && nonEmpty (e .key)
-
--- The ids of blocks of any kind, or of one kind.
-unfoldable pub idsWhere : (ℕ → Bool) → List Entry → List (List ℕ)
-idsWhere p [] = []
-idsWhere p (e ∷ es) = cond (p (e .kind) && hasId e) (e .key ∷ idsWhere p es) (idsWhere p es)
-
-unfoldable pub isAmong : List ℕ → List (List ℕ) → Bool
-isAmong s [] = false
-isAmong s (t ∷ ts) = same s t || isAmong s ts
-
--- 16, "id already on an earlier block": the ids of the earlier ones are `seen`.
-unfoldable pub repeatedId : List (List ℕ) → List Entry → First
-repeatedId seen [] = nowhere
-repeatedId seen (e ∷ es) =
-    let with-id = cond (isAmong (e .key) seen) (at-node (e .number)) (repeatedId (e .key ∷ seen) es) in
-    let without = repeatedId seen es in
-    cond (hasId e) with-id without
-
--- The first node of kind k whose target is none of these ids.
-unfoldable pub unknownTarget : ℕ → List (List ℕ) → List Entry → First
-unknownTarget k ids [] = nowhere
-unknownTarget k ids (e ∷ es) =
-    cond (eqb (e .kind) k && not (isAmong (e .key) ids)) (at-node (e .number)) (unknownTarget k ids es)
+-- 16, "id already on an earlier block"
+pub record RepeatedId (d : Node) (i : ℕ) : Type 0 where
+  pub id : List ℕ
+  pub block : Visit
+  pub has-id : HasId d id i block
+  pub earlier : ℕ
+  pub before : earlier < i
+  pub other : Visit
+  pub also-has : HasId d id earlier other
 
 -- 17, "link target on no block": "A link may name any block, footnotes and the document too."
-unfoldable pub unknownLink : List Entry → First
-unknownLink es = unknownTarget Class.link (idsWhere Class.isBlock es) es
+pub record UnknownLink (d : Node) (i : ℕ) : Type 0 where
+  pub link : Visit
+  pub is-link : NodeAt d i Class.link link
+  pub on-none : (j : ℕ) (b : Visit) → HasId d (nodeKey (link .visited)) j b → ⊥
 
 -- 18, "footnote-ref target on no footnote"
-unfoldable pub unknownFootnote : List Entry → First
-unknownFootnote es = unknownTarget Class.footnote-ref (idsWhere (eqb Class.footnote) es) es
+pub record UnknownFootnote (d : Node) (i : ℕ) : Type 0 where
+  pub reference : Visit
+  pub is-reference : NodeAt d i Class.footnote-ref reference
+  pub on-none : (j : ℕ) (b : Visit) → HasId d (nodeKey (reference .visited)) j b → nodeKind (b .visited) ≡ Class.footnote → ⊥
 
-pub data Check : Type 0 where
-  sound : Check
-  unsound : ℕ → ℕ → Check
+-- No node has the fault.
+abbrev pub None : (ℕ → Type 0) → Type 0
+None Has = (i : ℕ) → Has i → ⊥
 
-unfoldable pub checkedBy : ℕ → First → Check → Check
-checkedBy n nowhere next = next
-checkedBy n (at-node i) next = unsound n i
+-- "first such": node i has the fault, and no node with a smaller number has it.
+pub record FirstSuch (Has : ℕ → Type 0) (i : ℕ) : Type 0 where
+  pub has : Has i
+  pub none-before : (j : ℕ) → j < i → Has j → ⊥
 
--- The first of 15 to 18 that the document has, with its node.
-unfoldable pub check : Node → Check
-check d =
-    checkedBy 15 (badRow 0 any-number d)
-    (checkedBy 16 (repeatedId [] (entries 0 d))
-    (checkedBy 17 (unknownLink (entries 0 d))
-    (checkedBy 18 (unknownFootnote (entries 0 d)) sound)))
+-- The fault of the document, 15 to 18, and its node: "The first group in this order that applies decides."
+pub data FirstFault (d : Node) : ℕ → ℕ → Type 0 where
+  bad-row : {i : ℕ} → FirstSuch (BadRow d) i → FirstFault d 15 i
+  repeated-id : {i : ℕ} → None (BadRow d) → FirstSuch (RepeatedId d) i → FirstFault d 16 i
+  unknown-link : {i : ℕ} → None (BadRow d) → None (RepeatedId d) → FirstSuch (UnknownLink d) i → FirstFault d 17 i
+  unknown-footnote : {i : ℕ} → None (BadRow d) → None (RepeatedId d) → None (UnknownLink d) → FirstSuch (UnknownFootnote d) i → FirstFault d 18 i
 
 -- "It is well-formed if it also has none of the faults numbered 15 to 18".
-unfoldable pub WellFormed : Node → Type 0
-WellFormed d = check d ≡ sound
+pub record WellFormed (d : Node) : Type 0 where
+  pub rows : None (BadRow d)
+  pub ids : None (RepeatedId d)
+  pub links : None (UnknownLink d)
+  pub footnotes : None (UnknownFootnote d)

@@ -1,4 +1,10 @@
 pub mod Same
 pub mod Names
+pub mod EachRow
+pub mod Alternatives
+pub mod Significance
 pub mod Rows
 pub mod Characters
+pub mod PlainNames
+pub mod PlainCharacters
+pub mod PlainInside

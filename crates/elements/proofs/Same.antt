@@ -24,6 +24,11 @@ same-equal (x ∷ xs) (y ∷ ys) t =
     let (now, later) = both (eqb x y) (same xs ys) t in
     cc (eqb→eq x y now, same-equal xs ys later)
 
+pub same-itself : (xs : List ℕ) → same xs xs ≡ true
+unfolding same
+same-itself [] = refl
+same-itself (x ∷ xs) = rw (eq-eqb x x refl) (same-itself xs)
+
 -- Strings of two lengths differ.
 pub same-lengths : (xs ys : List ℕ) → (length xs ≡ length ys → ⊥) → same xs ys ≡ false
 unfolding same

@@ -6,38 +6,44 @@ use mathlib.Core.List.{List, [], _∷_}
 use lib.Dec.{eqb}
 use Rattle.elements.specs.Bytes.{among}
 use Rattle.elements.specs.Class as Class
-use Rattle.elements.specs.Rules.{Slot, must, may, id-type, Content, any-of, exactly-one, ruleOf}
+use Rattle.elements.specs.Rules.{Slot, must, may, id-type, Content, alternatives, exactly-one, alternativesOf, ruleOf}
 
--- How far an element is read: these parameters may still come (with none left, the first child), or it holds children, the first of this sort.
+-- How far an element is read: these parameters may still come (with none left, the first child), or it holds children of this alternative of its row, the
+-- first child's, and those that follow must be of it too.
 pub data State : Type 0 where
   expecting : List Slot → State
-  holding : ℕ → State
+  holding : List ℕ → State
 
 -- An expression is taken, or has the fault of that number: 8, 9, 11 or 12.
 pub data Step : Type 0 where
   go : State → Step
   bad : ℕ → Step
 
--- The sort of a child: parts and sections in a document differ in it, and so do subsections and paragraphs in a section. Elsewhere all that may stand has one sort.
-unfoldable pub sort : ℕ → ℕ
-sort c = Class.significance c
-
 unfoldable pub isInclude : ℕ → Bool
 isInclude c = eqb c Class.include || eqb c Class.import
 
+unfoldable pub someHas : List (List ℕ) → ℕ → Bool
+someHas [] c = false
+someHas (ks ∷ kss) c = among c ks || someHas kss c
+
+-- A child of class c may stand in this content: some alternative has it.
 unfoldable pub allows : Content → ℕ → Bool
-allows (any-of ks) c = among c ks
-allows (exactly-one k) c = eqb c k
+allows t c = someHas (alternativesOf t) c
+
+-- The first alternative that has c is held from here on. If none has it, "8 expression not allowed as content here".
+unfoldable pub chosen : List (List ℕ) → ℕ → Step
+chosen [] c = bad 8
+chosen (ks ∷ kss) c = cond (among c ks) (go (holding ks)) (chosen kss c)
 
 -- The first child: 12, then 8.
 unfoldable pub firstChild : Content → ℕ → Step
-firstChild t c = cond (isInclude c) (bad 12) (cond (allows t c) (go (holding (sort c))) (bad 8))
+firstChild t c = cond (isInclude c) (bad 12) (chosen (alternativesOf t) c)
 
--- A further child after a first one of sort s: 12, then 8, then 11.
-unfoldable pub nextChild : Content → ℕ → ℕ → Step
-nextChild (any-of ks) s c =
-    cond (isInclude c) (bad 12) (cond (among c ks) (cond (eqb (sort c) s) (go (holding s)) (bad 11)) (bad 8))
-nextChild (exactly-one k) s c = cond (isInclude c) (bad 12) (bad 8)
+-- A further child, with the alternative ks held: 12, then 8, then "11 child of the other sort than the first child". After the one text of a verbatim none follows.
+unfoldable pub nextChild : Content → List ℕ → ℕ → Step
+nextChild (alternatives kss) ks c =
+    cond (isInclude c) (bad 12) (cond (someHas kss c) (cond (among c ks) (go (holding ks)) (bad 11)) (bad 8))
+nextChild (exactly-one k) ks c = cond (isInclude c) (bad 12) (bad 8)
 
 -- With these parameters still to come: the expression is the next one, or an optional one is passed over, or a required one is absent, which is 9.
 unfoldable pub nextParameter : List Slot → Content → ℕ → Step
@@ -52,7 +58,7 @@ nextParameter (id-type ∷ ps) t c =
 -- An expression of class c in an element of kind k.
 unfoldable pub step : ℕ → State → ℕ → Step
 step k (expecting ps) c = nextParameter ps (ruleOf k .content) c
-step k (holding s) c = nextChild (ruleOf k .content) s c
+step k (holding ks) c = nextChild (ruleOf k .content) ks c
 
 unfoldable pub start : ℕ → State
 start k = expecting (ruleOf k .parameters)
@@ -64,10 +70,10 @@ noneRequired (may n ∷ ps) = noneRequired ps
 noneRequired (id-type ∷ ps) = noneRequired ps
 
 unfoldable pub mayBeEmpty : Content → Bool
-mayBeEmpty (any-of ks) = true
+mayBeEmpty (alternatives kss) = true
 mayBeEmpty (exactly-one k) = false
 
 -- The element may end here: else a required parameter is absent or a verbatim has no content, which is 9.
 unfoldable pub ended : ℕ → State → Bool
 ended k (expecting ps) = cond (noneRequired ps) (mayBeEmpty (ruleOf k .content)) false
-ended k (holding s) = true
+ended k (holding ks) = true

@@ -4,3 +4,6 @@ pub mod Rules
 pub mod Inside
 pub mod Examples
 pub mod Characters
+pub mod PlainNames
+pub mod PlainCharacters
+pub mod PlainInside

@@ -10,10 +10,15 @@ pub data Slot : Type 0 where
   must may : ℕ → Slot
   id-type : Slot
 
--- What follows the parameters: any number of children of these kinds, or exactly one child of a kind.
+-- What follows the parameters: any number of children, all of one of these alternatives, or exactly one child of a kind.
 pub data Content : Type 0 where
-  any-of : List ℕ → Content
+  alternatives : List (List ℕ) → Content
   exactly-one : ℕ → Content
+
+-- The alternatives that a child may be of.
+unfoldable pub alternativesOf : Content → List (List ℕ)
+alternativesOf (alternatives kss) = kss
+alternativesOf (exactly-one k) = (k ∷ []) ∷ []
 
 pub record Rule : Type 0 where
   pub kind : ℕ
@@ -21,7 +26,10 @@ pub record Rule : Type 0 where
   pub content : Content
 
 abbrev none : Content
-none = any-of []
+none = alternatives []
+
+abbrev only : List ℕ → Content
+only ks = alternatives (ks ∷ [])
 
 abbrev rule : ℕ → List Slot → Content → Rule
 rule k ps c = record { kind = k; parameters = ps; content = c }
@@ -41,10 +49,10 @@ inline-but-table =
     ∷ []
 
 abbrev inline : Content
-inline = any-of (Class.table ∷ inline-but-table)
+inline = only (Class.table ∷ inline-but-table)
 
 abbrev texts : Content
-texts = any-of (Class.text ∷ [])
+texts = only (Class.text ∷ [])
 
 abbrev titled : List Slot
 titled = must Class.title ∷ id-type ∷ []
@@ -52,13 +60,13 @@ titled = must Class.title ∷ id-type ∷ []
 abbrev paragraphs : List ℕ
 paragraphs = Class.paragraph ∷ Class.formal-item ∷ Class.footnote ∷ []
 
--- Where document 01 says "parts only or sections only", both kinds stand here: that a child is of the first child's sort is `Inside.sort`'s to say.
+-- Two rows have alternatives: a document "parts only or sections only", a section "subsections only, or paragraphs, formal items and footnotes".
 unfoldable pub rules : List Rule
 rules =
-    rule Class.document titled (any-of (Class.part ∷ Class.section ∷ []))
-    ∷ rule Class.part titled (any-of (Class.section ∷ []))
-    ∷ rule Class.section titled (any-of (Class.subsection ∷ paragraphs))
-    ∷ rule Class.subsection titled (any-of paragraphs)
+    rule Class.document titled (alternatives ((Class.part ∷ []) ∷ (Class.section ∷ []) ∷ []))
+    ∷ rule Class.part titled (only (Class.section ∷ []))
+    ∷ rule Class.section titled (alternatives ((Class.subsection ∷ []) ∷ paragraphs ∷ []))
+    ∷ rule Class.subsection titled (only paragraphs)
     ∷ rule Class.paragraph (id-type ∷ []) inline
     ∷ rule Class.formal-item titled inline
     ∷ rule Class.footnote (must Class.id ∷ may Class.type ∷ []) inline
@@ -66,19 +74,19 @@ rules =
     ∷ rule Class.term (may Class.type ∷ []) texts
     ∷ rule Class.image (must Class.target ∷ may Class.size ∷ may Class.type ∷ []) texts
     ∷ rule Class.verbatim (may Class.type ∷ []) (exactly-one Class.text)
-    ∷ rule Class.link (must Class.target ∷ []) (any-of (Class.text ∷ Class.image ∷ []))
-    ∷ rule Class.link-ext (must Class.target ∷ []) (any-of (Class.text ∷ Class.image ∷ []))
+    ∷ rule Class.link (must Class.target ∷ []) (only (Class.text ∷ Class.image ∷ []))
+    ∷ rule Class.link-ext (must Class.target ∷ []) (only (Class.text ∷ Class.image ∷ []))
     ∷ rule Class.footnote-ref (must Class.target ∷ []) none
-    ∷ rule Class.list-ordered [] (any-of (Class.item ∷ []))
-    ∷ rule Class.list-unordered [] (any-of (Class.item ∷ []))
+    ∷ rule Class.list-ordered [] (only (Class.item ∷ []))
+    ∷ rule Class.list-unordered [] (only (Class.item ∷ []))
     ∷ rule Class.item [] inline
     ∷ rule Class.table (must Class.summary ∷ may Class.type ∷ may Class.head ∷ must Class.body ∷ []) none
     ∷ rule Class.summary [] texts
-    ∷ rule Class.head [] (any-of (Class.name ∷ []))
+    ∷ rule Class.head [] (only (Class.name ∷ []))
     ∷ rule Class.name [] texts
-    ∷ rule Class.body [] (any-of (Class.row ∷ []))
-    ∷ rule Class.row [] (any-of (Class.cell ∷ []))
-    ∷ rule Class.cell [] (any-of inline-but-table)
+    ∷ rule Class.body [] (only (Class.row ∷ []))
+    ∷ rule Class.row [] (only (Class.cell ∷ []))
+    ∷ rule Class.cell [] (only inline-but-table)
     ∷ []
 
 unfoldable pub ruleIn : List Rule → ℕ → Rule

@@ -2,7 +2,7 @@
 use Prim.Native.Nat.{ℕ, _+_, _-_, _<_, _≤_}
 use mathlib.Core.Path.{_≡_, _∙_, refl, sym, ap}
 use mathlib.Core.Logic.{⊎-elim}
-use mathlib.Core.Bool.{Bool, true, false, cond, true≢false}
+use mathlib.Core.Bool.{Bool, true, false, cond}
 use mathlib.Core.List.{List, [], _∷_}
 use native.Mathlib.Nat.{eq-or-lt-of-le}
 use native.Mathlib.Omega.{arith}
@@ -11,9 +11,9 @@ use lib.ListN.{drop}
 use lib.Seq.{drop-drop}
 use borrow.Author.Tests.{lt-ltb, le-ltb, eq-eqb, ne-eqb, eqb-true, eqb-false}
 use Rattle.elements.specs.Class as Class
-use Rattle.elements.specs.Rules.{Slot, must, may, id-type, Content, any-of, exactly-one, ruleOf}
-use Rattle.elements.specs.Inside.{expecting, holding, go, bad, sort, isInclude, allows, firstChild, nextChild, nextParameter, start, noneRequired, mayBeEmpty, ended}
-use Rattle.kind.specs.Machine.{stateOf, stepOf}
+use Rattle.elements.specs.Rules.{Slot, must, may, id-type, Content, alternativesOf, ruleOf}
+use Rattle.elements.specs.Inside.{expecting, holding, Step, go, bad, firstChild, nextParameter, start, noneRequired, mayBeEmpty, ended}
+use Rattle.kind.specs.Machine.{alternativeOf, stateOf, stepOf, faultOf, withChild, afterPlace, nextState, InNumbers}
 use Rattle.kind.specs.Table.{led}
 use Rattle.kind.proofs.Table.{past-four}
 
@@ -31,49 +31,35 @@ pub last-state : (k : ℕ) → stateOf k 4 ≡ expecting []
 unfolding stateOf
 last-state k = ap expecting (past-four k 4 (omega arith))
 
-pub child-state : (k n : ℕ) → 7 ≤ n → stateOf k n ≡ holding (n - 7)
+pub child-state : (k n : ℕ) → 7 ≤ n → stateOf k n ≡ holding (alternativeOf (n - 7) (alternativesOf (ruleOf k .content)))
 unfolding stateOf
 child-state k n h = rw (le-ltb n 5 (omega arith), ne-eqb n 5 (λ e. omega arith), ne-eqb n 6 (λ e. omega arith))
 
-refused : (k : ℕ) (i : Bool) → stepOf k (cond i 12 8) 0 ≡ cond i (bad 12) (bad 8)
-unfolding stepOf
-refused k true = refl
-refused k false = refl
+pub child-stays : (k n c : ℕ) → 7 ≤ n → nextState k n c ≡ n
+unfolding nextState
+child-stays k n c h = rw (le-ltb n 5 (omega arith), ne-eqb n 5 (λ e. omega arith), ne-eqb n 6 (λ e. omega arith))
 
-module _ (t : Content) (c : ℕ) where
-  pub first-refused : (k : ℕ) {f : ℕ} → f ≡ cond (isInclude c) 12 8 → allows t c ≡ false → stepOf k f 0 ≡ firstChild t c
-  unfolding firstChild
-  first-refused k e a = rw (e, a) (refused k (isInclude c))
+-- The numbers of a step that is taken, and of one that is refused.
+module _ {k m : ℕ} {s : Step} where
+  pub taken : {n : ℕ} → n ≡ m → go (stateOf k n) ≡ s → InNumbers k s m 0 n
+  unfolding stepOf faultOf
+  taken h e = record { fault-is = ap faultOf e; state-is = h; stands = e }
 
-  pub first-taken : (k : ℕ) {s : ℕ} → isInclude c ≡ false → allows t c ≡ true → s ≡ Class.significance c → go (stateOf k (7 + s)) ≡ firstChild t c
-  unfolding firstChild sort
-  first-taken k {s} i a e =
-      let off : 7 + s - 7 ≡ s = omega arith in
-      rw (i, a, child-state k (7 + s) (omega arith), off, e)
+  pub refused : {f n : ℕ} → n ≡ 0 → (f ≡ 0 → ⊥) → bad f ≡ s → InNumbers k s m f n
+  unfolding stepOf faultOf
+  refused {f} z h e = record { fault-is = ap faultOf e; state-is = rw (ne-eqb f 0 h) z; stands = rw (ne-eqb f 0 h) e }
 
-pub next-of-one : (t : Content) (s c : ℕ) → isInclude c ≡ false → mayBeEmpty t ≡ false → bad 8 ≡ nextChild t s c
-unfolding nextChild mayBeEmpty
-next-of-one (any-of ks) s c i e = absurd (true≢false e)
-next-of-one (exactly-one n) s c i e = rw i
+  -- The same numbers, of the same step said otherwise.
+  pub alike : {m′ f n : ℕ} {s′ : Step} → InNumbers k s m f n → (s ≡ s′) × (m ≡ m′) → InNumbers k s′ m′ f n
+  alike i e = rw (e .0, e .1) at i
 
-pub next-refused : (k : ℕ) (t : Content) (s c : ℕ) {f : ℕ} → f ≡ cond (isInclude c) 12 8 → allows t c ≡ false → stepOf k f 0 ≡ nextChild t s c
-unfolding nextChild allows
-next-refused k (any-of ks) s c e a = rw (e, a) (refused k (isInclude c))
-next-refused k (exactly-one n) s c e a = rw e (refused k (isInclude c))
+-- An expression of class c leads to this step and to the state of this number, with the parameters from a place on still to come.
+abbrev pub Leads : Content → ℕ → List Slot → ℕ → Step → ℕ → Type 0
+Leads t c ps i s n = (nextParameter ps t c ≡ s) × (afterPlace i ps c ≡ n)
 
-next-taken : (t : Content) (s c : ℕ) → isInclude c ≡ false → mayBeEmpty t ≡ true → allows t c ≡ true
-    → cond (eqb (Class.significance c) s) (go (holding s)) (bad 11) ≡ nextChild t s c
-unfolding nextChild allows mayBeEmpty sort
-next-taken (any-of ks) s c i e a = rw (i, a)
-next-taken (exactly-one n) s c i e a = absurd (true≢false (sym e))
-
-pub next-other : (t : Content) (s c : ℕ) {r : ℕ} → isInclude c ≡ false → mayBeEmpty t ≡ true → allows t c ≡ true → r ≡ Class.significance c
-    → (r ≡ s → ⊥) → bad 11 ≡ nextChild t s c
-next-other t s c i e a q n = rw (← next-taken t s c i e a, ← q, ne-eqb _ s n)
-
-pub next-same : (k n : ℕ) (t : Content) (c : ℕ) {r : ℕ} → isInclude c ≡ false → mayBeEmpty t ≡ true → allows t c ≡ true → r ≡ Class.significance c
-    → r ≡ n - 7 → 7 ≤ n → go (stateOf k n) ≡ nextChild t (n - 7) c
-next-same k n t c i e a q same h = rw (← next-taken t (n - 7) c i e a, ← q, eq-eqb _ (n - 7) same, child-state k n h)
+-- Two ways to say what it leads to.
+pub led-on : {r s s′ : Step} {m n n′ : ℕ} → (r ≡ s) × (m ≡ n) → (r ≡ s′) × (m ≡ n′) → (s ≡ s′) × (n ≡ n′)
+led-on here there = (sym (here .0) ∙ there .0, sym (here .1) ∙ there .1)
 
 -- The parameter at a place, as its number says.
 module _ (ps : List Slot) (place x : ℕ) (e : drop place ps ≡ led x (drop (place + 1) ps)) where
@@ -108,17 +94,17 @@ module _ (ps : List Slot) (place x : ℕ) (e : drop place ps ≡ led x (drop (pl
       by false z = rw (optional l (eqb-false x 255 z))
 
   module _ (t : Content) (c : ℕ) where
-    pub first-child : x ≡ 0 → nextParameter (drop place ps) t c ≡ firstChild t c
-    unfolding nextParameter
-    first-child z = rw (none-left z)
+    pub first-child : x ≡ 0 → Leads t c (drop place ps) place (firstChild t c) (withChild c)
+    unfolding nextParameter afterPlace
+    first-child z = rw (none-left z) (refl, refl)
 
     pub absent : (x ≡ 0 → ⊥) → x < 64 → (c ≡ x → ⊥) → nextParameter (drop place ps) t c ≡ bad 9
     unfolding nextParameter
     absent z l n = rw (required z l, ne-eqb c x n)
 
-    pub required-taken : (x ≡ 0 → ⊥) → x < 64 → c ≡ x → nextParameter (drop place ps) t c ≡ go (expecting (drop (place + 1) ps))
-    unfolding nextParameter
-    required-taken z l n = rw (required z l, eq-eqb c x n)
+    pub required-taken : (x ≡ 0 → ⊥) → x < 64 → c ≡ x → Leads t c (drop place ps) place (go (expecting (drop (place + 1) ps))) (place + 1)
+    unfolding nextParameter afterPlace
+    required-taken z l n = rw (required z l, eq-eqb c x n) (refl, refl)
 
     -- of `id?/type?`, by the state that the class leads to
     either-step : (k n : ℕ) (i y : Bool) → n ≡ cond i 5 (cond y 6 0)
@@ -129,31 +115,41 @@ module _ (ps : List Slot) (place x : ℕ) (e : drop place ps ≡ led x (drop (pl
     either-step k n false true h = ((λ z. rw h), (λ z. absurd (omega arith)))
     either-step k n false false h = ((λ z. absurd (z h)), (λ z. refl))
 
+    either-number : (n : ℕ) (i y : Bool) → n ≡ cond i 5 (cond y 6 0)
+        → ((n ≡ 0 → ⊥) → cond i 5 (cond y 6 (withChild c)) ≡ n) × (n ≡ 0 → cond i 5 (cond y 6 (withChild c)) ≡ withChild c)
+    either-number n true y h = ((λ z. sym h), (λ z. absurd (omega arith)))
+    either-number n false true h = ((λ z. sym h), (λ z. absurd (omega arith)))
+    either-number n false false h = ((λ z. absurd (z h)), (λ z. refl))
+
     pub either-taken : (k n : ℕ) → n ≡ cond (eqb c Class.id) 5 (cond (eqb c Class.type) 6 0) → x ≡ 255 → (n ≡ 0 → ⊥)
-        → nextParameter (drop place ps) t c ≡ go (stateOf k n)
-    unfolding nextParameter
-    either-taken k n h z some = rw (either z) (sym (either-step k n (eqb c Class.id) (eqb c Class.type) h .0 some))
+        → Leads t c (drop place ps) place (go (stateOf k n)) n
+    unfolding nextParameter afterPlace
+    either-taken k n h z some =
+        rw (either z)
+        (sym (either-step k n (eqb c Class.id) (eqb c Class.type) h .0 some), either-number n (eqb c Class.id) (eqb c Class.type) h .0 some)
 
     pub neither : (n : ℕ) → n ≡ cond (eqb c Class.id) 5 (cond (eqb c Class.type) 6 0) → x ≡ 255 → n ≡ 0
-        → nextParameter (drop place ps) t c ≡ firstChild t c
-    unfolding nextParameter
-    neither n h z none = rw (either z) (either-step 0 n (eqb c Class.id) (eqb c Class.type) h .1 none)
+        → Leads t c (drop place ps) place (firstChild t c) (withChild c)
+    unfolding nextParameter afterPlace
+    neither n h z none =
+        rw (either z) (either-step 0 n (eqb c Class.id) (eqb c Class.type) h .1 none, either-number n (eqb c Class.id) (eqb c Class.type) h .1 none)
 
-    pub optional-taken : 64 ≤ x → (x ≡ 255 → ⊥) → c ≡ x - 64 → nextParameter (drop place ps) t c ≡ go (expecting (drop (place + 1) ps))
-    unfolding nextParameter
-    optional-taken l z n = rw (optional l z, eq-eqb c (x - 64) n)
+    pub optional-taken : 64 ≤ x → (x ≡ 255 → ⊥) → c ≡ x - 64 → Leads t c (drop place ps) place (go (expecting (drop (place + 1) ps))) (place + 1)
+    unfolding nextParameter afterPlace
+    optional-taken l z n = rw (optional l z, eq-eqb c (x - 64) n) (refl, refl)
 
-    pub passed : 64 ≤ x → (x ≡ 255 → ⊥) → (c ≡ x - 64 → ⊥) → nextParameter (drop place ps) t c ≡ nextParameter (drop (place + 1) ps) t c
-    unfolding nextParameter
-    passed l z n = rw (optional l z, ne-eqb c (x - 64) n)
+    pub passed : 64 ≤ x → (x ≡ 255 → ⊥) → (c ≡ x - 64 → ⊥)
+        → Leads t c (drop place ps) place (nextParameter (drop (place + 1) ps) t c) (afterPlace (place + 1) (drop (place + 1) ps) c)
+    unfolding nextParameter afterPlace
+    passed l z n = rw (optional l z, ne-eqb c (x - 64) n) (refl, refl)
 
 pub none-required-end : {ps : List Slot} → ps ≡ [] → noneRequired ps ≡ true
 unfolding noneRequired
 none-required-end e = rw e
 
-pub first-child-end : (t : Content) (c : ℕ) {ps : List Slot} → ps ≡ [] → nextParameter ps t c ≡ firstChild t c
-unfolding nextParameter
-first-child-end t c e = rw e
+pub first-child-end : (t : Content) (c : ℕ) {ps : List Slot} (i : ℕ) → ps ≡ [] → Leads t c ps i (firstChild t c) (withChild c)
+unfolding nextParameter afterPlace
+first-child-end t c i e = rw e (refl, refl)
 
 four-at-most : (a b d e : Bool) → cond a 4 (cond b 3 (cond d 2 (cond e 1 0))) ≤ 4
 four-at-most true b d e = omega arith
@@ -162,9 +158,9 @@ four-at-most false false true e = omega arith
 four-at-most false false false true = omega arith
 four-at-most false false false false = omega arith
 
-pub sort-small : (c : ℕ) → Class.significance c ≤ 4
+pub significance-small : (c : ℕ) → Class.significance c ≤ 4
 unfolding Class.significance
-sort-small c = four-at-most (eqb c Class.document) (eqb c Class.part) (eqb c Class.section) (eqb c Class.subsection)
+significance-small c = four-at-most (eqb c Class.document) (eqb c Class.part) (eqb c Class.section) (eqb c Class.subsection)
 
 -- Where only one of `id?/type?` is left, or nothing required, the element may end unless it is a verbatim.
 pub ended-at : (k n : ℕ) (ps : List Slot) → stateOf k n ≡ expecting ps → noneRequired ps ≡ true → ended k (stateOf k n) ≡ mayBeEmpty (ruleOf k .content)

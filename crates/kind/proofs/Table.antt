@@ -9,32 +9,17 @@ use lib.Dec.{T, eqb, leb, ltb, eqb→eq, leb→le, ltb→lt}
 use lib.ListN.{length, drop, drop-of-length-le}
 use lib.Seq.{drop-drop}
 use borrow.Author.Tests.{ne-eqb, leb-true, leb-false, lt-ltb, le-ltb}
-use Rattle.laws.proofs.Booleans.{cond-case, both, not-T-false}
-use Rattle.laws.proofs.Tables.{every, below, each-below, alike, alike-eq}
+use Rattle.laws.proofs.Booleans.{both, not-T-false}
+use Rattle.laws.proofs.Tables.{every, each, below, each-below, alike, alike-eq}
 use Rattle.elements.specs.Bytes.{among}
 use Rattle.elements.specs.Class as Class
-use Rattle.elements.specs.Rules.{Slot, must, may, id-type, Content, any-of, exactly-one, Rule, rules, ruleIn, ruleOf}
-use Rattle.elements.specs.Inside.{allows, isInclude, mayBeEmpty}
+use Rattle.elements.specs.Rules.{Slot, must, may, id-type, alternativesOf, Rule, rules, ruleIn, ruleOf}
+use Rattle.elements.specs.Inside.{someHas, allows, isInclude, mayBeEmpty}
 use Rattle.kind.specs.Table.{led, packed, code, bits}
 use Rattle.elements.proofs.Same.{each-among}
+use Rattle.elements.proofs.EachRow.{empty, each-kind}
+use Rattle.elements.proofs.Alternatives.{one-has}
 use Rattle.kind.proofs.Arms.{Missed}
-
--- The row of a kind that has none.
-abbrev empty : ℕ → Rule
-empty k = record { kind = k; parameters = []; content = any-of [] }
-
--- What is tested of each row, and holds of the empty one, holds of every kind's.
-module _ (test : Rule → Bool) where
-  in-rows : (k : ℕ) → T (test (empty k)) → (rs : List Rule) → T (every test rs) → T (test (ruleIn rs k))
-  unfolding ruleIn
-  in-rows k h [] t = h
-  in-rows k h (r ∷ rs) t =
-      let (now, later) = both (test r) (every test rs) t in
-      cond-case (λ (q : Rule). T (test q)) (eqb k (r .kind)) (λ e. now) (λ e. in-rows k h rs later)
-
-  each-kind : T (every test rules) → (k : ℕ) → T (test (empty k)) → T (test (ruleOf k))
-  unfolding ruleOf
-  each-kind t k h = in-rows k h rules t
 
 -- From 26 on there is no row.
 abbrev known : Rule → Bool
@@ -80,23 +65,20 @@ empty-but-verbatim k = go (leb 26 k) refl
 abbrev low : ℕ → Bool
 low n = ltb n 32
 
-abbrev classes-below : Content → Bool
-classes-below (any-of ks) = every low ks
-classes-below (exactly-one n) = low n
+abbrev classes-below : List (List ℕ) → Bool
+classes-below kss = every (every low) kss
 
 abbrev content-below : Rule → Bool
-content-below r = classes-below (r .content)
+content-below r = classes-below (alternativesOf (r .content))
 
-not-allowed : (c : ℕ) → 32 ≤ c → (t : Content) → T (classes-below t) → allows t c ≡ false
-unfolding allows
-not-allowed c h (any-of ks) t = not-T-false (among c ks) (λ a. omega (arith, ltb→lt c 32 (each-among low c ks a t)))
-not-allowed c h (exactly-one n) t =
-    let small : n < 32 = ltb→lt n 32 t in
-    ne-eqb c n (λ e. omega arith)
+not-in : (c : ℕ) → 32 ≤ c → (kss : List (List ℕ)) → T (classes-below kss) → T (someHas kss c) → ⊥
+not-in c h kss t s =
+    let (ks, m, a) = one-has c kss s in
+    omega (arith, ltb→lt c 32 (each-among low c ks a (each (every low) m t)))
 
 pub past-classes : (k c : ℕ) → 32 ≤ c → allows (ruleOf k .content) c ≡ false
-unfolding rules
-past-classes k c h = not-allowed c h (ruleOf k .content) (each-kind content-below tt k tt)
+unfolding rules allows alternativesOf
+past-classes k c h = not-T-false _ (not-in c h (alternativesOf (ruleOf k .content)) (each-kind content-below tt k tt))
 
 -- Include and import may stand nowhere.
 abbrev takes-none : Rule → Bool
@@ -107,7 +89,7 @@ refuted true t e = t
 refuted false t e = true≢false (sym e)
 
 pub no-include : (k c : ℕ) → allows (ruleOf k .content) c ≡ true → isInclude c ≡ false
-unfolding rules allows among isInclude
+unfolding rules allows someHas alternativesOf among isInclude
 no-include k c a =
     let t = ruleOf k .content in
     let (include, import) = both (not (allows t Class.include)) (not (allows t Class.import)) (each-kind takes-none tt k tt) in
@@ -160,7 +142,7 @@ abbrev content-alike : Rule → Bool
 content-alike r = below (class-alike r) 32
 
 pub content-at : (k c : ℕ) → c < 32 → eqb (bits (ruleOf k .content) 32 / 2 ^ c % 2) 1 ≡ allows (ruleOf k .content) c
-unfolding bits allows among rules
+unfolding bits allows someHas alternativesOf among rules
 content-at k c h = alike-eq _ _ (each-below (class-alike (ruleOf k)) 32 c h (each-kind content-alike tt k tt))
 
 -- A number that is no row's kind has no row.

@@ -1,6 +1,6 @@
 // What may stand inside an element, read from left to right (document 01, "Elements").
 // How far an element is read is a number: from 0 to 4, the parameters from that place of its row on may still come; at 5 or 6, after one of `id?/type?`,
-// the type or the id may; from 7 on it holds children, the first of the sort that is added to 7.
+// the type or the id may; from 7 on it holds children, the first of the significance that is added to 7.
 use super::Keyword;
 use super::Kind;
 use super::rows::ID_TYPE;
@@ -14,11 +14,11 @@ ghost use mathlib.Core.List.{[], _∷_};
 ghost use lib.Dec.{eqb};
 ghost use lib.ListN.{drop};
 ghost use Rattle.elements.specs.Class as Class;
-ghost use Rattle.elements.specs.Rules.{may, ruleOf};
+ghost use Rattle.elements.specs.Rules.{may, alternativesOf, ruleOf};
 ghost use Rattle.elements.specs.Inside.{ended, firstChild, isInclude, nextChild, nextParameter, noneRequired, step as stepped};
-ghost use Rattle.kind.specs.Machine.{stateOf, stepOf};
+ghost use Rattle.kind.specs.Machine.{alternativeOf, stateOf, withChild, afterPlace, afterLast, nextState, InNumbers};
 
-// A step in numbers: fault 0 and the next state, or the number of the fault.
+// A step in numbers: fault 0 and the next state, or the number of the fault and state 0.
 pub struct Stepped {
     pub fault: u8,
     pub state: u8,
@@ -48,7 +48,7 @@ fn refused(class: u8) -> u8
 }
 
 fn first_child(kind: u8, class: u8) -> Stepped
-    ensures { λ r. ⌜ stepOf kind (r .fault) (r .state) ≡ firstChild (ruleOf kind .content) class ⌝ }
+    ensures { λ r. ⌜ InNumbers kind (firstChild (ruleOf kind .content) class) (withChild class) (r .fault) (r .state) ⌝ }
 {
     if !allowed(kind, class) {
         return Stepped {
@@ -66,7 +66,7 @@ fn first_child(kind: u8, class: u8) -> Stepped
 // A further child; a verbatim has one only.
 fn next_child(kind: u8, state: u8, class: u8) -> Stepped
     requires { ⌜ 7 ≤ state ⌝ }
-    ensures { λ r. ⌜ stepOf kind (r .fault) (r .state) ≡ nextChild (ruleOf kind .content) (state - 7) class ⌝ }
+    ensures { λ r. ⌜ InNumbers kind (nextChild (ruleOf kind .content) (alternativeOf (state - 7) (alternativesOf (ruleOf kind .content))) class) state (r .fault) (r .state) ⌝ }
 {
     if !allowed(kind, class) {
         return Stepped {
@@ -103,7 +103,7 @@ fn id_type(class: u8) -> u8
 
 // The one of `id?/type?` that may still come, or the first child.
 fn last_parameter(kind: u8, parameter: u8, class: u8) -> Stepped
-    ensures { λ r. ⌜ stepOf kind (r .fault) (r .state) ≡ nextParameter (may parameter ∷ []) (ruleOf kind .content) class ⌝ }
+    ensures { λ r. ⌜ InNumbers kind (nextParameter (may parameter ∷ []) (ruleOf kind .content) class) (afterLast parameter class) (r .fault) (r .state) ⌝ }
 {
     if class == parameter {
         return Stepped { fault: 0, state: 4 };
@@ -113,7 +113,8 @@ fn last_parameter(kind: u8, parameter: u8, class: u8) -> Stepped
 
 // The expression is the next parameter, or an optional one is passed over, or a required one is absent, or it is the first child.
 fn next_parameter(kind: u8, state: u8, class: u8) -> Stepped
-    ensures { λ r. ⌜ stepOf kind (r .fault) (r .state) ≡ nextParameter (drop state (ruleOf kind .parameters)) (ruleOf kind .content) class ⌝ }
+    ensures { λ r. ⌜ InNumbers kind (nextParameter (drop state (ruleOf kind .parameters)) (ruleOf kind .content) class)
+        (afterPlace state (drop state (ruleOf kind .parameters)) class) (r .fault) (r .state) ⌝ }
 {
     let mut place = state;
     while place < 4 {
@@ -171,7 +172,7 @@ fn none_required(kind: u8, state: u8) -> bool
 
 // An expression of a class in an element of a kind that has been read so far to a state. An element begins in the state 0.
 pub fn step(kind: u8, state: u8, class: u8) -> Stepped
-    ensures { λ r. ⌜ stepOf kind (r .fault) (r .state) ≡ stepped kind (stateOf kind state) class ⌝ }
+    ensures { λ r. ⌜ InNumbers kind (stepped kind (stateOf kind state) class) (nextState kind state class) (r .fault) (r .state) ⌝ }
 {
     if state < 5 {
         return next_parameter(kind, state, class);

@@ -5,35 +5,30 @@ ghost use Rattle.io.specs.Counts.{Counts};
 ghost use Rattle.document.specs.Spelling.{nested};
 ghost use Rattle.listing.specs.Listing.{Lists, printed};
 
-// All that is printed for a text. A line has at most 44 bytes, so the output holds those of 1,024 nodes.
-fn list(
-    text: &[u8],
-    nodes: &mut [u32; 11264],
-    places: &mut [u32; 1024],
-    pool: &mut [u8; 32768],
-    out: &mut [u8; 65536],
-) -> usize
+// All that is printed for a text, with the memory lent that `printed` names. A line has at most 44 bytes, so the output holds those of 1,024 nodes.
+fn list(text: &[u8], out: &mut [u8; 65536]) -> usize
     ensures { λ r. ⌜ Counts r (now (out .exit)) ⌝ }
-    ensures { λ r. ⌜ Lists (printed nested (now (text .entry)) (record { nodes = now (nodes .entry); places = now (places .entry); pool = now (pool .entry) }))
-        (now (out .entry)) r (now (out .exit)) ⌝ }
+    ensures { λ r. ⌜ Lists (printed nested (now (text .entry))) (now (out .entry)) r (now (out .exit)) ⌝ }
 {
     if 32768 < text.len() {
         return listing::put_too_long(out);
     }
-    let a = reader::read_nested(text, nodes, places, pool);
-    if a.number != 0 {
-        return listing::put_refusal(a.number, a.line, a.column, out);
-    }
-    listing::put_document(nodes, a.nodes, a.pool, out)
-}
-
-fn main() {
-    let mut text = io::large_buffer();
-    let n = io::read_full(STDIN_FILENO, &mut text);
     let mut nodes = [0u32; 11264];
     let mut places = [0u32; 1024];
     let mut pool = [0u8; 32768];
+    let a = reader::read_nested(text, &mut nodes, &mut places, &mut pool);
+    if a.number != 0 {
+        return listing::put_refusal(a.number, a.line, a.column, out);
+    }
+    listing::put_document(&nodes, a.nodes, a.pool, out)
+}
+
+// Hands on what is read and what is printed, which no contract of `io` can speak of: the first 65,536 bytes of standard input, so that a text
+// of over 32,768 shows itself, and the bytes that `list` counts.
+fn main() {
+    let mut text = io::large_buffer();
+    let n = io::read_full(STDIN_FILENO, &mut text);
     let mut out = io::large_buffer();
-    let k = list(&text[..n], &mut nodes, &mut places, &mut pool, &mut out);
+    let k = list(&text[..n], &mut out);
     io::write_all(STDOUT_FILENO, &out[..k]);
 }

@@ -1,10 +1,10 @@
--- What a program has put into its output is what is printed: 1,024 nodes fit 65,536 bytes. Assumes nothing.
+-- What a program has put into its output is what is printed: an output of 44 bytes a node and 33 more holds it whole. Assumes nothing.
 use mathlib.Core.Path.{_≡_, sym, _∙_}
 use mathlib.Core.List.{List}
 use Prim.Native.Nat.{ℕ, _+_, _*_, _^_, _≤_, _<_}
 use native.Mathlib.Omega.{arith}
 use lib.Dec.{ltb}
-use lib.ListN.{length, take, length-append}
+use lib.ListN.{length, take, length-append, length-replicate}
 use lib.Seq.{take-all, length-take-le}
 use borrow.Author.Tests.{lt-ltb, le-ltb, ltb-false, eq-eqb, ne-eqb}
 use Rattle.laws.proofs.Booleans.{cond-case}
@@ -12,11 +12,11 @@ use Rattle.utf8.specs.Sequence.{validUpTo}
 use Rattle.elements.specs.Bytes.{codes}
 use Rattle.document.specs.Document.{Node, says}
 use Rattle.document.specs.Table.{count, pool}
-use Rattle.document.specs.WellFormed.{Check, sound, unsound, check}
+use Rattle.document.specs.Check.{Check, sound, unsound, check}
 use Rattle.document.specs.Meaning.{treeOf, places}
 use Rattle.document.specs.Spelling.{Spelling}
 use Rattle.document.specs.Answer.{Memory, Outcome, Reading, refused, read, answerAt, refusal, noRoom, filled, checked, stored, nodeRoom, reading, afterReading, outcome, over}
-use Rattle.listing.specs.Listing.{tooLong, refusedLine, documentLines, within, listingOf, afterRead, answered, printed, Lists}
+use Rattle.listing.specs.Listing.{longestText, lentNodes, lentPool, lentMemory, tooLong, refusedLine, documentLines, within, listingOf, afterRead, answered, printed, Lists}
 use Rattle.listing.proofs.Lengths.{refused-length}
 
 -- A document that is listed has no more nodes than the place list.
@@ -81,37 +81,50 @@ whole lines {start} h p =
     let all = take-all (length start) lines h in
     stands lines (rw all at (p .0)) (rw all at (p .1))
 
--- The three answers of a program, whatever it prints of a document.
-module _ (document : Outcome → List ℕ) (s : Spelling) (text : List ℕ) (m : Memory) where
-  pub answered-long : {r : ℕ} {start out : List ℕ} → 9 ≤ length start → 32768 < length text → Put tooLong start r out → Listed (answered document s text m) start r out
+-- The three answers of a program, whatever it prints of a document: two of them after a read into m. That m is the memory of the definition comes behind
+-- what the read promises, which says what m is: where the code lends another, it is this fact that fails.
+module _ (document : Outcome → List ℕ) (s : Spelling) (text : List ℕ) where
+  pub answered-long : {r : ℕ} {start out : List ℕ} → 9 ≤ length start → longestText < length text → Put tooLong start r out → Listed (answered document s text) start r out
   unfolding answered
-  answered-long room h p = rw (lt-ltb 32768 (length text) h) (whole tooLong (omega (arith, long-length)) p)
+  answered-long room h p = rw (lt-ltb longestText (length text) h) (whole tooLong (omega (arith, long-length)) p)
 
-  pub answered-refusal : (n l c : ℕ) {r : ℕ} {start out : List ℕ} → 41 ≤ length start → length text ≤ 32768 → (n ≡ 0 → ⊥) → n < 2 ^ 32 → l < 2 ^ 32 → c < 2 ^ 32
-      → n ≡ outcome s text m .answer .number → l ≡ outcome s text m .answer .line → c ≡ outcome s text m .answer .column
-      → Put (refusedLine n l c) start r out → Listed (answered document s text m) start r out
-  unfolding answered afterRead
-  answered-refusal n l c room h z hn hl hc en el ec p =
-      rw (le-ltb 32768 (length text) h, ← en, ← el, ← ec, ne-eqb n 0 z) (whole (refusedLine n l c) (omega (arith, refused-length n l c hn hl hc)) p)
+  module _ (m : Memory) (h : length text ≤ longestText) where
+    pub answered-refusal : (n l c : ℕ) {r : ℕ} {start out : List ℕ} → 41 ≤ length start → (n ≡ 0 → ⊥) → n < 2 ^ 32 → l < 2 ^ 32 → c < 2 ^ 32
+        → n ≡ outcome s text m .answer .number → l ≡ outcome s text m .answer .line → c ≡ outcome s text m .answer .column → m ≡ lentMemory
+        → Put (refusedLine n l c) start r out → Listed (answered document s text) start r out
+    unfolding answered afterRead
+    answered-refusal n l c room z hn hl hc en el ec lends p =
+        rw (le-ltb longestText (length text) h, ← lends, ← en, ← el, ← ec, ne-eqb n 0 z) (whole (refusedLine n l c) (omega (arith, refused-length n l c hn hl hc)) p)
 
-  pub answered-document : length text ≤ 32768 → outcome s text m .answer .number ≡ 0 → answered document s text m ≡ document (outcome s text m)
-  unfolding answered afterRead
-  answered-document h z = rw (le-ltb 32768 (length text) h, eq-eqb (outcome s text m .answer .number) 0 z)
+    pub answered-document : outcome s text m .answer .number ≡ 0 → m ≡ lentMemory → answered document s text ≡ document (outcome s text m)
+    unfolding answered afterRead
+    answered-document z lends = rw (le-ltb longestText (length text) h, ← lends, eq-eqb (outcome s text m .answer .number) 0 z)
 
--- The three answers of `list`, on an output of 65,536 bytes.
-module _ (s : Spelling) (text : List ℕ) (m : Memory) (start : List ℕ) (room : length start ≡ 65536) where
-  pub lists-long : {r : ℕ} {out : List ℕ} → 32768 < length text → Put tooLong start r out → Listed (printed s text m) start r out
-  lists-long h p = answered-long listingOf s text m (omega arith) h p
+pub lent-places : length (lentMemory .places) ≡ lentNodes
+unfolding lentMemory
+lent-places = length-replicate {A = ℕ} lentNodes 0
 
-  pub lists-refusal : (n l c : ℕ) {r : ℕ} {out : List ℕ} → length text ≤ 32768 → (n ≡ 0 → ⊥) → n < 2 ^ 32 → l < 2 ^ 32 → c < 2 ^ 32
-      → n ≡ outcome s text m .answer .number → l ≡ outcome s text m .answer .line → c ≡ outcome s text m .answer .column
-      → Put (refusedLine n l c) start r out → Listed (printed s text m) start r out
-  lists-refusal n l c = answered-refusal listingOf s text m n l c (omega arith)
+pub lent-pool : length (lentMemory .pool) ≡ lentPool
+unfolding lentMemory
+lent-pool = length-replicate {A = ℕ} lentPool 0
 
-  pub lists-document : (n nodes pool : ℕ) (table : List ℕ) {r : ℕ} {out : List ℕ} → length text ≤ 32768 → n ≡ 0 → length (m .places) ≡ 1024
-      → n ≡ outcome s text m .answer .number → nodes ≡ outcome s text m .answer .nodes → pool ≡ outcome s text m .answer .pool → table ≡ outcome s text m .memory .nodes
-      → Put (documentLines table nodes pool) start r out → length (documentLines table nodes pool) ≤ 44 * nodes + 33 → Listed (printed s text m) start r out
-  unfolding listingOf
-  lists-document n nodes pool table h z places en eo ep et p most =
-      let few : nodes ≤ length (m .places) = rw eo (outcome-fits m s text (sym en ∙ z)) in
-      rw (answered-document listingOf s text m h (sym en ∙ z), ← eo, ← ep, ← et) (whole (documentLines table nodes pool) (omega arith) p)
+-- The three answers of `list`, on an output that holds the longest.
+module _ (s : Spelling) (text : List ℕ) (start : List ℕ) (room : 44 * lentNodes + 33 ≤ length start) where
+  pub lists-long : {r : ℕ} {out : List ℕ} → longestText < length text → Put tooLong start r out → Listed (printed s text) start r out
+  lists-long h p = answered-long listingOf s text (omega arith) h p
+
+  module _ (m : Memory) (h : length text ≤ longestText) where
+    pub lists-refusal : (n l c : ℕ) {r : ℕ} {out : List ℕ} → (n ≡ 0 → ⊥) → n < 2 ^ 32 → l < 2 ^ 32 → c < 2 ^ 32
+        → n ≡ outcome s text m .answer .number → l ≡ outcome s text m .answer .line → c ≡ outcome s text m .answer .column → m ≡ lentMemory
+        → Put (refusedLine n l c) start r out → Listed (printed s text) start r out
+    lists-refusal n l c = answered-refusal listingOf s text m h n l c (omega arith)
+
+    pub lists-document : (n nodes bytes : ℕ) (exit : Memory) {r : ℕ} {out : List ℕ} → n ≡ 0
+        → n ≡ outcome s text m .answer .number → nodes ≡ outcome s text m .answer .nodes → bytes ≡ outcome s text m .answer .pool → exit ≡ outcome s text m .memory
+        → m ≡ lentMemory
+        → Put (documentLines (exit .nodes) nodes bytes) start r out → length (documentLines (exit .nodes) nodes bytes) ≤ 44 * nodes + 33 → Listed (printed s text) start r out
+    unfolding listingOf
+    lists-document n nodes bytes exit z en eo ep left lends p most =
+        let few : nodes ≤ length (m .places) = rw eo (outcome-fits m s text (sym en ∙ z)) in
+        let places : length (m .places) ≡ lentNodes = rw lends lent-places in
+        rw (answered-document listingOf s text m h (sym en ∙ z) lends, ← eo, ← ep, ← left) (whole (documentLines (exit .nodes) nodes bytes) (omega arith) p)

@@ -4,13 +4,29 @@ use mathlib.Core.Path.{_≡_}
 use mathlib.Core.Bool.{cond}
 use mathlib.Core.List.{List, [], _∷_, _++_}
 use lib.Dec.{eqb, ltb}
-use lib.ListN.{length, getD, take}
+use lib.ListN.{length, getD, take, replicate}
 use Rattle.elements.specs.Bytes.{codes}
 use Rattle.document.specs.Document.{missing}
 use Rattle.document.specs.Table.{recordLength}
 use Rattle.document.specs.Canonical.{digit}
 use Rattle.document.specs.Spelling.{Spelling}
 use Rattle.document.specs.Answer.{Memory, Outcome, outcome, over}
+
+-- "over 32,768 bytes prints `too long`": the longest text that is read.
+abbrev pub longestText : ℕ
+longestText = 32768
+
+-- "They lend 1,024 nodes"
+abbrev pub lentNodes : ℕ
+lentNodes = 1024
+
+-- "and a pool of 32,768 bytes"
+abbrev pub lentPool : ℕ
+lentPool = 32768
+
+-- The memory that a program lends to the read: the words of so many nodes, a place for each of them (docs/DECISIONS.md, B3) and the pool, all zero.
+unfoldable pub lentMemory : Memory
+lentMemory = record { nodes = replicate (lentNodes * recordLength) 0; places = replicate lentNodes 0; pool = replicate lentPool 0 }
 
 -- A number in decimal digits with no leading zero; the first argument bounds how often it is divided.
 unfoldable pub decimalWithin : ℕ → ℕ → List ℕ
@@ -30,7 +46,7 @@ space = 0x20
 abbrev pub newline : ℕ
 newline = 0x0A
 
--- "over 32,768 bytes prints `too long`"
+-- The line of a text that is not read.
 unfoldable pub tooLong : List ℕ
 tooLong = codes "too long" ++ (newline ∷ [])
 
@@ -80,12 +96,12 @@ afterRead document o =
     cond (eqb (o .answer .number) 0) (document o)
     (refusedLine (o .answer .number) (o .answer .line) (o .answer .column))
 
--- All that a program prints on a text, with this memory lent, if it prints this of a document.
-unfoldable pub answered : (Outcome → List ℕ) → Spelling → List ℕ → Memory → List ℕ
-answered document s text m = cond (ltb 32768 (length text)) tooLong (afterRead document (outcome s text m))
+-- All that a program prints on a text, if it prints this of a document.
+unfoldable pub answered : (Outcome → List ℕ) → Spelling → List ℕ → List ℕ
+answered document s text = cond (ltb longestText (length text)) tooLong (afterRead document (outcome s text lentMemory))
 
 -- All that a listing program prints.
-abbrev pub printed : Spelling → List ℕ → Memory → List ℕ
+abbrev pub printed : Spelling → List ℕ → List ℕ
 printed = answered listingOf
 
 -- The lines stand whole at the output's start, and the rest of it is as it was.

@@ -1,4 +1,4 @@
--- The table that a read leaves is printed, and its spelling and a line end fit 299,008 bytes. Assumes nothing.
+-- The table that a read leaves is printed, and its spelling and a line end fit an output of 6 bytes for each of the pool and 100 a node. Assumes nothing.
 use Prim.Native.Nat.{ℕ, _+_, _*_, _≤_, _<_}
 use mathlib.Core.Path.{_≡_, refl, sym, ap, _∙_}
 use mathlib.Core.List.{List, [], _∷_, _++_, append-assoc}
@@ -10,12 +10,14 @@ use borrow.Author.Tests.{le-ltb}
 use Rattle.document.specs.Document.{Node}
 use Rattle.document.specs.Table.{recordLength, count, pool, tableOf}
 use Rattle.document.specs.Spelling.{nested}
-use Rattle.document.specs.Answer.{Memory, outcome, over}
+use Rattle.document.specs.Answer.{Memory, Outcome, outcome, over}
 use Rattle.document.specs.Canonical.{canonical}
 use Rattle.document.specs.Printing as Defined
-use Rattle.document.specs.Printing.{IsTableOf, written, printing}
+use Rattle.document.specs.Printing.{IsTableOf, treeOfTable, written, printing}
 use Rattle.document.specs.Demand.{Readable, Read}
 use Rattle.document.proofs.Records.{table-length}
+use Rattle.document.proofs.LaidOut.{laid-out}
+use Rattle.document.proofs.Rebuild.{rebuilt}
 use Rattle.document.proofs.Demand.{accepted-document, document-accepted}
 use Rattle.document.proofs.PrintingDecided.{prints}
 use Rattle.document.proofs.RoundTrip.{printable}
@@ -24,8 +26,8 @@ use Rattle.reader.specs.declared.Answer.{Answer}
 use Rattle.printer.proofs.Short.{node-short}
 use Rattle.printer.specs.Prints.{Prints}
 use Rattle.printer.specs.declared.Printed.{Printed}
-use Rattle.listing.specs.Listing.{newline}
-use Rattle.listing.proofs.Printed.{Listed, stands, answered-document}
+use Rattle.listing.specs.Listing.{longestText, lentNodes, lentPool, lentMemory, newline}
+use Rattle.listing.proofs.Printed.{Listed, stands, answered-document, lent-places, lent-pool}
 use Rattle.print_canonical.specs.Tidying.{spellingOf, tidied}
 
 take-over : (new old : List ℕ) (n : ℕ) → length new ≡ n → take n (over new old) ≡ new
@@ -42,69 +44,71 @@ unfolding over
 set-over s old b h =
     rw (drop-cons old (length s) 0, set-at s _ _ b (length s) refl, append-assoc, length-append s (b ∷ []), add-one (length s))
 
--- The room that the program lends.
-module _ (text : List ℕ) (m : Memory) (out : List ℕ) (places : length (m .places) ≡ 1024) (bytes : length (m .pool) ≡ 32768) (room : length out ≡ 299008) where
-  -- Printing what a read leaves.
-  abbrev reprinted : Defined.Printed
-  reprinted =
-      let o = outcome nested text m in
-      printing (o .memory .nodes) (o .answer .nodes) (o .memory .pool) (o .answer .pool) out
+module _ (text : List ℕ) where
+  -- Reading the text, with the memory lent that the program lends.
+  abbrev reading : Outcome
+  reading = outcome nested text lentMemory
 
-  module _ (d : Node) (readable : Readable nested text m d) where
-    read : Read m (outcome nested text m) d
-    read = document-accepted nested text m d readable
+  module _ (d : Node) (readable : Readable nested text lentMemory d) where
+    read : Read lentMemory reading d
+    read = document-accepted nested text lentMemory d readable
 
-    short : length (canonical d) < length out
-    short = omega (arith, node-short d, readable .fits .place-list, readable .fits .pool-bytes)
+    words-read : take (recordLength * reading .answer .nodes) (reading .memory .nodes) ≡ tableOf d
+    words-read = rw (read .nodes, read .node-words) (take-over (tableOf d) (lentMemory .nodes) (recordLength * count d) (table-length d))
 
-    table-read : IsTableOf d (take (recordLength * outcome nested text m .answer .nodes) (outcome nested text m .memory .nodes))
-        (take (outcome nested text m .answer .pool) (outcome nested text m .memory .pool))
-    table-read =
-        rw (
-          read .nodes,
-          read .bytes,
-          read .node-words,
-          read .pool-bytes,
-          take-over (tableOf d) (m .nodes) (recordLength * count d) (table-length d),
-          take-over (pool d) (m .pool) (length (pool d)) refl,
-        )
-        (printable nested text m d readable (omega (arith, readable .fits .pool-bytes)))
+    pool-read : take (reading .answer .pool) (reading .memory .pool) ≡ pool d
+    pool-read = rw (read .bytes, read .pool-bytes) (take-over (pool d) (lentMemory .pool) (length (pool d)) refl)
 
-    -- Its number is 0, and the output holds the spelling.
-    reprints : reprinted ≡ record { number = 0; length = length (canonical d); out = over (canonical d) out }
-    unfolding written
-    reprints =
-        let words : recordLength * outcome nested text m .answer .nodes ≤ length (outcome nested text m .memory .nodes)
-        = rw (read .nodes, read .node-words) (omega (arith, table-length d, length-over (tableOf d) (m .nodes))) in
-        let strings : outcome nested text m .answer .pool ≤ length (outcome nested text m .memory .pool)
-        = rw (read .bytes, read .pool-bytes) (length-over (pool d) (m .pool)) in
-        rw (prints _ _ _ _ out d words strings table-read, le-ltb (length out) (length (canonical d)) (omega (arith, short)))
+    table : IsTableOf d (tableOf d) (pool d)
+    table = printable nested text lentMemory d readable (omega (arith, readable .fits .pool-bytes, lent-pool))
 
-    spelling-is : spellingOf out (outcome nested text m) ≡ canonical d ++ (newline ∷ [])
-    unfolding spellingOf
-    spelling-is = rw (reprints, take-over (canonical d) out (length (canonical d)) refl)
+    spelling-is : spellingOf reading ≡ canonical d ++ (newline ∷ [])
+    unfolding spellingOf treeOfTable
+    spelling-is = rw (words-read, pool-read, read .nodes, rebuilt d, laid-out d (table .draft .document) .1)
 
     -- What is printed of a text that spells a well-formed document for which the room is enough: its canonical spelling and a line end.
-    pub tidied-document : length text ≤ 32768 → tidied text m out ≡ canonical d ++ (newline ∷ [])
-    tidied-document h = answered-document (spellingOf out) nested text m h (read .accepted) ∙ spelling-is
+    pub tidied-document : length text ≤ longestText → tidied text ≡ canonical d ++ (newline ∷ [])
+    tidied-document h = answered-document spellingOf nested text lentMemory h (read .accepted) refl ∙ spelling-is
 
-  -- `tidy` after a read that answers 0, and what it then prints.
-  module _ (a : Answer) (exit : Memory) (reads : Reads nested text m a exit) (z : a .number ≡ 0)
-      (p : Printed) (later : List ℕ) (printed : Prints (printing (exit .nodes) (a .nodes) (exit .pool) (a .pool) out) p later) where
-    abbrev found : (d : Node) × Readable nested text m d × Read m (outcome nested text m) d
-    found = accepted-document nested text m (sym (reads .answers .number) ∙ z)
+    module _ (out : List ℕ) (room : 6 * lentPool + 100 * lentNodes ≤ length out) where
+      short : length (canonical d) < length out
+      short = omega (arith, node-short d, readable .fits .place-list, readable .fits .pool-bytes, lent-places, lent-pool)
 
-    spelled : (p .length ≡ length (canonical (found .0))) × (later ≡ over (canonical (found .0)) out)
-    spelled =
-        let again : Prints reprinted p later = rw (reads .answers .nodes, reads .answers .pool, reads .leaves) at printed in
-        let e = reprints (found .0) (found .1) in
-        (again .length ∙ ap (λ (x : Defined.Printed). x .length) e, again .out ∙ ap (λ (x : Defined.Printed). x .out) e)
+      -- Printing what the read left has number 0, and the output holds the spelling.
+      reprints : printing (reading .memory .nodes) (reading .answer .nodes) (reading .memory .pool) (reading .answer .pool) out
+          ≡ record { number = 0; length = length (canonical d); out = over (canonical d) out }
+      unfolding written
+      reprints =
+          let words : recordLength * reading .answer .nodes ≤ length (reading .memory .nodes)
+          = rw (read .nodes, read .node-words) (omega (arith, table-length d, length-over (tableOf d) (lentMemory .nodes))) in
+          let strings : reading .answer .pool ≤ length (reading .memory .pool)
+          = rw (read .bytes, read .pool-bytes) (length-over (pool d) (lentMemory .pool)) in
+          let there : IsTableOf d (take (recordLength * reading .answer .nodes) (reading .memory .nodes)) (take (reading .answer .pool) (reading .memory .pool))
+          = rw (words-read, pool-read) table in
+          rw (prints _ _ _ _ out d words strings there, le-ltb (length out) (length (canonical d)) (omega (arith, short)))
 
-    pub line-end-fits : p .length < 299008
-    line-end-fits = omega (arith, short (found .0) (found .1), spelled .0)
+  -- `tidy` after a read into m that answers 0. The memory m has to be that of the definition.
+  module _ (m : Memory) (out : List ℕ) (room : 6 * lentPool + 100 * lentNodes ≤ length out) (a : Answer) (exit : Memory) (reads : Reads nested text m a exit) (lends : m ≡ lentMemory) (z : a .number ≡ 0) where
+    abbrev lent : Reads nested text lentMemory a exit
+    lent = rw lends at reads
 
-    pub tidies-document : length text ≤ 32768 → Listed (tidied text m out) out (p .length + 1) (set later (p .length) newline)
-    tidies-document h =
-        let d = found .0 in
-        rw (tidied-document d (found .1) h, spelled .0, spelled .1)
-        (stands (canonical d ++ (newline ∷ [])) (sym (length-append (canonical d) (newline ∷ []))) (set-over (canonical d) out newline (short d (found .1))))
+    abbrev found : (d : Node) × Readable nested text lentMemory d × Read lentMemory reading d
+    found = accepted-document nested text lentMemory (sym (lent .answers .number) ∙ z)
+
+    -- And after printing what it left.
+    module _ (p : Printed) (later : List ℕ) (printed : Prints (printing (exit .nodes) (a .nodes) (exit .pool) (a .pool) out) p later) where
+      spelled : (p .length ≡ length (canonical (found .0))) × (later ≡ over (canonical (found .0)) out)
+      spelled =
+          let again : Prints (printing (reading .memory .nodes) (reading .answer .nodes) (reading .memory .pool) (reading .answer .pool) out) p later
+          = rw (lent .answers .nodes, lent .answers .pool, lent .leaves) at printed in
+          let e = reprints (found .0) (found .1) out room in
+          (again .length ∙ ap (λ (x : Defined.Printed). x .length) e, again .out ∙ ap (λ (x : Defined.Printed). x .out) e)
+
+      pub line-end-fits : p .length < length out
+      line-end-fits = omega (arith, short (found .0) (found .1) out room, spelled .0)
+
+      pub tidies-document : length text ≤ longestText → Listed (tidied text) out (p .length + 1) (set later (p .length) newline)
+      tidies-document h =
+          let d = found .0 in
+          rw (tidied-document d (found .1) h, spelled .0, spelled .1)
+          (stands (canonical d ++ (newline ∷ [])) (sym (length-append (canonical d) (newline ∷ []))) (set-over (canonical d) out newline (short d (found .1) out room)))

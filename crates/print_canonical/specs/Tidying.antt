@@ -1,18 +1,22 @@
 -- What the program prints of a document. Document 01, "Canonical spelling".
-use Prim.Native.Nat.{ℕ}
+use Prim.Native.Nat.{ℕ, _*_}
 use mathlib.Core.List.{List, [], _∷_, _++_}
 use lib.ListN.{take}
+use Rattle.document.specs.Document.{says}
+use Rattle.document.specs.Table.{recordLength}
 use Rattle.document.specs.Spelling.{nested}
-use Rattle.document.specs.Answer.{Memory, Outcome}
-use Rattle.document.specs.Printing.{printing}
+use Rattle.document.specs.Answer.{Outcome}
+use Rattle.document.specs.Canonical.{canonical}
+use Rattle.document.specs.Printing.{treeOfTable}
 use Rattle.listing.specs.Listing.{newline, answered}
 
--- "the spelling, its length": what printing the table that was read leaves at this output's start. The line end after it is the program's, as the spelling has "No final newline".
-unfoldable pub spellingOf : List ℕ → Outcome → List ℕ
-spellingOf out o =
-    let p = printing (o .memory .nodes) (o .answer .nodes) (o .memory .pool) (o .answer .pool) out in
-    take (p .length) (p .out) ++ (newline ∷ [])
+-- The canonical spelling of the document whose table a read left. The line end after it is the program's, as the spelling has "No final newline".
+unfoldable pub spellingOf : Outcome → List ℕ
+spellingOf o =
+    let n = o .answer .nodes in
+    let words = take (recordLength * n) (o .memory .nodes) in
+    canonical (says (treeOfTable n words (take (o .answer .pool) (o .memory .pool)))) ++ (newline ∷ [])
 
--- All that is printed on a text, with this memory and this output lent. Refusals and `too long` are as in the listing programs.
-abbrev pub tidied : List ℕ → Memory → List ℕ → List ℕ
-tidied text m out = answered (spellingOf out) nested text m
+-- All that is printed on a text. Refusals, `too long` and the memory that is lent are as in the listing programs.
+abbrev pub tidied : List ℕ → List ℕ
+tidied = answered spellingOf nested

@@ -5,41 +5,35 @@ ghost use Rattle.io.specs.Counts.{Counts};
 ghost use Rattle.listing.specs.Listing.{Lists};
 ghost use Rattle.print_canonical.specs.Tidying.{tidied};
 
-// All that is printed for a text. A spelling and a line end have at most 6 bytes for each byte of the pool and 100 for each node, so the output
+// All that is printed for a text, with the memory lent that `tidied` names. A spelling and a line end have at most 6 bytes for each byte of the pool and 100 for each node, so the output
 // holds those of 32,768 bytes and 1,024 nodes.
-fn tidy(
-    text: &[u8],
-    nodes: &mut [u32; 11264],
-    places: &mut [u32; 1024],
-    pool: &mut [u8; 32768],
-    out: &mut [u8; 299008],
-) -> usize
+fn tidy(text: &[u8], out: &mut [u8; 299008]) -> usize
     ensures { λ r. ⌜ Counts r (now (out .exit)) ⌝ }
-    ensures { λ r. ⌜ Lists (tidied (now (text .entry)) (record { nodes = now (nodes .entry); places = now (places .entry); pool = now (pool .entry) }) (now (out .entry)))
-        (now (out .entry)) r (now (out .exit)) ⌝ }
+    ensures { λ r. ⌜ Lists (tidied (now (text .entry))) (now (out .entry)) r (now (out .exit)) ⌝ }
 {
     if 32768 < text.len() {
         return listing::put_too_long(out);
     }
-    let a = reader::read_nested(text, nodes, places, pool);
+    let mut nodes = [0u32; 11264];
+    let mut places = [0u32; 1024];
+    let mut pool = [0u8; 32768];
+    let a = reader::read_nested(text, &mut nodes, &mut places, &mut pool);
     if a.number != 0 {
         return listing::put_refusal(a.number, a.line, a.column, out);
     }
     // Its number is 0: the read left the table of a well-formed document, and the output is long enough.
-    let p = printer::print(nodes, a.nodes, pool, a.pool, out);
+    let p = printer::print(&nodes, a.nodes, &pool, a.pool, out);
     // The spelling has "No final newline": the line end is the program's, like that of every line of the listing programs.
     let n = p.length as usize;
     out[n] = b'\n';
     n + 1
 }
 
+// Hands on what is read and what is printed, as the listing programs do.
 fn main() {
     let mut text = io::large_buffer();
     let n = io::read_full(STDIN_FILENO, &mut text);
-    let mut nodes = [0u32; 11264];
-    let mut places = [0u32; 1024];
-    let mut pool = [0u8; 32768];
     let mut out = [0u8; 299008];
-    let k = tidy(&text[..n], &mut nodes, &mut places, &mut pool, &mut out);
+    let k = tidy(&text[..n], &mut out);
     io::write_all(STDOUT_FILENO, &out[..k]);
 }

@@ -16,13 +16,14 @@ use Rattle.document.specs.Spelling.{Spelling, nested, imperative, mostLevels}
 use Rattle.document.specs.Meaning.{fine, judgeRoot, treeOf, places}
 use Rattle.document.specs.Imperative.{regroup}
 use Rattle.document.specs.Table.{recordLength, count, pool, tableOf}
-use Rattle.document.specs.WellFormed.{Check, sound, unsound, check}
+use Rattle.document.specs.Check.{Check, sound, unsound, check}
 use Rattle.document.specs.Account.{NestedForm, as-it-stands, regrouped}
 use Rattle.document.specs.Answer as Defined
 use Rattle.document.specs.Answer.{Memory, answerAt, refusal, noRoom, over, filled, oneExpression, nodeRoom, checked, stored, outcome}
 use Rattle.document.proofs.Places.{root-places}
 use Rattle.document.proofs.Records.{table-length}
 use Rattle.document.proofs.Numbers.{check-number}
+use Rattle.document.proofs.Takes.{takes-regroup}
 use Rattle.document.proofs.CheckedNode.{unsound-below}
 use Rattle.document.specs.Canonical.{layout, treeLevels}
 use Rattle.document.specs.Printing.{checkedAs, checking}
@@ -229,7 +230,7 @@ pub imperative-tapes : (text : List ℕ) (n : ℕ) (t tape : List ℕ)
     → ((e : Expr) (es : Exprs) → Stands text 0 (and e es) (length text) → depthAll (and e es) ≤ 59 → n ≡ 0 → length t ≡ 32768
     → tape ≡ taped t 0 4294967295 (regroup e es)) → Tapes imperative text n t tape
 unfolding mostLevels
-imperative-tapes text n t tape h es e (regrouped x xs) st deep z l = h x xs st deep z l
+imperative-tapes text n t tape h es e (regrouped {e = x} {es = xs} k) st deep z l = rw (takes-regroup x k) (h x xs st deep z l)
 
 -- What the fill of this many nodes from a tape ensures.
 abbrev Filled : Memory → Memory → Expr → Type 0

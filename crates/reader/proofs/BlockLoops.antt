@@ -17,15 +17,16 @@ use Rattle.kind.proofs.Steps.{start-state}
 use Rattle.syntax.specs.Byte.{Bracket, closing}
 use Rattle.syntax.specs.Expression.{Expr, list, Exprs, none, and, place}
 use Rattle.lexer.specs.Token.{Seen, seen}
-use Rattle.document.specs.Spelling.{leadClass, exprClass, listClass, isBlockParameter, join}
+use Rattle.document.specs.Spelling.{isBlockParameter}
+use Rattle.document.specs.Imperative.{join, inCommand, isCommand, block}
+use Rattle.document.specs.Lead.{leadClass, exprClass, listClass}
 use Rattle.document.specs.Meaning.{Verdict, fine, fault, finish, run, judge}
-use Rattle.document.specs.Imperative.{inCommand, isCommand, block}
 use Rattle.document.proofs.Blocks.{block-element}
 use Rattle.reader.specs.Stands.{Has, Stands}
 use Rattle.reader.specs.Sizes.{nodesOf, nodesIn, bytesOf, bytesIn}
 use Rattle.reader.specs.Walked.{walkedTo, Bounded}
 use Rattle.reader.specs.Tape.{entered, left, taped, tapedAll}
-use Rattle.reader.specs.Takes.{Takes, at-end, at-command, expression, a-block}
+use Rattle.document.specs.Takes.{Takes, at-end, at-command, expression, a-block}
 use Rattle.reader.specs.Turn.{whole, Opened, Judges, verdictOf, pastBracket}
 use Rattle.reader.specs.Turn as Turn
 use Rattle.reader.specs.Blocks.{commandClass, looseClass, leadsCommand, endsAt, Refuses, by-step, stuck, TakenAs}
@@ -35,7 +36,7 @@ use Rattle.reader.proofs.Looks.{SeenAs, saw-end, saw-symbol, saw-string
 use Rattle.reader.proofs.Turns.{Looked, none-taken, run-bad, run-fine, run-fault, seen-forward, open-list, seen-within}
 use Rattle.reader.proofs.Tapes.{taped-on, element-tape, taped-element}
 use Rattle.reader.proofs.Loops.{past-none, past-fault, past-fine, nodes-counted}
-use Rattle.reader.proofs.Takes.{taken}
+use Rattle.document.proofs.Takes.{taken}
 use Rattle.reader.proofs.Blocks.{command-itself, parameter-class, loose-itself, loose-same, asParameter, parameter-of-class, parameter-place}
 use Rattle.reader.proofs.Blocks.{first-taken, FirstSeen, first-seen, AtomSeen, atom-seen}
 

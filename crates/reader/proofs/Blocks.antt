@@ -11,7 +11,8 @@ use Rattle.laws.proofs.Booleans.{cond-case, cond-under, bool-case, both, or-fal
 use Rattle.elements.specs.Class as Class
 use Rattle.syntax.specs.Expression.{Expr, symbol, quoted, list, Exprs, none, and, place}
 use Rattle.lexer.specs.Token.{Seen, atomValue}
-use Rattle.document.specs.Spelling.{exprClass, listClass, isBlockParameter}
+use Rattle.document.specs.Spelling.{isBlockParameter}
+use Rattle.document.specs.Lead.{exprClass, listClass}
 use Rattle.document.specs.Meaning.{fine, judge}
 use Rattle.document.specs.Imperative.{notAllowed, loose, isCommand, block}
 use Rattle.document.proofs.Blocks.{block-no-parameter}
@@ -19,7 +20,7 @@ use Rattle.document.proofs.Regroup.{block-class}
 use Rattle.reader.specs.Stands.{Stands}
 use Rattle.reader.specs.Sizes.{nodesOf, bytesOf}
 use Rattle.reader.specs.Tape.{entered, taped}
-use Rattle.reader.specs.Takes.{Takes, at-command, expression, a-block}
+use Rattle.document.specs.Takes.{Takes, at-command, expression, a-block}
 use Rattle.reader.specs.Blocks.{commandClass, looseClass, leadsCommand, endsAt}
 use Rattle.reader.proofs.Looks.{SeenAs, saw-end, saw-symbol, saw-string, saw-list}
 

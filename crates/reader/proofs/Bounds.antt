@@ -20,7 +20,8 @@ use Rattle.syntax.proofs.Strings.{pieces-append}
 use Rattle.syntax.proofs.Prefixes.{opened-length}
 use Rattle.syntax.proofs.Decided.{refused-fault}
 use Rattle.elements.specs.Class as Class
-use Rattle.document.specs.Spelling.{Spelling, nested, imperative, leadClass}
+use Rattle.document.specs.Spelling.{Spelling, nested, imperative}
+use Rattle.document.specs.Lead.{leadClass}
 use Rattle.document.specs.Meaning.{Verdict, fine, fault, judgeRoot, places, listPlaces, allPlaces}
 use Rattle.document.specs.Imperative.{notAllowed, regroup}
 use Rattle.document.specs.Answer.{Reading, refused, read, tooDeep, judged, oneExpression}

@@ -10,7 +10,7 @@ use Rattle.laws.proofs.Booleans.{cond-case}
 use Rattle.elements.specs.Class as Class
 use Rattle.syntax.specs.Expression.{Expr, symbol, quoted, list, Exprs, none, and}
 use Rattle.document.specs.Document.{Tree, text, value, size, element, Trees, empty, holds, child, keyOf, typeOf, keyIn, typeIn, isNode, says, sayAll}
-use Rattle.document.specs.Spelling.{leadClass}
+use Rattle.document.specs.Lead.{leadClass}
 use Rattle.document.specs.Meaning.{textBytes, symbolBytes, onlyOne, sizeTree, valueTree, treeOf, listTree, treesOf, places, listPlaces, allPlaces}
 use Rattle.document.specs.Table.{pool, poolAll}
 use Rattle.reader.specs.Stands.{Stands, ended, after-blank, after-line-end, a-symbol, a-string, a-list}

@@ -1,21 +1,21 @@
--- The demands of the two functions, from their contracts. Demand 1: a call has one of the numbered answers, and 1 to 14 and 19 leave the lent memory as it was. Demand 3: a call answers 0 exactly when the text is within the limits and spells a well-formed document that fits the room;
--- node words, pool and counts are then that document's; and no text spells two documents. Assumes nothing.
+-- The demands of the two functions, from their contracts. Demand 1: what a call answered and left is what the account tells, number by number, and nothing else is. Demand 3: a call answers 0 exactly when the text is
+-- within the limits and spells a well-formed document that fits the room; node words, pool and counts are then that document's; and no text spells two documents. Assumes nothing.
 use mathlib.Core.Path.{_≡_, sym, ap, _∙_}
 use mathlib.Core.List.{List}
 use Prim.Native.Nat.{ℕ, _≤_}
 use lib.Dec.{T}
-use lib.ListN.{length}
 use Rattle.document.specs.Document.{Node}
-use Rattle.document.specs.Spelling.{Spelling, Spells}
-use Rattle.document.specs.Answer.{Memory, outcome}
+use Rattle.document.specs.Spelling.{Spelling, Spells, WithinLimits}
+use Rattle.document.specs.Answer.{Memory, Outcome, outcome}
 use Rattle.document.specs.Demand.{Readable, Read}
-use Rattle.document.specs.Account.{keepsMemory}
+use Rattle.document.specs.Account.{keepsMemory, Answers}
+use Rattle.document.proofs.Account.{answers, answers-only}
 use Rattle.document.proofs.Demand as Definition
 use Rattle.document.proofs.Unaltered as Unaltered
 use Rattle.document.proofs.SameDocument as Same
 use Rattle.reader.specs.declared.Answer.{Answer}
 use Rattle.reader.specs.Read.{Reads}
-use Rattle.reader.specs.Demand.{ReadBy, ReadAlike}
+use Rattle.reader.specs.Demand.{called, ReadBy, ReadAlike}
 
 module _ (s : Spelling) (text : List ℕ) (m : Memory) (r : Answer) (exit : Memory) (reads : Reads s text m r exit) where
   read-by : (d : Node) → Read m (outcome s text m) d → ReadBy m r exit d
@@ -28,8 +28,20 @@ module _ (s : Spelling) (text : List ℕ) (m : Memory) (r : Answer) (exit : Memo
         pool-bytes = ap (λ (x : Memory). x .pool) (reads .leaves) ∙ h .pool-bytes;
       }
 
-  pub demand-1 : (r .number ≤ 19) × (T (keepsMemory (r .number)) → exit ≡ m)
-  demand-1 =
+  -- The outcome of the call is that of the definition.
+  pub called-as : called r exit ≡ outcome s text m
+  unfolding called
+  called-as =
+      let a = reads .answers in
+      rw (a .number, a .place, a .line, a .column, a .nodes, a .pool, reads .leaves)
+
+  -- Demand 1, number by number: the account tells what the call answered and left, and nothing else that the account tells is so.
+  pub demand-1 : Answers s text m (called r exit) × ((o : Outcome) → Answers s text m o → called r exit ≡ o)
+  demand-1 = (rw called-as (answers s text m), λ o a. called-as ∙ answers-only s text m o a)
+
+  -- In short: the number is at most 19, and 1 to 14 and 19 leave the lent memory as it was.
+  pub unaltered : (r .number ≤ 19) × (T (keepsMemory (r .number)) → exit ≡ m)
+  unaltered =
       let (most, kept) = Unaltered.demand-1 s text m in
       rw (reads .answers .number) (most, λ t. reads .leaves ∙ kept t)
 
@@ -40,11 +52,15 @@ module _ (s : Spelling) (text : List ℕ) (m : Memory) (r : Answer) (exit : Memo
       let (zero, back, once) = Definition.demand-3 s text m in
       ((λ z. let (d, readable, h) = zero (sym (reads .answers .number) ∙ z) in (d, readable, read-by d h)), (λ d readable. read-by d (back d readable)), once)
 
--- Two texts that spell one document, in either spelling each, read into the same lent memory.
+-- No text spells two documents, in whatever spelling each is taken.
+pub one-document : (s s′ : Spelling) (text : List ℕ) (d d′ : Node) → Spells s d text → Spells s′ d′ text → d ≡ d′
+one-document = Definition.either-spelling
+
+-- Two texts within the limits that spell one document, in either spelling each, read into the same lent memory.
 pub same-document : (s s′ : Spelling) (d : Node) (text text′ : List ℕ) (m exit exit′ : Memory) (r r′ : Answer) → Reads s text m r exit → Reads s′ text′ m r′ exit′
-    → length text ≤ 65536 → length text′ ≤ 65536 → Spells s d text → Spells s′ d text′ → ReadAlike r r′ exit exit′
-same-document s s′ d text text′ m exit exit′ r r′ a b short short′ spells spells′ =
-    let same = Same.same-document s s′ d text text′ m short short′ spells spells′ in
+    → (sp : Spells s d text) (sp′ : Spells s′ d text′) → WithinLimits s text (sp .forest) → WithinLimits s′ text′ (sp′ .forest) → ReadAlike r r′ exit exit′
+same-document s s′ d text text′ m exit exit′ r r′ a b sp sp′ l l′ =
+    let same = Same.same-document s s′ d text text′ m sp sp′ l l′ in
     record {
       number = a .answers .number ∙ same .number ∙ sym (b .answers .number);
       nodes = a .answers .nodes ∙ same .nodes ∙ sym (b .answers .nodes);

@@ -11,8 +11,10 @@ use Rattle.elements.specs.Class as Class
 use Rattle.elements.specs.Characters.{typeCharacter}
 use Rattle.syntax.specs.Expression.{Expr, symbol, quoted, list, Exprs, none, and}
 use Rattle.document.specs.Value.{nonEmpty, every, isValue}
-use Rattle.document.specs.Document.{Tree, size, keepsRules, keyOf, typeOf, widthOr, heightOr, keyIn, typeIn, widthIn, heightIn, missing}
-use Rattle.document.specs.Spelling.{holdsText, leadClass, listClass, exprClass}
+use Rattle.document.specs.Document.{Tree, size, keyOf, typeOf, widthOr, heightOr, keyIn, typeIn, widthIn, heightIn, missing}
+use Rattle.document.specs.RulesTest.{keepsRules}
+use Rattle.document.specs.Spelling.{holdsText}
+use Rattle.document.specs.Lead.{leadClass, listClass, exprClass}
 use Rattle.document.specs.Meaning.{fine, judge, judgeList, textBytes, symbolBytes, onlyOne, sizeTree, valueTree, treeOf, treesOf}
 use Rattle.document.proofs.Values.{value-parts}
 use Rattle.reader.proofs.Counts.{size-tree}

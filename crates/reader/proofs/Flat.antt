@@ -14,7 +14,7 @@ use Rattle.elements.specs.Inside.{start}
 use Rattle.lexer.specs.Token.{atomValue}
 use Rattle.syntax.specs.Expression.{Expr, symbol, quoted, list, Exprs, none, and}
 use Rattle.document.specs.Document.{text, missing, keyIn, typeIn, widthIn, heightIn}
-use Rattle.document.specs.Spelling.{leadClass}
+use Rattle.document.specs.Lead.{leadClass}
 use Rattle.document.specs.Meaning.{fine, judge, judgeList, treeOf, treesOf, places}
 use Rattle.document.proofs.Nested.{not-fine}
 use Rattle.document.proofs.Blocks.{Read}

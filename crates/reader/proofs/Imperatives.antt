@@ -9,7 +9,8 @@ use borrow.Author.Tests.{le-ltb, ne-eqb}
 use Rattle.elements.specs.Class as Class
 use Rattle.syntax.specs.Expression.{Expr, Exprs, and, place, depth, depthAll}
 use Rattle.lexer.specs.Token.{Seen}
-use Rattle.document.specs.Spelling.{imperative, exprClass, listClass}
+use Rattle.document.specs.Spelling.{imperative}
+use Rattle.document.specs.Lead.{exprClass, listClass}
 use Rattle.document.specs.Meaning.{fine, fault, judge, judgeRoot}
 use Rattle.document.specs.Imperative.{block, innermost, contentsOf, regroup}
 use Rattle.document.specs.Answer.{tooDeep, judged, oneExpression}
@@ -19,13 +20,13 @@ use Rattle.reader.specs.Stands.{Stands}
 use Rattle.reader.specs.Sizes.{nodesOf, bytesOf}
 use Rattle.reader.specs.Walked.{walkedTo, Bounded, readWalked}
 use Rattle.reader.specs.Tape.{entered, left, taped}
-use Rattle.reader.specs.Takes.{Takes}
+use Rattle.document.specs.Takes.{Takes}
 use Rattle.reader.specs.Turn.{Opened}
 use Rattle.reader.specs.Blocks.{InCommand}
 use Rattle.reader.specs.declared.walk.Walked.{Walked}
 use Rattle.reader.proofs.Looks.{SeenAs, saw-end, saw-symbol, saw-string, saw-list, look-stands}
 use Rattle.reader.proofs.Turns.{Looked, seen-forward, open-list}
-use Rattle.reader.proofs.Takes.{takes-contents}
+use Rattle.document.proofs.Takes.{takes-contents}
 use Rattle.reader.proofs.Blocks.{FirstSeen, first-seen, block-place}
 use Rattle.reader.proofs.BlockLoops.{Outcome, passed, stopped, outcome, block-same, block-tape, listed}
 

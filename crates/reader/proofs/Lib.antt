@@ -9,7 +9,6 @@ pub mod Items
 pub mod Values
 pub mod Measures
 pub mod Decimals
-pub mod Takes
 pub mod Blocks
 pub mod BlockLoops
 pub mod Imperatives

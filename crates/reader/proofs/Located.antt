@@ -6,12 +6,14 @@ use native.Mathlib.Omega.{arith}
 use lib.ListN.{length}
 use Rattle.elements.specs.Class as Class
 use Rattle.syntax.specs.Expression.{Expr, Exprs, and}
-use Rattle.document.specs.Spelling.{Spelling, exprClass}
+use Rattle.document.specs.Spelling.{Spelling}
+use Rattle.document.specs.Lead.{exprClass}
 use Rattle.document.specs.Meaning.{fine, judgeRoot}
 use Rattle.document.specs.Imperative.{notAllowed, innermost, contentsOf, regroup}
 use Rattle.document.specs.Account.{NestedForm, as-it-stands, regrouped}
 use Rattle.document.proofs.Blocks.{root-document}
 use Rattle.document.proofs.Regroup.{block-class}
+use Rattle.document.proofs.Takes.{takes-regroup}
 use Rattle.document.proofs.RegroupedAll.{Laws, regrouped-all}
 use Rattle.reader.specs.Stands.{Stands, ended, after-blank, after-line-end, a-symbol, a-string, a-list}
 use Rattle.reader.specs.Tape.{Located, LocatedAll}
@@ -53,6 +55,8 @@ command-first e es c = sym (block-class e (innermost (contentsOf (Class.signific
 
 pub form-located : (m : Spelling) (s : List ℕ) (es : Exprs) (e : Expr) → NestedForm m es e → Stands s 0 es (length s) → judgeRoot e ≡ fine → Located s e
 form-located m s es e as-it-stands st f = document-located (root-document e f .0) st .0
-form-located m s es e (regrouped x xs) st f =
-    regrouped-all (λ (n : ℕ) (e : Expr). Located s e) (λ (n : ℕ) (es : Exprs). LocatedAll s es) (located-laws s) 0 x xs
-    (document-located (command-first x xs (root-document (regroup x xs) f .0)) st)
+form-located m s es e (regrouped {e = x} {es = xs} t) st f =
+    let f′ : judgeRoot (regroup x xs) ≡ fine = rw (takes-regroup x t) at f in
+    rw (takes-regroup x t)
+    (regrouped-all (λ (n : ℕ) (e : Expr). Located s e) (λ (n : ℕ) (es : Exprs). LocatedAll s es) (located-laws s) 0 x xs
+    (document-located (command-first x xs (root-document (regroup x xs) f′ .0)) st))

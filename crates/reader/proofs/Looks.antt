@@ -13,7 +13,7 @@ use Rattle.syntax.specs.Scan.{ordinaryRun}
 use Rattle.syntax.specs.Expression.{Expr, symbol, quoted, list, Exprs, none, and}
 use Rattle.lexer.specs.Token.{blanks, stringAt, leadClassAt, leadLength, Seen, seenEnd, seenBy, seenFirst, seen, atomValue, the-end, a-symbol}
 use Rattle.lexer.specs.Token.{a-string, a-list}
-use Rattle.document.specs.Spelling.{leadClass, listClass}
+use Rattle.document.specs.Lead.{leadClass, listClass}
 use Rattle.reader.specs.Stands.{Has, Ends, at-bracket, at-end, Stands, ended, after-blank, after-line-end}
 use Rattle.reader.proofs.Strings.{Spans, string-spans, string-good}
 use Rattle.lexer.proofs.Blanks.{blanks-fit, run-fits}

@@ -16,7 +16,7 @@ use Rattle.elements.specs.Class.{isElement}
 use Rattle.elements.specs.Inside.{start}
 use Rattle.kind.proofs.Steps.{start-state}
 use Rattle.syntax.specs.Expression.{Expr, list, Exprs, and}
-use Rattle.document.specs.Spelling.{exprClass, listClass}
+use Rattle.document.specs.Lead.{exprClass, listClass}
 use Rattle.document.specs.Meaning.{Verdict, fine, fault, finish, run, judge, judgeValue, valueTree}
 use Rattle.reader.specs.Stands.{Stands}
 use Rattle.reader.specs.Sizes.{nodesOf, nodesIn, bytesOf, bytesIn, valueSize}
@@ -121,10 +121,6 @@ pub to-start : {s t z : List ℕ} {at k i n p node : ℕ} {w : Walked} → Bound
     → Bounded s i w × Finishes s at k i n p node t z w
 unfolding whole
 to-start {k = k} h = (h .0, (λ es e u. h .1 .answers es e u ∙ rw (start-state k), h .1 .tapes))
-
-pub item-start : {s t z : List ℕ} {at k i n p node : ℕ} {w : Walked} → k ≡ 18 → Bounded s i w × Answers s at 18 i 0 n p node t z w
-    → Bounded s i w × Finishes s at k i n p node t z w
-item-start e h = rw e (to-start h)
 
 -- An element's answer is that of the list that it is. Its node is entered before its content is walked, and left after it.
 pub element-judges : {s t t₁ t₂ z : List ℕ} {at k c j n p node : ℕ} {w : Walked} → isElement c ≡ true → 0 < j

@@ -14,7 +14,8 @@ use Rattle.syntax.specs.Expression.{Expr, symbol, list, Exprs, none, and}
 use Rattle.lexer.specs.Token.{Seen, blanks, seenEnd, seenBy, seenFirst, seen, atomValue}
 use Rattle.lexer.proofs.Blanks.{run-part}
 use Rattle.document.specs.Value.{isSize, isDecimal, nonEmpty}
-use Rattle.document.specs.Document.{keepsRules, widthOr, heightOr}
+use Rattle.document.specs.Document.{widthOr, heightOr}
+use Rattle.document.specs.RulesTest.{keepsRules}
 use Rattle.document.specs.Meaning.{numberOf, symbolBytes, sizeTree, judgeValue, fault}
 use Rattle.reader.specs.Stands.{Stands}
 use Rattle.reader.specs.Walked.{walkedTo, Bounded}

@@ -13,8 +13,9 @@ use Rattle.laws.proofs.Booleans.{cond-case, bool-case}
 use Rattle.elements.specs.Class as Class
 use Rattle.elements.specs.Inside.{start}
 use Rattle.syntax.specs.Expression.{Expr, symbol, quoted, list, Exprs, none, and, place}
-use Rattle.document.specs.Document.{missing, keepsRules, keyIn, typeIn, widthIn, heightIn, widthOr, heightOr}
-use Rattle.document.specs.Spelling.{leadClass, listClass, exprClass}
+use Rattle.document.specs.Document.{missing, keyIn, typeIn, widthIn, heightIn, widthOr, heightOr}
+use Rattle.document.specs.RulesTest.{keepsRules}
+use Rattle.document.specs.Lead.{leadClass, listClass, exprClass}
 use Rattle.document.specs.Meaning.{fine, judge, textBytes, onlyOne, sizeTree, valueTree, treesOf}
 use Rattle.document.proofs.Nested.{not-fine}
 use Rattle.document.proofs.Blocks.{Read}

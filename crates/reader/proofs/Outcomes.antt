@@ -25,12 +25,12 @@ use Rattle.document.specs.Imperative.{regroup}
 use Rattle.document.specs.Table.{count, pool}
 use Rattle.document.specs.Canonical.{layout, treeLevels}
 use Rattle.document.proofs.Levels.{spelled-levels}
-use Rattle.document.proofs.Reading.{Found, found}
+use Rattle.document.proofs.Reading.{Found, found, regrouped-form}
 use Rattle.document.proofs.Places.{root-places, element-node}
 use Rattle.document.proofs.Blocks.{root-document}
 use Rattle.document.specs.Spelling.{Spelling, nested, imperative, mostLevels}
 use Rattle.document.specs.Answer.{Memory, Reading, refused, read, tooDeep, judged, oneExpression, afterScan, reading, refusal, afterReading, stored, outcome}
-use Rattle.document.specs.Account.{no-syntax, NestedForm, as-it-stands, regrouped}
+use Rattle.document.specs.Account.{no-syntax, NestedForm, as-it-stands}
 use Rattle.document.proofs.Numbers.{refused-number}
 use Rattle.reader.specs.declared.walk.Walked.{Walked}
 use Rattle.reader.specs.Walked.{readWalked}
@@ -87,7 +87,7 @@ one-read nested n (and x (and y es)) e o = absurd (let z : _≡_ {A = ℕ} 0 1 =
 one-read imperative n none e o = absurd (let z : _≡_ {A = ℕ} 0 1 = cc in omega arith)
 one-read imperative n (and x es) e o =
     let (ok, same) = judged-fine imperative (regroup x es) e (judgeRoot (regroup x es)) o in
-    (rw (← same) (regrouped x es), rw same at ok)
+    (rw (← same) (regrouped-form x es), rw same at ok)
 
 pub root-node : (e : Expr) → judgeRoot e ≡ fine → T (isNode (treeOf e))
 unfolding Class.isElement Class.isKind
@@ -155,14 +155,14 @@ module _ (s : Spelling) (text : List ℕ) (m : Memory) where
         go (refused n p) o e = absurd (no-zero s text (x .utf8) (x .es) n p (x .found-as) o (sym (ap (λ (v : Walked). v .number) e) ∙ z))
         go (read e′) o e =
             let (form, ok) = one-read s (length text) (x .es) e′ o in
-            let (sp, same) = rw (x .found-as ∙ o) at (found s text (x .utf8)) in
+            let (sp, within, same) = rw (x .found-as ∙ o) at (found s text (x .utf8)) in
             record {
               expr = e′;
               reads = o;
               form = form;
               fine-root = ok;
               document = record { tree = sp .tree; lawful = sp .lawful; said = sp .said };
-              levels = spelled-levels s (says (treeOf e′)) text sp;
+              levels = spelled-levels s (says (treeOf e′)) text sp (record { short = x .short; nests = within });
               nodes-are = ap (λ (v : Walked). v .nodes) e ∙ sym (nodes-places e′) ∙ root-places e′ ok;
               bytes-are = ap (λ (v : Walked). v .pool) e ∙ sym (bytes-pool e′ (root-node e′ ok));
               goes-on = x .goes-on ∙ rw o;

@@ -7,15 +7,19 @@ use mathlib.Core.List.{List, [], _∷_}
 use lib.Dec.{T, eqb, eqb→eq, T-not}
 use native.Mathlib.Omega.{arith}
 use borrow.Author.Tests.{eqb-true, eqb-false, ne-eqb}
-use Rattle.laws.proofs.Booleans.{cond-case, bool-case, both, both-true, or-true, or-false, true-T, not-T-false}
+use Rattle.laws.proofs.Booleans.{cond-case, bool-case, both, both-true, or-true, or-false, true-T, T-true, not-T-false}
+use Rattle.laws.proofs.Tables.{every}
 use Rattle.elements.specs.Bytes.{among}
 use Rattle.elements.specs.Class as Class
-use Rattle.elements.specs.Rules.{Slot, must, may, id-type, Content, any-of, exactly-one, Rule, rules, ruleIn, ruleOf}
-use Rattle.elements.specs.Inside.{State, expecting, holding, Step, go, bad, sort, isInclude, allows, firstChild, nextChild, nextParameter, step, start}
+use Rattle.elements.specs.Rules.{Slot, must, may, id-type, Content, alternatives, exactly-one, alternativesOf, Rule, rules, ruleOf}
+use Rattle.elements.specs.Inside.{State, expecting, holding, Step, go, bad, isInclude, someHas, allows, firstChild, nextChild, nextParameter, step, start}
+use Rattle.elements.proofs.EachRow.{each-kind}
+use Rattle.elements.proofs.Alternatives.{chosen-case, some-has}
 use Rattle.syntax.specs.Expression.{Expr, symbol, quoted, list, Exprs, none, and}
-use Rattle.document.specs.Spelling.{leadClass, listClass, exprClass}
+use Rattle.document.specs.Lead.{leadClass, listClass, exprClass}
 use Rattle.document.specs.Value.{nonEmpty, isValue}
-use Rattle.document.specs.Document.{Tree, keepsRules}
+use Rattle.document.specs.Document.{Tree}
+use Rattle.document.specs.RulesTest.{keepsRules}
 use Rattle.document.specs.Meaning.{fine, fault, judge, judgeList, judgeValue, textBytes, symbolBytes, onlyOne, valueTree}
 use Rattle.document.proofs.Nested.{not-fine}
 use Rattle.document.proofs.Blocks.{Read, read-on}
@@ -68,37 +72,26 @@ single a b (id-type ∷ ps) =
 unfoldable fits : ℕ → ℕ → Rule → Bool
 fits a b r = single a b (r .parameters) && (not (allows (r .content) a) && not (allows (r .content) b))
 
-unfoldable allFit : ℕ → ℕ → List Rule → Bool
-allFit a b [] = true
-allFit a b (r ∷ rs) = fits a b r && allFit a b rs
-
--- The computed test over the table of elements holds of the row of each kind.
-row-fits : (a b k : ℕ) (rs : List Rule) → T (allFit a b rs) → T (fits a b (ruleIn rs k))
-unfolding allFit ruleIn fits single allows among
-row-fits a b k [] t = tt
-row-fits a b k (r ∷ rs) t =
-    let t′ = both (fits a b r) (allFit a b rs) t in
-    cond-case (λ (q : Rule). T (fits a b q)) (eqb k (r .kind)) (λ e. t′ .0) (λ e. row-fits a b k rs (t′ .1))
-
 -- The pairs of classes that are looked for: keys, types, sizes.
 pub data Sought : ℕ → ℕ → Type 0 where
   keys : Sought Class.id Class.target
   types : Sought Class.type Class.type
   sizes : Sought Class.size Class.size
 
-fits-table : {a b : ℕ} → Sought a b → T (allFit a b rules)
-unfolding allFit fits single last takes allows among rules
+-- The computed test over the table of elements.
+fits-table : {a b : ℕ} → Sought a b → T (every (fits a b) rules)
+unfolding fits single last takes allows someHas alternativesOf among rules
 fits-table keys = tt
 fits-table types = tt
 fits-table sizes = tt
 
 abbrev takesIn : ℕ → ℕ → State → Bool
 takesIn a b (expecting ps) = takes a b ps
-takesIn a b (holding s) = false
+takesIn a b (holding ks) = false
 
 abbrev singleIn : ℕ → ℕ → State → Bool
 singleIn a b (expecting ps) = single a b ps
-singleIn a b (holding s) = true
+singleIn a b (holding ks) = true
 
 -- What holds after an expression of class c, by whether one of a or b could come before it.
 record After (a b : ℕ) (before : Bool) (c : ℕ) (s : State) : Type 0 where
@@ -137,17 +130,19 @@ module _ (a b : ℕ) (t : Content) (na : T (not (allows t a))) (nb : T (not (all
         ne-eqb c b (λ i. T-not (allows t b) nb (rw i at (true-T e))),
       )
 
-  child-taken : (before : Bool) (c q : ℕ) (s : State) → allows t c ≡ true → go (holding q) ≡ go s → After a b before c s
-  child-taken before c q s e g =
-      let i : holding q ≡ s = cc in
+  child-taken : (before : Bool) (c : ℕ) (ks : List ℕ) (s : State) → allows t c ≡ true → go (holding ks) ≡ go s → After a b before c s
+  child-taken before c ks s e g =
+      let i : holding ks ≡ s = cc in
       let o : is a b c ≡ false = other c e in
       rw (← i) (record { taken = λ h. refl; on = tt; none-left = λ h. (o, refl) })
 
   first-taken : (before : Bool) (c : ℕ) (s : State) → firstChild t c ≡ go s → After a b before c s
-  unfolding firstChild
+  unfolding firstChild allows
   first-taken before c s =
       cond-case (λ (r : Step). r ≡ go s → After a b before c s) (isInclude c) (λ i g. absurd (not-go 12 s g))
-      (λ i. cond-case (λ (r : Step). r ≡ go s → After a b before c s) (allows t c) (λ e g. child-taken before c _ s e g) (λ e g. absurd (not-go 8 s g)))
+      (λ i. chosen-case c (λ (r : Step). r ≡ go s → After a b before c s) (alternativesOf t)
+      (λ ks m h g. child-taken before c ks s (T-true (someHas (alternativesOf t) c) (some-has c m h)) g)
+      (λ e g. absurd (not-go 8 s g)))
 
   -- An expression of class c is taken where these parameters may come.
   parameter-taken : (ps : List Slot) (c : ℕ) (s : State) → T (single a b ps) → nextParameter ps t c ≡ go s → After a b (takes a b ps) c s
@@ -181,25 +176,25 @@ module _ (a b : ℕ) (t : Content) (na : T (not (allows t a))) (nb : T (not (all
       (λ e g. weaker a b (i || (y || p)) p c s (λ f. or-false y p (or-false i (y || p) f .1) .1) (parameter-taken ps c s (o₃ .1) g))) g
 
 -- A further child is taken.
-next-taken : (a b : ℕ) (t : Content) → T (not (allows t a)) → T (not (allows t b)) → (before : Bool) (q c : ℕ) (s : State) → nextChild t q c ≡ go s
+next-taken : (a b : ℕ) (t : Content) → T (not (allows t a)) → T (not (allows t b)) → (before : Bool) (ks : List ℕ) (c : ℕ) (s : State) → nextChild t ks c ≡ go s
     → After a b before c s
-unfolding nextChild allows
-next-taken a b (any-of ks) na nb before q c s =
+unfolding nextChild allows alternativesOf
+next-taken a b (alternatives kss) na nb before ks c s =
     cond-case (λ (r : Step). r ≡ go s → After a b before c s) (isInclude c) (λ i g. absurd (not-go 12 s g))
-    (λ i. cond-case (λ (r : Step). r ≡ go s → After a b before c s) (among c ks)
-    (λ e. cond-case (λ (r : Step). r ≡ go s → After a b before c s) (eqb (sort c) q)
-    (λ f g. child-taken a b (any-of ks) na nb before c q s e g) (λ f g. absurd (not-go 11 s g)))
+    (λ i. cond-case (λ (r : Step). r ≡ go s → After a b before c s) (someHas kss c)
+    (λ e. cond-case (λ (r : Step). r ≡ go s → After a b before c s) (among c ks)
+    (λ f g. child-taken a b (alternatives kss) na nb before c ks s e g) (λ f g. absurd (not-go 11 s g)))
     (λ e g. absurd (not-go 8 s g)))
-next-taken a b (exactly-one k) na nb before q c s =
+next-taken a b (exactly-one k) na nb before ks c s =
     cond-case (λ (r : Step). r ≡ go s → After a b before c s) (isInclude c) (λ i g. absurd (not-go 12 s g)) (λ i g. absurd (not-go 8 s g))
 
 -- What the table says of the row of kind k.
 row-of : {a b : ℕ} → Sought a b → (k : ℕ)
     → T (single a b (ruleOf k .parameters)) × T (not (allows (ruleOf k .content) a)) × T (not (allows (ruleOf k .content) b))
-unfolding ruleOf fits
+unfolding fits single allows someHas alternativesOf
 row-of {a} {b} w k =
     let t = both (single a b (ruleOf k .parameters)) (not (allows (ruleOf k .content) a) && not (allows (ruleOf k .content) b))
-    (row-fits a b k rules (fits-table w)) in
+    (each-kind (fits a b) (fits-table w) k tt) in
     let u = both (not (allows (ruleOf k .content) a)) (not (allows (ruleOf k .content) b)) (t .1) in
     (t .0, u .0, u .1)
 
@@ -209,8 +204,8 @@ step-taken : {a b : ℕ} → Sought a b → (k : ℕ) (s : State) (c : ℕ) (s�
 unfolding step
 step-taken {a} {b} w k (expecting ps) c s′ o g =
     let r = row-of w k in parameter-taken a b (ruleOf k .content) (r .1) (r .2) ps c s′ o g
-step-taken {a} {b} w k (holding q) c s′ o g =
-    let r = row-of w k in next-taken a b (ruleOf k .content) (r .1) (r .2) false q c s′ g
+step-taken {a} {b} w k (holding ks) c s′ o g =
+    let r = row-of w k in next-taken a b (ruleOf k .content) (r .1) (r .2) false ks c s′ g
 
 -- What is inside a value that keeps the rules.
 text-single : (es : Exprs) → T (nonEmpty (onlyOne textBytes es)) → OneText es

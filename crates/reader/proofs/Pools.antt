@@ -1,4 +1,4 @@
--- "pool at most as long as the text", of every text that spells a document. Assumes nothing.
+-- "pool at most as long as the text", of every text within the limits that spells a document. Assumes nothing.
 use Prim.Native.Nat.{ℕ, _≤_}
 use mathlib.Core.Path.{refl, ap}
 use mathlib.Core.List.{List}
@@ -6,11 +6,11 @@ use native.Mathlib.Omega.{arith}
 use lib.ListN.{length}
 use Rattle.syntax.specs.Expression.{Exprs, locate}
 use Rattle.document.specs.Document.{Node}
-use Rattle.document.specs.Spelling.{Spelling, Spells}
+use Rattle.document.specs.Spelling.{Spelling, Spells, WithinLimits}
 use Rattle.document.specs.Table.{pool}
 use Rattle.document.specs.Answer.{oneExpression}
-use Rattle.document.proofs.Nested.{root-complete}
-use Rattle.document.proofs.Reading.{spelled-one, spelled-means}
+use Rattle.document.proofs.NestedForms.{spelled-form, spelled-fine, spelled-means}
+use Rattle.document.proofs.Reading.{spelled-one}
 use Rattle.reader.specs.Stands.{Stands}
 use Rattle.reader.specs.Sizes.{bytesOf}
 use Rattle.reader.specs.Walked.{readWalked}
@@ -19,13 +19,12 @@ use Rattle.reader.proofs.Counts.{bytes-pool}
 use Rattle.reader.proofs.Bounds.{walk-within}
 use Rattle.reader.proofs.Outcomes.{root-node}
 
-pub pool-within : (s : Spelling) (d : Node) (text : List ℕ) → Spells s d text → length (pool d) ≤ length text
+pub pool-within : (s : Spelling) (d : Node) (text : List ℕ) (sp : Spells s d text) → WithinLimits s text (sp .forest) → length (pool d) ≤ length text
 unfolding readWalked
-pool-within s d text sp =
-    let e = sp .expression in
+pool-within s d text sp l =
+    let e = spelled-form sp .expression in
     let es : Exprs = locate 0 (sp .forest) in
     let stands : Stands text 0 es (length text) = forest-stands text (sp .forest) (sp .syntax) (sp .spelled) in
     let (p, n, b) = walk-within s text es stands (readWalked (oneExpression s (length text) es)) refl in
-    let within : bytesOf e ≤ length text = rw (spelled-one sp) at b in
-    let (ok, same) = root-complete (sp .tree) e (sp .writes) (sp .lawful) in
-    omega (arith, within, bytes-pool e (root-node e ok), ap (λ (x : Node). length (pool x)) (spelled-means sp))
+    let within : bytesOf e ≤ length text = rw (spelled-one sp l) at b in
+    omega (arith, within, bytes-pool e (root-node e (spelled-fine sp)), ap (λ (x : Node). length (pool x)) (spelled-means sp))

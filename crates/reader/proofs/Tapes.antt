@@ -12,7 +12,7 @@ use Rattle.laws.proofs.Booleans.{cond-case}
 use Rattle.elements.specs.Class as Class
 use Rattle.syntax.specs.Expression.{Expr, symbol, quoted, list, Exprs, none, and}
 use Rattle.document.specs.Document.{missing, widthOr, heightOr}
-use Rattle.document.specs.Spelling.{leadClass}
+use Rattle.document.specs.Lead.{leadClass}
 use Rattle.document.specs.Meaning.{sizeTree}
 use Rattle.reader.specs.Sizes.{nodesOf, nodesIn}
 use Rattle.reader.specs.Tape.{entered, left, firstPlace, noted, taped, tapedList, tapedAll}

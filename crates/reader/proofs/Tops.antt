@@ -11,7 +11,8 @@ use Rattle.elements.specs.Inside.{start}
 use Rattle.syntax.specs.Byte.{Bracket, closing}
 use Rattle.syntax.specs.Expression.{Expr, symbol, quoted, list, Exprs, none, and, place}
 use Rattle.lexer.specs.Token.{Seen}
-use Rattle.document.specs.Spelling.{nested, leadClass, listClass, exprClass}
+use Rattle.document.specs.Spelling.{nested}
+use Rattle.document.specs.Lead.{leadClass, listClass, exprClass}
 use Rattle.document.specs.Meaning.{Verdict, fine, fault, finish, run, judge, judgeRoot}
 use Rattle.document.specs.Answer.{judged, tooDeep, oneExpression}
 use Rattle.reader.specs.Stands.{Has, Stands}

@@ -15,10 +15,10 @@ use Rattle.elements.specs.Inside.{State, expecting, holding, Step, go, bad, ste
 use Rattle.kind.specs.Machine.{stateOf, stepOf}
 use Rattle.syntax.specs.Expression.{Expr, symbol, quoted, list, Exprs, and, place}
 use Rattle.lexer.specs.Token.{Seen, seen}
-use Rattle.document.specs.Spelling.{exprClass}
+use Rattle.document.specs.Lead.{exprClass}
 use Rattle.document.specs.Faults.{Begun, Taken, Allowed}
 use Rattle.document.specs.Meaning.{Verdict, fine, fault, stopped, faultAt, advance, finish, run, judge}
-use Rattle.document.proofs.Classes.{allLead, leads, Leading, start-leading, next-leads, allowed-child}
+use Rattle.document.proofs.Classes.{allLead, leads, Leading, start-leading, next-leads, allowed-child, chosen-allowed}
 use Rattle.document.proofs.Steps.{begunOf, stepped as step-says}
 use Rattle.reader.specs.Sizes.{nodesOf, nodesIn, bytesOf, bytesIn}
 use Rattle.reader.specs.Walked.{walkedTo, Bounded}
@@ -64,8 +64,8 @@ none-taken k st st′ e =
   where
     taken-none : (s s′ : State) → Leading (begunOf s) → Taken k 0 (begunOf s) (begunOf s′) → ⊥
     taken-none (expecting ps) (expecting qs) t (Taken.parameter r) = next-leads r t
-    taken-none (expecting ps) (holding q) t (Taken.first-child d i a) = no-child k a
-    taken-none (holding q) (holding q′) t (Taken.next-child i a f) = no-child k a
+    taken-none (expecting ps) (holding ks) t (Taken.first-child d i a) = no-child k (chosen-allowed {ps = ps} a)
+    taken-none (holding ks) (holding ks′) t (Taken.next-child i a f) = no-child k a
 
 -- A state of number 0 is the first.
 fault-placed : (at k f q e n p : ℕ) (b : Bool)

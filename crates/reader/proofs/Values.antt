@@ -17,7 +17,8 @@ use Rattle.syntax.specs.Scan.{Quoted, closed, unclosed, bad-escape, quotedFrom}
 use Rattle.lexer.specs.Token.{Seen, stringEnd, stringAt, atomValue, fits}
 use Rattle.lexer.proofs.PieceAt.{piece-few}
 use Rattle.document.specs.Value.{nonEmpty, every, namesBlock, targetCharacter, isValue}
-use Rattle.document.specs.Document.{value, keyOf, typeOf, keepsRules}
+use Rattle.document.specs.Document.{value, keyOf, typeOf}
+use Rattle.document.specs.RulesTest.{keepsRules}
 use Rattle.document.specs.Meaning.{onlyOne, textBytes, symbolBytes, sizeTree, valueTree, judgeValue, fine, fault}
 use Rattle.reader.specs.Stands.{Stands, ended, after-blank, after-line-end, a-symbol, a-string, a-list}
 use Rattle.reader.specs.Sizes.{valueSize}

@@ -9,7 +9,7 @@ use lib.Seq.{sets}
 use Rattle.elements.specs.Class as Class
 use Rattle.syntax.specs.Expression.{Expr, symbol, quoted, list, none, and}
 use Rattle.document.specs.Document.{childless, child, isNode, says, sayAll, missing}
-use Rattle.document.specs.Spelling.{listClass, exprClass}
+use Rattle.document.specs.Lead.{listClass, exprClass}
 use Rattle.document.specs.Meaning.{fine, judgeRoot, treeOf, treesOf, places, allPlaces}
 use Rattle.document.specs.Table.{pool, poolAll, rowsAll, tableOf}
 use Rattle.document.proofs.Blocks.{root-document}

@@ -5,8 +5,8 @@ use Rattle.laws.proofs.Booleans.{cond-case}
 use Rattle.elements.specs.Class as Class
 use Rattle.elements.specs.Inside.{State, Step, go, bad, step, start, ended}
 use Rattle.syntax.specs.Expression.{Expr, symbol, quoted, list, Exprs, none, and, place}
-use Rattle.document.specs.Document.{keepsRules}
-use Rattle.document.specs.Spelling.{leadClass, exprClass}
+use Rattle.document.specs.RulesTest.{keepsRules}
+use Rattle.document.specs.Lead.{leadClass, exprClass}
 use Rattle.document.specs.Meaning.{Verdict, fine, fault, Progress, reached, stopped, faultAt, advance, finish, judgeValue, judge, judgeList, run, judgeRoot, valueTree}
 
 module _ (most : ℕ) where

@@ -11,7 +11,7 @@ use lib.Seq.{sets}
 use Rattle.elements.specs.Class as Class
 use Rattle.syntax.specs.Expression.{Expr, list, Exprs, none, and}
 use Rattle.document.specs.Document.{Trees, text, node, Nodes, childless, child, isNode, says, sayAll, missing, keyIn, typeIn, widthIn, heightIn}
-use Rattle.document.specs.Spelling.{leadClass}
+use Rattle.document.specs.Lead.{leadClass}
 use Rattle.document.specs.Meaning.{treeOf, treesOf, places, allPlaces}
 use Rattle.document.specs.Table.{count, countAll, pool, poolAll, rows, rowsAll, offset}
 use Rattle.document.proofs.Records.{rows-length-all}

@@ -10,14 +10,15 @@ use Rattle.elements.specs.Inside.{step as stepped, bad}
 use Rattle.kind.specs.Machine.{stateOf}
 use Rattle.syntax.specs.Byte.{Bracket, closing}
 use Rattle.syntax.specs.Expression.{Expr, Exprs, none, and}
-use Rattle.document.specs.Spelling.{exprClass, isBlockParameter, join}
+use Rattle.document.specs.Spelling.{isBlockParameter}
+use Rattle.document.specs.Imperative.{join, inCommand}
+use Rattle.document.specs.Lead.{exprClass}
 use Rattle.document.specs.Meaning.{fault, judge}
-use Rattle.document.specs.Imperative.{inCommand}
 use Rattle.reader.specs.Stands.{Has, Stands}
 use Rattle.reader.specs.Sizes.{nodesOf, bytesOf}
 use Rattle.reader.specs.Walked.{walkedTo}
 use Rattle.reader.specs.Tape.{entered, taped, tapedAll}
-use Rattle.reader.specs.Takes.{Takes}
+use Rattle.document.specs.Takes.{Takes}
 use Rattle.reader.specs.Turn.{whole, Opened}
 use Rattle.reader.specs.Turn as Turn
 use Rattle.reader.specs.declared.walk.Walked.{Walked}

@@ -4,7 +4,7 @@ use mathlib.Core.List.{List}
 use lib.ListN.{length, take, getD}
 use Rattle.document.specs.Document.{Node}
 use Rattle.document.specs.Table.{recordLength}
-use Rattle.document.specs.WellFormed.{Check, sound, unsound}
+use Rattle.document.specs.Check.{Check, sound, unsound}
 use Rattle.document.specs.Printing.{IsDraft}
 
 -- The place of the node, from the place list; 0 where there is no fault.

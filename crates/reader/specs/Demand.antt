@@ -3,8 +3,16 @@ use mathlib.Core.Path.{_≡_}
 use lib.ListN.{length}
 use Rattle.document.specs.Document.{Node}
 use Rattle.document.specs.Table.{count, pool, tableOf}
-use Rattle.document.specs.Answer.{Memory, over}
+use Rattle.document.specs.Answer.{Memory, Outcome, over}
 use Rattle.reader.specs.declared.Answer.{Answer}
+
+-- The outcome of a call: what it answered and what it left in the lent memory.
+unfoldable pub called : Answer → Memory → Outcome
+called r exit =
+    record {
+      answer = record { number = r .number; place = r .place; line = r .line; column = r .column; nodes = r .nodes; pool = r .pool };
+      memory = exit;
+    }
 
 -- A call that was lent m answered r and left `exit`: the number is 0, and node words, pool and both counts are those of d.
 pub record ReadBy (m : Memory) (r : Answer) (exit : Memory) (d : Node) : Type 0 where

@@ -3,7 +3,6 @@ pub mod Sizes
 pub mod Walked
 pub mod Turn
 pub mod Held
-pub mod Takes
 pub mod Blocks
 pub mod Second
 pub mod Checked

@@ -5,7 +5,7 @@ use lib.ListN.{length}
 use Rattle.elements.specs.Class as Class
 use Rattle.syntax.specs.Expression.{Expr, symbol, quoted, list, Exprs, none, and}
 use Rattle.document.specs.Document.{keyOf, typeOf}
-use Rattle.document.specs.Spelling.{leadClass}
+use Rattle.document.specs.Lead.{leadClass}
 use Rattle.document.specs.Meaning.{valueTree}
 
 -- The pool bytes of a value: of an id, target or type its own, of a size none.

@@ -11,7 +11,7 @@ use Rattle.elements.specs.Class as Class
 use Rattle.syntax.specs.Expression.{Expr, symbol, quoted, list, Exprs, none, and, place}
 use Rattle.lexer.specs.Token.{atomValue}
 use Rattle.document.specs.Document.{missing, widthOr, heightOr}
-use Rattle.document.specs.Spelling.{leadClass}
+use Rattle.document.specs.Lead.{leadClass}
 use Rattle.document.specs.Meaning.{sizeTree}
 use Rattle.reader.specs.Sizes.{nodesOf, nodesIn}
 

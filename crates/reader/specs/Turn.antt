@@ -10,7 +10,7 @@ use Rattle.elements.specs.Inside.{step as stepped, start, go}
 use Rattle.kind.specs.Machine.{stateOf}
 use Rattle.syntax.specs.Byte.{Bracket, closing}
 use Rattle.syntax.specs.Expression.{Expr, list, Exprs, and}
-use Rattle.document.specs.Spelling.{leadClass}
+use Rattle.document.specs.Lead.{leadClass}
 use Rattle.document.specs.Meaning.{Verdict, fine, fault, finish, run, judgeValue, valueTree}
 use Rattle.reader.specs.Stands.{Has, Stands}
 use Rattle.reader.specs.Sizes.{nodesIn, bytesIn, valueSize}

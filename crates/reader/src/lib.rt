@@ -13,7 +13,7 @@ use nested::judge_nested;
 ghost use mathlib.Core.Path.{_≡_};
 ghost use Prim.Native.Nat.{_≤_, min};
 ghost use Rattle.document.specs.Document.{Node};
-ghost use Rattle.document.specs.WellFormed.{check};
+ghost use Rattle.document.specs.Check.{check};
 ghost use Rattle.document.specs.Spelling.{nested, imperative};
 ghost use Rattle.document.specs.Answer.{answerAt};
 ghost use Rattle.validate.specs.Checked.{checkNumber};

@@ -201,7 +201,7 @@ pub fn inside(
     w
 }
 
-// What follows the name in an element of a kind, by the walk for that kind.
+// What follows the name in an element of a kind, by the walk for that kind. An item is met by the list walk alone.
 fn content_of(
     text: &[u8],
     at: usize,
@@ -218,7 +218,6 @@ fn content_of(
 {
     match kind {
         16 | 17 => list(text, at, from, kind, nodes, pool, node, tape),
-        18 => item(text, at, from, nodes, pool, node, tape),
         _ => inline(text, at, from, kind, nodes, pool, node, tape),
     }
 }
@@ -329,7 +328,7 @@ fn list(
     }
 }
 
-// What follows the name in an item.
+// What follows the name in an item: the walk over inline content, started at the item's kind.
 fn item(
     text: &[u8],
     at: usize,

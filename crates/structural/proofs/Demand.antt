@@ -4,7 +4,7 @@ use mathlib.Core.Path.{_≡_, refl, sym, ap, _∙_}
 use mathlib.Core.List.{List}
 use native.Mathlib.Omega.{arith}
 use borrow.Author.Tests.{eqb-true, eqb-false}
-use lib.Dec.{eqb, ltb, leb→le}
+use lib.Dec.{eqb, ltb}
 use lib.ListN.{length, length-append, take, drop}
 use lib.Seq.{length-take-le, take-at}
 use Rattle.laws.proofs.Booleans.{bool-case, cond-case}
@@ -26,7 +26,9 @@ use Rattle.reader.specs.Read.{Reads}
 use Rattle.reader.specs.Demand.{ReadBy}
 use Rattle.reader.proofs.Demand as Reading
 use Rattle.reader.proofs.Pools.{pool-within}
-use Rattle.structural.specs.Demand.{Holds, Wrote, ReadBack}
+use Rattle.structural.specs.Demand.{called, Wrote, ReadBack}
+use Rattle.document.specs.PrintAccount.{Holds, PrintAnswers}
+use Rattle.document.proofs.PrintAccount.{print-answers, print-answers-only}
 
 -- A spelling is written, or the output is too short: never 20.
 written-not-20 : (s out : List ℕ) → written s out .number ≡ 20 → ⊥
@@ -48,6 +50,13 @@ module _ (words : List ℕ) (n : ℕ) (bytes : List ℕ) (m : ℕ) where
   )
 
   module _ (out : List ℕ) (p : Printed) (exit : List ℕ) (call : Prints (printing words n bytes m out) p exit) where
+    -- The outcome of the call is that of the definition, so the account of printing tells what it answered and left, number by number, and nothing else that it tells is so.
+    pub print-account : PrintAnswers words n bytes m out (called p exit) × ((o : Defined.Printed) → PrintAnswers words n bytes m out o → called p exit ≡ o)
+    unfolding called
+    print-account =
+        let e : called p exit ≡ printing words n bytes m out = rw (call .number, call .length, call .out) in
+        (rw e (print-answers words n bytes m out), λ o a. e ∙ print-answers-only words n bytes m out o a)
+
     -- A document whose table it is, where the number is not 20.
     held : (p .number ≡ 20 → ⊥) → (d : Node) × Holds words n bytes m d
     held h =
@@ -79,7 +88,7 @@ module _ (words : List ℕ) (n : ℕ) (bytes : List ℕ) (m : ℕ) where
             record {
               length-is = call .length ∙ ap (λ (x : Defined.Printed). x .length) e ∙ l;
               written = call .out ∙ ap (λ (x : Defined.Printed). x .out) e ∙ o;
-              spells = canonical-spelling d (h .table .draft .document) (leb→le _ _ (h .table .draft .nests-within));
+              spells = canonical-spelling d (h .table .draft .document) .0;
             }
 
         back : (d : Node) → Holds words n bytes m d → (lent left : Memory) (r : Answer) → Reads nested (canonical d) lent r left → length (canonical d) ≤ 65536 → Fits d lent
@@ -104,7 +113,7 @@ read-holds s text lent left r d readable b =
     let words : take (recordLength * r .nodes) (left .nodes) ≡ tableOf d =
     rw (b .nodes, b .node-words) (take-at (tableOf d) _ (recordLength * count d) (table-length d)) in
     let strings : take (r .pool) (left .pool) ≡ pool d = rw (b .bytes, b .pool-bytes) (take-at (pool d) _ (length (pool d)) refl) in
-    let short : length text ≤ 65536 = readable .short in
+    let short : length text ≤ 65536 = readable .within .short in
     record {
       words-within = omega (
         arith,
@@ -114,7 +123,7 @@ read-holds s text lent left r d readable b =
         table-length d,
       );
       bytes-within = omega (arith, b .bytes, ap length (b .pool-bytes), length-append (pool d) (drop (length (pool d)) (lent .pool)));
-      table = rw (words, strings) (printable s text lent d readable (omega (arith, pool-within s d text (readable .spells))));
+      table = rw (words, strings) (printable s text lent d readable (omega (arith, pool-within s d text (readable .spells) (readable .within))));
     }
 
 -- Printing what reading filled under 0 never answers 20: it writes the spelling of the document that the text spells, or the output is too short.

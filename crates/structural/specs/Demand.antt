@@ -1,5 +1,5 @@
 -- Demand 2 of calls: what printing wrote, and what reading it back left. No definition of reading or printing is in it.
-use Prim.Native.Nat.{ℕ, _*_, _≤_}
+use Prim.Native.Nat.{ℕ, _*_}
 use mathlib.Core.Path.{_≡_}
 use mathlib.Core.List.{List}
 use lib.ListN.{length, take}
@@ -7,16 +7,14 @@ use Rattle.document.specs.Document.{Node}
 use Rattle.document.specs.Table.{recordLength}
 use Rattle.document.specs.Spelling.{nested, Spells}
 use Rattle.document.specs.Canonical.{canonical}
-use Rattle.document.specs.Printing.{IsTableOf}
+use Rattle.document.specs.Printing as Defined
 use Rattle.document.specs.Answer.{Memory, over}
 use Rattle.printer.specs.declared.Printed.{Printed}
 use Rattle.reader.specs.declared.Answer.{Answer}
 
--- The n records and m bytes at the front of what is lent are the table of the document d.
-pub record Holds (words : List ℕ) (n : ℕ) (bytes : List ℕ) (m : ℕ) (d : Node) : Type 0 where
-  pub words-within : recordLength * n ≤ length words
-  pub bytes-within : m ≤ length bytes
-  pub table : IsTableOf d (take (recordLength * n) words) (take m bytes)
+-- The outcome of a call of print: what it answered and what it left of the output.
+unfoldable pub called : Printed → List ℕ → Defined.Printed
+called p exit = record { number = p .number; length = p .length; out = exit }
 
 -- A call of print wrote the canonical spelling of d to the front of the output, and that is a nested spelling of d.
 pub record Wrote (d : Node) (out : List ℕ) (p : Printed) (exit : List ℕ) : Type 0 where

@@ -11,21 +11,11 @@ use Rattle.utf8.proofs.Agree.{nil-utf8, encode-utf8, byte-utf8, encode-not-empt
 use Rattle.syntax.specs.Byte.{openByte, closeByte}
 use Rattle.syntax.specs.Syntax.{Piece, raw, letter, number, isPiece, arePieces, pieceBefore, piecesBefore, letterValue, hexValue, pieceValue, piecesValue, Leaf, space, line-end, word, string, leafBefore, isLeaf, Before, a-symbol, another, after, Forest, end, leaf, brackets, bytesBefore, bytesOf, Ok}
 use Rattle.syntax.specs.Expression.{Expr, symbol, quoted, list, Exprs, none, and, locateLeaf, locate}
+use Rattle.syntax.specs.Atoms.{AtomsOf, AllAtoms, IsText}
 use Rattle.syntax.proofs.Classes.{Fits, fits-end, fits-close}
 use Rattle.syntax.proofs.Strings.{Digits, digits-of}
 use Rattle.syntax.proofs.Runs.{lastOf, fits-run}
 use Rattle.syntax.proofs.Ascii.{blank-below, not-ordinary-below, letter-below, hex-below, open-below, close-below}
-
--- The bytes of each symbol and of each quoted string, at any depth, are so.
-unfoldable mutual
-  pub AtomsOf : (P : List ℕ → Type 0) → Expr → Type 0
-  AtomsOf P (symbol at s) = P s
-  AtomsOf P (quoted at s) = P s
-  AtomsOf P (list at es) = AllAtoms P es
-
-  pub AllAtoms : (P : List ℕ → Type 0) → Exprs → Type 0
-  AllAtoms P none = Unit {0}
-  AllAtoms P (and e es) = AtomsOf P e × AllAtoms P es
 
 mutual
   unfolding AtomsOf
@@ -38,11 +28,6 @@ mutual
   pub all-atoms-map : (P Q : List ℕ → Type 0) → ((s : List ℕ) → P s → Q s) → (es : Exprs) → AllAtoms P es → AllAtoms Q es
   all-atoms-map P Q f none a = tt
   all-atoms-map P Q f (and e es) a = (atoms-map P Q f e (a .0), all-atoms-map P Q f es (a .1))
-
--- A string of one code point at least.
-pub record IsText (s : List ℕ) : Type 0 where
-  pub not-empty : s ≡ [] → ⊥
-  pub is-utf8 : IsUtf8 s
 
 -- ---- the pieces of a quoted string
 

@@ -10,18 +10,13 @@ use Rattle.laws.proofs.Booleans.{bool-case}
 use Rattle.syntax.specs.Byte.{Bracket, openByte, closeByte, sameBracket}
 use Rattle.syntax.specs.Syntax.{Leaf, space, line-end, word, string, leafBefore, isLeaf, areOrdinary, Before, a-symbol, another, after, mayFollow, Forest, end, leaf, brackets, bytesBefore, bytesOf, Ok, levels}
 use Rattle.syntax.specs.Scan.{refused, scanned, scan}
-use Rattle.syntax.specs.Fault.{Opened, outside, within, openedBefore, size, openLevels, OkOpened, unopened, other-partner, left-open, too-deep, Fault}
+use Rattle.syntax.specs.Fault.{Opened, outside, within, openedBefore, size, openLevels, OkOpened, unopened, other-partner, left-open, too-deep, Fault, Verdict, good, faulty}
 use Rattle.syntax.proofs.Classes.{Fits, bracket-same}
 use Rattle.syntax.proofs.Runs.{lastOf}
 use Rattle.syntax.proofs.Accepted.{accepted}
 use Rattle.syntax.proofs.Prefixes.{lastOpened, withRun, with-bytes, with-last, with-ok, open-levels}
 use Rattle.syntax.proofs.Refused.{fault-refused}
 use Rattle.syntax.proofs.Texts.{Lexed, nothing, leaves, opens, closes, stops, lexed}
-
--- What a text is: the bytes of concrete syntax, or faulty.
-pub data Verdict (room : ℕ) (text : List ℕ) : Type 0 where
-  good : (f : Forest) → Ok another f → bytesOf f ≡ text → levels f ≤ room → Verdict room text
-  faulty : (n p : ℕ) → Fault room text n p → Verdict room text
 
 -- A leaf whose bytes may follow may follow.
 follows : (m : Before) (l : Leaf) (k : List ℕ) → T (isLeaf l) → Fits m (leafBefore l k) → T (mayFollow m l)

@@ -12,3 +12,6 @@ pub mod Decided
 pub mod Ascii
 pub mod Atoms
 pub mod Escapes
+pub mod Standing
+pub mod Plain
+pub mod Examples

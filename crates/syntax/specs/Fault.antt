@@ -7,7 +7,7 @@ use mathlib.Core.List.{List, [], _∷_}
 use lib.Dec.{T}
 use lib.ListN.{length, getD}
 use Rattle.syntax.specs.Byte.{Bracket, forbidden, byteClass, openByte, closeByte, sameBracket}
-use Rattle.syntax.specs.Syntax.{Piece, isPiece, arePieces, pieceBefore, piecesBefore, Forest, another, Ok, levels, bytesBefore}
+use Rattle.syntax.specs.Syntax.{Piece, isPiece, arePieces, pieceBefore, piecesBefore, Forest, another, Ok, levels, bytesBefore, bytesOf}
 
 -- What stands before a fault: a run, and after each open bracket the run that follows it.
 pub data Opened : Type 0 where
@@ -56,3 +56,8 @@ pub record Fault (room : ℕ) (text : List ℕ) (n p : ℕ) : Type 0 where
   pub rest : List ℕ
   pub bytes : openedBefore before rest ≡ text
   pub hit : Hit room before rest n p
+
+-- What a text is: the bytes of concrete syntax, or faulty.
+pub data Verdict (room : ℕ) (text : List ℕ) : Type 0 where
+  good : (f : Forest) → Ok another f → bytesOf f ≡ text → levels f ≤ room → Verdict room text
+  faulty : (n p : ℕ) → Fault room text n p → Verdict room text

@@ -4,3 +4,4 @@ pub mod Ascii
 pub mod Column
 pub mod Decode
 pub mod Agree
+pub mod Plain

@@ -4,7 +4,7 @@ use mathlib.Core.Path.{_≡_, _∙_, refl, sym, ap}
 use mathlib.Core.List.{List, []}
 use Rattle.elements.specs.Class as Class
 use Rattle.document.specs.Document.{Node}
-use Rattle.document.specs.WellFormed.{First, any-number, badRow, Entry, entries, repeatedId, unknownTarget, unknownLink, unknownFootnote, Check, sound, checkedBy, check}
+use Rattle.document.specs.Check.{First, any-number, badRow, Entry, entries, repeatedId, unknownTarget, unknownLink, unknownFootnote, Check, sound, checkedBy, check}
 use Rattle.validate.specs.declared.faults.Found.{Found}
 use Rattle.validate.specs.declared.faults.Found.the-variants.{At, Nothing}
 use Rattle.validate.specs.Checked.{checkNumber, checkNode, Holds}

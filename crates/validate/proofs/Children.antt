@@ -7,7 +7,8 @@ use borrow.Author.Tests.{eq-eqb, ne-eqb}
 use Rattle.elements.specs.Class as Class
 use Rattle.document.specs.Document.{Node, node, Nodes, childless, child}
 use Rattle.document.specs.Table.{count, countAll}
-use Rattle.document.specs.WellFormed.{Cells, any-number, exactly, childCount, headCells, cellsIn}
+use Rattle.document.specs.Check.{Cells, any-number, exactly, headCells, cellsIn}
+use Rattle.document.specs.Visits.{childCount}
 use Rattle.table.specs.Stored.{wordAt}
 use Rattle.validate.specs.Words.{Shape, Shapes, Family, Below, in-table, in-body, elsewhere}
 

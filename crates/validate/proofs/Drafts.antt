@@ -9,9 +9,11 @@ use lib.ListN.{length}
 use borrow.Author.Tests.{eq-eqb}
 use Rattle.laws.proofs.Booleans.{both}
 use Rattle.elements.specs.Class as Class
-use Rattle.document.specs.Document.{treeClass, keepsRules, Node, missing, isDocument}
+use Rattle.document.specs.Document.{treeClass, Node, missing}
+use Rattle.document.specs.RulesTest.{keepsRules, isDocument}
 use Rattle.document.specs.Table.{count, pool}
 use Rattle.document.specs.Canonical.{layout, treeLevels}
+use Rattle.document.proofs.RulesTest.{test-lawful}
 use Rattle.document.proofs.Records.{table-length}
 use Rattle.document.proofs.LaidOut.{laid-out}
 use Rattle.table.specs.Stored.{wordAt}
@@ -38,7 +40,7 @@ root-draft {words} {bytes} r =
     let class : treeClass (layout d) ≡ Class.document = class-word words bytes 0 missing 0 d (a .stored) ∙ r .of-kind in (
       d,
       record {
-        document = record { tree = layout d; lawful = rw (eq-eqb _ _ class) (a .lawful .keeps); said = a .lawful .said };
+        document = record { tree = layout d; lawful = test-lawful (layout d) (rw (eq-eqb _ _ class) (a .lawful .keeps)); said = a .lawful .said };
         node-words = same .0;
         pool-bytes = same .1;
         few-nodes = le→leb (count d) 4096 (omega (arith, r .all-words, r .few-words, a .next));

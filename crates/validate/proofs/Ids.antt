@@ -12,7 +12,7 @@ use Rattle.laws.proofs.Booleans.{bool-case, and-false}
 use Rattle.elements.specs.Bytes.{same}
 use Rattle.elements.specs.Class.{isBlock}
 use Rattle.document.specs.Value.{nonEmpty}
-use Rattle.document.specs.WellFormed.{nowhere, at-node, Entry, hasId, isAmong, repeatedId, unknownTarget}
+use Rattle.document.specs.Check.{nowhere, at-node, Entry, hasId, isAmong, repeatedId, unknownTarget}
 use Rattle.table.specs.Stored.{wordAt}
 use Rattle.validate.specs.Words.{keyAt, entryAt, entriesFrom, wanted, idsBefore, repeatsAt, danglesAt}
 

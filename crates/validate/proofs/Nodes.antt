@@ -12,9 +12,9 @@ use Rattle.elements.specs.Class as Class
 use Rattle.elements.specs.Rules.{ruleOf}
 use Rattle.elements.specs.Inside.{start}
 use Rattle.utf8.specs.Sequence.{validUpTo}
-use Rattle.document.specs.Value.{isText}
+use Rattle.document.specs.RulesTest.{isText, keepsRules, keepRules}
 use Rattle.document.specs.Printing.{part}
-use Rattle.document.specs.Document.{text, element, Trees, keepsRules, keepRules}
+use Rattle.document.specs.Document.{text, element, Trees}
 use Rattle.document.specs.Document.{node, Nodes, childless, missing, says, sayAll}
 use Rattle.document.specs.Table.{count, pool}
 use Rattle.document.specs.Canonical.{nodeFirst, placeValues, layout, layoutAll, treeLevels, mostLevelsIn}

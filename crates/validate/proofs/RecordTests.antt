@@ -10,7 +10,8 @@ use borrow.Author.Tests.{eq-eqb, ne-eqb, eqb-true, eqb-false, ltb-true, ltb-fals
 use Rattle.laws.proofs.Booleans.{bool-case, true-T, T-true}
 use Rattle.utf8.specs.Sequence.{validUpTo}
 use Rattle.document.specs.Document.{missing}
-use Rattle.document.specs.Value.{nonEmpty, isText}
+use Rattle.document.specs.Value.{nonEmpty}
+use Rattle.document.specs.RulesTest.{isText}
 use Rattle.table.specs.Stored.{wordAt, Recorded}
 use Rattle.table.proofs.Stored.{recorded-word}
 use Rattle.validate.specs.Walking.{Decided, offsetOf, StringAt, TextAlone}

@@ -10,7 +10,7 @@ use lib.ListN.{length, take}
 use lib.Seq.{length-take-le, take-all}
 use Rattle.document.specs.Document.{Node}
 use Rattle.document.specs.Table.{recordLength, count}
-use Rattle.document.specs.WellFormed.{Check, sound, unsound, check}
+use Rattle.document.specs.Check.{Check, sound, unsound, check}
 use Rattle.document.specs.Printing.{IsDraft, checkedAs, checking}
 use Rattle.document.proofs.Records.{table-length}
 use Rattle.document.proofs.CheckedNode.{unsound-below}

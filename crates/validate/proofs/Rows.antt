@@ -9,7 +9,8 @@ use lib.Dec.{eqb}
 use borrow.Author.Tests.{eq-eqb, ne-eqb}
 use Rattle.elements.specs.Class as Class
 use Rattle.document.specs.Document.{Nodes}
-use Rattle.document.specs.WellFormed.{First, nowhere, at-node, Cells, any-number, exactly, childCount, cellsIn, differs}
+use Rattle.document.specs.Check.{First, nowhere, at-node, Cells, any-number, exactly, cellsIn, differs}
+use Rattle.document.specs.Visits.{childCount}
 use Rattle.validate.specs.declared.faults.Found.{Found}
 use Rattle.validate.specs.declared.faults.Found.the-variants.{At, Nothing}
 use Rattle.table.specs.Stored.{wordAt}

@@ -13,7 +13,7 @@ use borrow.Author.Tests.{eq-eqb, eqb-true, eqb-false}
 use Rattle.laws.proofs.Booleans.{bool-case, cond-case, not-T-false}
 use Rattle.elements.specs.Bytes.{same}
 use Rattle.elements.proofs.Same.{same-equal}
-use Rattle.document.specs.WellFormed.{hasId, isAmong}
+use Rattle.document.specs.Check.{hasId, isAmong}
 use Rattle.validate.specs.Words.{keyAt, entryAt, idsBefore}
 use Rattle.validate.specs.Index.{mixed, slotOf, lastIn, Indexed}
 use Rattle.validate.proofs.Ids.{and-both, named}

@@ -13,12 +13,14 @@ use borrow.Author.Tests.{eqb-true, eqb-false}
 use Rattle.laws.proofs.Booleans.{bool-case, cond-case, both, T-true, or-none}
 use Rattle.elements.specs.Bytes.{same}
 use Rattle.elements.specs.Class as Class
-use Rattle.document.specs.Document.{Tree, text, value, size, element, treeClass, keepsRules, says, isDocument, Node, node, Nodes, childless, child, missing}
+use Rattle.document.specs.Document.{Tree, text, value, size, element, treeClass, says, Node, node, Nodes, childless, child, missing}
+use Rattle.document.specs.RulesTest.{keepsRules, isDocument}
 use Rattle.document.specs.Value.{nonEmpty, isValue}
 use Rattle.document.specs.Table.{recordLength, count, countAll, pool, offset, tableOf}
-use Rattle.document.specs.WellFormed.{First, at-node, orElse, Cells, any-number, childCount, cellsBelow, differs, badRow, badRowAmong, Entry, entries, isAmong, idsWhere, unknownTarget, unknownLink, unknownFootnote}
-use Rattle.document.specs.Prose.{nodeKind, nodeKey}
-use Rattle.document.proofs.Records.{Visit, visits, visitsAll, visitsOf, upFrom, entryOf, wordsOf, record-at, key-at, table-length, numbered, entries-visits}
+use Rattle.document.specs.Check.{First, at-node, orElse, Cells, any-number, cellsBelow, differs, badRow, badRowAmong, Entry, entries, isAmong, idsWhere, unknownTarget, unknownLink, unknownFootnote}
+use Rattle.document.specs.Visits.{childCount, nodeKind, nodeKey, Visit, visits, visitsAll, visitsOf, upFrom, endOf, wordsOf}
+use Rattle.document.proofs.RulesTest.{lawful-test}
+use Rattle.document.proofs.Records.{entryOf, record-at, key-at, table-length, numbered, entries-visits}
 use Rattle.validate.specs.Checked.{Holds}
 use Rattle.document.specs.Printing.{part}
 use Rattle.table.specs.Stored.{wordAt, stringAt}
@@ -74,7 +76,7 @@ module _ (words : List ℕ) (n : ℕ) (bytes : List ℕ) (d : Node) (holds : Hol
 
   -- The words that say where a node stands.
   pub recorded : Recorded words v
-  unfolding wordsOf
+  unfolding wordsOf endOf
   recorded = (word-is 0 (lit< tt), word-is 1 (lit< tt), word-is 2 (lit< tt))
 
 -- The entries, one by one.
@@ -227,6 +229,6 @@ root-kind (element k ts) l = eqb-true k Class.document (T-true _ (both (eqb k Cl
 pub rows-searched : (words : List ℕ) (n : ℕ) (bytes : List ℕ) (d : Node) → Holds words n bytes d → Searched words n 0 (badRow 0 any-number d)
 unfolding visitsOf
 rows-searched words n bytes d holds =
-    let e : nodeKind d ≡ Class.document = ap nodeKind (sym (holds .document .said)) ∙ root-kind (holds .document .tree) (holds .document .lawful) in
+    let e : nodeKind d ≡ Class.document = ap nodeKind (sym (holds .document .said)) ∙ root-kind (holds .document .tree) (lawful-test (holds .document .tree) (holds .document .lawful)) in
     subst (λ (m : ℕ). Searched words m 0 (badRow 0 any-number d)) (holds .counted)
     (searched words d 0 missing any-number (shape words d 0 missing 0 (λ v m. recorded words n bytes d holds v m)) (λ f. absurd (f e)))

@@ -14,7 +14,8 @@ use Rattle.elements.specs.Rules.{ruleOf}
 use Rattle.elements.specs.Inside.{go, bad, step, start}
 use Rattle.kind.specs.Machine.{stateOf, stepOf}
 use Rattle.kind.proofs.Steps.{start-state}
-use Rattle.document.specs.Document.{Trees, empty, holds, treeClass, goesOn, keepsRules, keepRules, Nodes, childless, child, missing}
+use Rattle.document.specs.Document.{Trees, empty, holds, treeClass, Nodes, childless, child, missing}
+use Rattle.document.specs.RulesTest.{goesOn, keepsRules, keepRules}
 use Rattle.document.specs.Table.{count, countAll}
 use Rattle.document.specs.Value.{nonEmpty, every, namesBlock, targetCharacter, isValue, isSize}
 use Rattle.document.specs.Canonical.{nodeFirst, placeValues, layout, layoutAll, valueBefore, sizeBefore}

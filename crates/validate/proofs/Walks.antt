@@ -11,7 +11,8 @@ use Rattle.laws.proofs.Booleans.{cond-case, both, both-true, T-true, true-T}
 use Rattle.elements.specs.Class as Class
 use Rattle.elements.specs.Inside.{State, go, bad, step, ended}
 use Rattle.kind.specs.Machine.{stateOf, stepOf}
-use Rattle.document.specs.Document.{Tree, Trees, holds, treeClass, goesOn, keepsRules, keepRules, Node, node, Nodes, childless, child, isNode, says, sayAll}
+use Rattle.document.specs.Document.{Tree, Trees, holds, treeClass, Node, node, Nodes, childless, child, isNode, says, sayAll}
+use Rattle.document.specs.RulesTest.{goesOn, keepsRules, keepRules}
 use Rattle.document.specs.Table.{count, countAll, pool, poolAll}
 use Rattle.document.specs.Canonical.{placeValues, layout, layoutAll, mostLevelsIn}
 use Rattle.document.proofs.Nested.{goes-on}

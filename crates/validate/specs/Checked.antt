@@ -5,7 +5,7 @@ use mathlib.Core.List.{List}
 use lib.ListN.{length, take}
 use Rattle.document.specs.Document.{Node, Document}
 use Rattle.document.specs.Table.{recordLength, tableOf, pool, count}
-use Rattle.document.specs.WellFormed.{Check, sound, unsound}
+use Rattle.document.specs.Check.{Check, sound, unsound}
 
 unfoldable pub checkNumber : Check → ℕ
 checkNumber sound = 0

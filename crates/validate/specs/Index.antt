@@ -5,7 +5,7 @@ use mathlib.Core.Bool.{true, cond, _&&_}
 use mathlib.Core.List.{List, [], _∷_}
 use lib.Dec.{eqb}
 use lib.ListN.{length, getD}
-use Rattle.document.specs.WellFormed.{hasId}
+use Rattle.document.specs.Check.{hasId}
 use Rattle.validate.specs.Words.{keyAt, entryAt}
 
 -- The hash h after these bytes.

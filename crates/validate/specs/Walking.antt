@@ -9,7 +9,8 @@ use Rattle.elements.specs.Class as Class
 use Rattle.elements.specs.Rules.{ruleOf}
 use Rattle.elements.specs.Inside.{State, go, step, start}
 use Rattle.kind.specs.Machine.{stateOf}
-use Rattle.document.specs.Document.{Trees, keepsRules, keepRules, Node, Nodes, missing, says, sayAll}
+use Rattle.document.specs.Document.{Trees, Node, Nodes, missing, says, sayAll}
+use Rattle.document.specs.RulesTest.{keepsRules, keepRules}
 use Rattle.document.specs.Table.{recordLength, count, countAll, pool, poolAll}
 use Rattle.document.specs.Canonical.{nodeFirst, placeValues, layout, layoutAll, keyClass, valueBefore, sizeBefore, treeLevels, mostLevelsIn}
 use Rattle.table.specs.Stored.{wordAt, stringAt, Stored, StoredAll}

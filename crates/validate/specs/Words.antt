@@ -7,7 +7,8 @@ use lib.Dec.{eqb}
 use Rattle.elements.specs.Class as Class
 use Rattle.document.specs.Document.{Node, node, Nodes, childless, child}
 use Rattle.document.specs.Table.{count, countAll}
-use Rattle.document.specs.WellFormed.{First, nowhere, at-node, Cells, any-number, exactly, childCount, cellsIn, differs, Entry, hasId, isAmong}
+use Rattle.document.specs.Check.{First, nowhere, at-node, Cells, any-number, exactly, cellsIn, differs, Entry, hasId, isAmong}
+use Rattle.document.specs.Visits.{childCount}
 use Rattle.table.specs.Stored.{wordAt, stringAt}
 use Rattle.validate.specs.declared.faults.Found.{Found}
 use Rattle.validate.specs.declared.faults.Found.the-variants.{At, Nothing}

@@ -10,7 +10,7 @@ ghost use mathlib.Core.Bool.{_&&_};
 ghost use Prim.Native.Nat.{_+_, _<_};
 ghost use lib.ListN.{set, getD};
 ghost use Rattle.elements.specs.Bytes.{same};
-ghost use Rattle.document.specs.WellFormed.{isAmong, hasId};
+ghost use Rattle.document.specs.Check.{isAmong, hasId};
 ghost use Rattle.table.specs.Stored.{wordAt};
 ghost use Rattle.validate.specs.Words.{entryAt, wanted, idsBefore};
 ghost use Rattle.validate.specs.Index.{slotOf, Indexed};

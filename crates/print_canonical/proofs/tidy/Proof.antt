@@ -1,6 +1,8 @@
 -- `tidy` meets its contract. Assumes nothing.
+use mathlib.Core.Path.{refl}
 use native.Mathlib.Omega.{arith}
 use Rattle.document.specs.Spelling.{nested}
+use Rattle.listing.specs.Listing.{lentMemory}
 use Rattle.listing.proofs.Printed.{answered-long, answered-refusal}
 use Rattle.print_canonical.specs.Tidying.{spellingOf}
 use Rattle.print_canonical.proofs.Tidying.{line-end-fits, tidies-document}
@@ -12,7 +14,16 @@ put-too-long-requires : tie.Need-put-too-long-requires
 put-too-long-requires c κs = search needs
 
 returns : tie.Need-returns
-returns c = answered-long (spellingOf (c .before .before .before .before .args .out .now)) nested (c .before .before .before .before .args .text .now) (record { nodes = c .before .before .before .before .args .nodes .now; places = c .before .before .before .before .args .places .now; pool = c .before .before .before .before .args .pool .now }) (omega (arith, c .before .put-too-long-arg .given .0 .1)) (c .before .before .if1 .taken) (c .put-too-long .ensures)
+returns c = answered-long spellingOf nested (c .before .before .before .before .args .text .now) (omega (arith, c .before .put-too-long-arg .given .0 .1)) (c .before .before .if1 .taken) (c .put-too-long .ensures)
+
+slice-aggregate-read-nested : tie.Need-slice-aggregate-read-nested
+slice-aggregate-read-nested c = search needs
+
+slice-aggregate-read-nested-2 : tie.Need-slice-aggregate-read-nested-2
+slice-aggregate-read-nested-2 c = search needs
+
+slice-aggregate-read-nested-3 : tie.Need-slice-aggregate-read-nested-3
+slice-aggregate-read-nested-3 c = search needs
 
 read-nested-requires : tie.Need-read-nested-requires
 read-nested-requires c κs = search needs
@@ -21,11 +32,20 @@ put-refusal-requires : tie.Need-put-refusal-requires
 put-refusal-requires c κs = search needs
 
 returns-2 : tie.Need-returns-2
+unfolding lentMemory
 returns-2 c =
-    let a = c .before .before .before .before .read-nested .result in
-    let e = c .before .before .before .before .read-nested .ensures in
+    let r = c .before .before .before .before .before .before .before in
+    let args = r .before .before .before .before .before .before .args in
+    let a = r .read-nested .result in
+    let e = r .read-nested .ensures .answers in
     let f = c .before .before .before .struct-known .given in
-    answered-refusal (spellingOf (c .before .before .before .before .before .before .before .before .before .before .args .out .now)) nested (c .before .before .before .before .before .before .before .before .before .before .args .text .now) (record { nodes = c .before .before .before .before .before .before .before .before .before .before .args .nodes .now; places = c .before .before .before .before .before .before .before .before .before .before .args .places .now; pool = c .before .before .before .before .before .before .before .before .before .before .args .pool .now }) (a .number) (a .line) (a .column) (omega (arith, c .before .put-refusal-arg .given .0 .1)) (c .before .before .before .before .before .before .before .before .if1 .left) (c .before .before .if2 .taken) (f .0 .fits) (f .1 .1 .0 .fits) (f .1 .1 .1 .0 .fits) (e .answers .number) (e .answers .line) (e .answers .column) (c .put-refusal .ensures)
+    answered-refusal spellingOf nested (args .text .now) _ (r .before .before .before .before .if1 .left) (a .number) (a .line) (a .column) (omega (arith, c .before .put-refusal-arg .given .0 .1)) (c .before .before .if2 .taken) (f .0 .fits) (f .1 .1 .0 .fits) (f .1 .1 .1 .0 .fits) (e .number) (e .line) (e .column) refl (c .put-refusal .ensures)
+
+slice-aggregate-print : tie.Need-slice-aggregate-print
+slice-aggregate-print c = search needs
+
+slice-aggregate-print-2 : tie.Need-slice-aggregate-print-2
+slice-aggregate-print-2 c = search needs
 
 print-requires : tie.Need-print-requires
 print-requires c κs = search needs
@@ -34,13 +54,21 @@ cast-n : tie.Need-cast-n
 cast-n c = search needs
 
 element-write-out : tie.Need-element-write-out
-element-write-out c = line-end-fits (c .before .before .before .before .before .before .before .before .before .before .before .before .before .before .before .args .text .now) (record { nodes = c .before .before .before .before .before .before .before .before .before .before .before .before .before .before .before .args .nodes .now; places = c .before .before .before .before .before .before .before .before .before .before .before .before .before .before .before .args .places .now; pool = c .before .before .before .before .before .before .before .before .before .before .before .before .before .before .before .args .pool .now }) (c .before .before .before .before .before .before .before .before .before .before .before .before .before .before .before .args .out .now) (c .before .before .before .before .before .before .before .before .before .before .before .read-nested-arg2 .given .0 .1) (c .before .before .before .before .before .before .before .before .before .before .read-nested-arg3 .given .0 .1) (c .before .before .print-arg5 .given .0 .1) (c .before .before .before .before .before .before .before .before .before .read-nested .result) _ (c .before .before .before .before .before .before .before .before .before .read-nested .ensures) (c .before .before .before .before .before .before .before .if2 .left) (c .before .print .result) _ (c .before .print .ensures)
+unfolding lentMemory
+element-write-out c =
+    let r = c .before .before .before .before .before .before .before .before .before .before in
+    let args = r .before .before .before .before .before .before .args in
+    omega (arith, c .before .before .print-arg .given .0 .1, line-end-fits (args .text .now) _ (args .out .now) (omega (arith, c .before .before .print-arg .given .0 .1)) (r .read-nested .result) _ (r .read-nested .ensures) refl (c .before .before .before .before .before .if2 .left) (c .before .print .result) _ (c .before .print .ensures))
 
 add-result : tie.Need-add-result
 add-result c = search needs
 
 returns-3 : tie.Need-returns-3
-returns-3 c = tidies-document (c .before .before .before .before .before .before .before .before .before .before .before .before .before .before .before .args .text .now) (record { nodes = c .before .before .before .before .before .before .before .before .before .before .before .before .before .before .before .args .nodes .now; places = c .before .before .before .before .before .before .before .before .before .before .before .before .before .before .before .args .places .now; pool = c .before .before .before .before .before .before .before .before .before .before .before .before .before .before .before .args .pool .now }) (c .before .before .before .before .before .before .before .before .before .before .before .before .before .before .before .args .out .now) (c .before .before .before .before .before .before .before .before .before .before .before .read-nested-arg2 .given .0 .1) (c .before .before .before .before .before .before .before .before .before .before .read-nested-arg3 .given .0 .1) (c .before .before .print-arg5 .given .0 .1) (c .before .before .before .before .before .before .before .before .before .read-nested .result) _ (c .before .before .before .before .before .before .before .before .before .read-nested .ensures) (c .before .before .before .before .before .before .before .if2 .left) (c .before .print .result) _ (c .before .print .ensures) (c .before .before .before .before .before .before .before .before .before .before .before .before .before .if1 .left)
+unfolding lentMemory
+returns-3 c =
+    let r = c .before .before .before .before .before .before .before .before .before .before in
+    let args = r .before .before .before .before .before .before .args in
+    tidies-document (args .text .now) _ (args .out .now) (omega (arith, c .before .before .print-arg .given .0 .1)) (r .read-nested .result) _ (r .read-nested .ensures) refl (c .before .before .before .before .before .if2 .left) (c .before .print .result) _ (c .before .print .ensures) (r .before .before .before .before .if1 .left)
 
 pub tidy-spec : {M : Type 1} → statement M
 tidy-spec =
@@ -48,9 +76,14 @@ tidy-spec =
     (tie.spec
     put-too-long-requires
     returns
+    slice-aggregate-read-nested
+    slice-aggregate-read-nested-2
+    slice-aggregate-read-nested-3
     read-nested-requires
     put-refusal-requires
     returns-2
+    slice-aggregate-print
+    slice-aggregate-print-2
     print-requires
     cast-n
     element-write-out

@@ -3,9 +3,10 @@ use mathlib.Core.Path.{_∙_, sym}
 use native.Mathlib.Omega.{arith}
 use borrow.Author.Needs.{needs}
 use borrow.Author.Tests.{not-true, not-false}
-use Rattle.kind.specs.Machine.{stepOf}
+use Rattle.kind.specs.Machine.{withChild}
 use Rattle.kind.proofs.Table.{no-include}
-use Rattle.kind.proofs.Steps.{first-refused, first-taken, sort-small}
+use Rattle.kind.proofs.Steps.{taken, significance-small}
+use Rattle.kind.proofs.Children.{first-refused, first-taken}
 use Rattle.kind.proofs.machine.first_child.Statement.{statement}
 use Rattle.kind.proofs.machine.first_child.Tie as tie
 
@@ -22,13 +23,13 @@ significance-requires : tie.Need-significance-requires
 significance-requires c κs = search needs
 
 add-t8 : tie.Need-add-t8
-add-t8 c = omega (arith, c .significance .ensures, sort-small (c .before .before .before .args .class))
+add-t8 c = omega (arith, c .significance .ensures, significance-small (c .before .before .before .args .class))
 
 returns-2 : tie.Need-returns-2
-unfolding stepOf
+unfolding withChild
 returns-2 c =
     let stands = sym (c .before .before .allowed .ensures) ∙ not-false _ (c .before .if1 .left) in
-    first-taken _ _ _ (no-include _ _ stands) stands (c .significance .ensures)
+    taken (rw (c .significance .ensures)) (first-taken _ _ (no-include _ _ stands) stands (c .significance .ensures))
 
 pub first-child-spec : {M : Type 1} → statement M
 first-child-spec =

@@ -1,11 +1,12 @@
 -- `machine::next_child` meets its contract. Assumes nothing.
-use mathlib.Core.Path.{_∙_, sym, ap}
+use mathlib.Core.Path.{_∙_, refl, sym, ap}
 use mathlib.Core.Bool.{not}
+use native.Mathlib.Omega.{arith}
 use borrow.Author.Needs.{needs}
 use borrow.Author.Tests.{not-true, not-false, eq-eqb, ne-eqb}
-use Rattle.kind.specs.Machine.{stepOf}
 use Rattle.kind.proofs.Table.{no-include, empty-but-verbatim}
-use Rattle.kind.proofs.Steps.{next-of-one, next-refused, next-other, next-same}
+use Rattle.kind.proofs.Steps.{taken, refused}
+use Rattle.kind.proofs.Children.{next-of-one, next-refused, next-other, next-same}
 use Rattle.kind.proofs.machine.next_child.Statement.{statement}
 use Rattle.kind.proofs.machine.next_child.Tie as tie
 
@@ -16,13 +17,12 @@ refused-requires : tie.Need-refused-requires
 refused-requires c κs = search needs
 
 returns : tie.Need-returns
-returns c = next-refused _ _ _ _ (c .refused .ensures) (sym (c .before .before .allowed .ensures) ∙ not-true _ (c .before .if1 .taken))
+returns c = next-refused _ _ _ (c .refused .ensures) (sym (c .before .before .allowed .ensures) ∙ not-true _ (c .before .if1 .taken)) _ _
 
 returns-2 : tie.Need-returns-2
-unfolding stepOf
 returns-2 c =
     let stands = sym (c .before .before .before .allowed .ensures) ∙ not-false _ (c .before .before .if1 .left) in
-    next-of-one _ _ _ (no-include _ _ stands) (empty-but-verbatim _ ∙ ap not (eq-eqb _ _ (c .if2 .taken)))
+    refused refl (λ z. omega arith) (next-of-one _ _ _ (no-include _ _ stands) (empty-but-verbatim _ ∙ ap not (eq-eqb _ _ (c .if2 .taken))))
 
 significance-requires : tie.Need-significance-requires
 significance-requires c κs = search needs
@@ -31,25 +31,27 @@ sub-if3 : tie.Need-sub-if3
 sub-if3 c = search needs
 
 returns-3 : tie.Need-returns-3
-unfolding stepOf
 returns-3 c =
     let stands = sym (c .before .before .before .before .before .allowed .ensures) ∙ not-false _ (c .before .before .before .before .if1 .left) in
-    next-other _ _ _ (no-include _ _ stands)
-    (empty-but-verbatim _ ∙ ap not (ne-eqb _ _ (c .before .before .if2 .left)))
+    refused refl (λ z. omega arith)
+    (next-other _ _ (no-include _ _ stands)
     stands
     (c .before .significance .ensures)
-    (c .if3 .taken)
+    (empty-but-verbatim _ ∙ ap not (ne-eqb _ _ (c .before .before .if2 .left)))
+    _
+    (c .if3 .taken))
 
 returns-4 : tie.Need-returns-4
-unfolding stepOf
 returns-4 c =
     let stands = sym (c .before .before .before .before .before .allowed .ensures) ∙ not-false _ (c .before .before .before .before .if1 .left) in
-    next-same _ _ _ _ (no-include _ _ stands)
-    (empty-but-verbatim _ ∙ ap not (ne-eqb _ _ (c .before .before .if2 .left)))
+    taken refl
+    (next-same _ _ (no-include _ _ stands)
     stands
     (c .before .significance .ensures)
+    (empty-but-verbatim _ ∙ ap not (ne-eqb _ _ (c .before .before .if2 .left)))
+    _
     (c .if3 .left)
-    (c .before .before .before .before .before .before .pre)
+    (c .before .before .before .before .before .before .pre))
 
 pub next-child-spec : {M : Type 1} → statement M
 next-child-spec =

@@ -1,28 +1,29 @@
 -- `machine::next_parameter` meets its contract. The loop's invariant: what the specification says from the place on is what it says from the state's on.
 -- Assumes nothing.
 use Prim.Native.Nat.{_-_}
-use mathlib.Core.Path.{_≡_, _∙_, refl, sym, ap}
+use mathlib.Core.Path.{_∙_, refl, sym, ap}
 use native.Mathlib.Omega.{arith}
 use borrow.Author.Needs.{needs}
 use lib.ListN.{drop}
 use Rattle.elements.specs.Rules.{ruleOf}
 use Rattle.elements.specs.Inside.{go, nextParameter}
-use Rattle.kind.specs.Machine.{stepOf}
+use Rattle.kind.specs.Machine.{afterPlace}
 use Rattle.kind.proofs.Table.{past-four}
-use Rattle.kind.proofs.Steps.{first-child, absent, required-taken, neither, either-taken, optional-taken, passed, first-child-end, place-state}
+use Rattle.kind.proofs.Steps.{taken, refused, alike, Leads, led-on, first-child, absent, required-taken, neither, either-taken, optional-taken, passed, first-child-end, place-state}
 use Rattle.kind.proofs.machine.next_parameter.Statement.{statement}
 use Rattle.kind.proofs.machine.next_parameter.Tie as tie
 
 abbrev Inv-loop : tie.InvT-loop
 Inv-loop kind state class place₀ place =
-    nextParameter (drop place (ruleOf kind .parameters)) (ruleOf kind .content) class
-    ≡ nextParameter (drop state (ruleOf kind .parameters)) (ruleOf kind .content) class
+    Leads (ruleOf kind .content) class (drop place (ruleOf kind .parameters)) place
+    (nextParameter (drop state (ruleOf kind .parameters)) (ruleOf kind .content) class)
+    (afterPlace state (drop state (ruleOf kind .parameters)) class)
 
 abbrev μ-loop : tie.MeasureT-loop
 μ-loop kind state class place₀ place = 4 - place
 
 loop-holds : tie.Need-loop-holds Inv-loop μ-loop
-loop-holds c = refl
+loop-holds c = (refl, refl)
 
 slot-requires : tie.Need-slot-requires Inv-loop μ-loop
 slot-requires c κs = search needs
@@ -32,38 +33,36 @@ first-child-requires c κs = search needs
 
 returns : tie.Need-returns Inv-loop μ-loop
 returns c =
-    c .first-child .ensures
-    ∙ sym (first-child (ruleOf (c .before .before .before .before .before .args .kind) .parameters)
+    let now = first-child (ruleOf (c .before .before .before .before .before .args .kind) .parameters)
     (c .before .before .before .before .loop .place) _ (c .before .before .slot .ensures)
     _ _
-    (c .before .if1 .taken))
-    ∙ c .before .before .before .before .loop .inv
+    (c .before .if1 .taken) in
+    alike (c .first-child .ensures) (led-on now (c .before .before .before .before .loop .inv))
 
 returns-2 : tie.Need-returns-2 Inv-loop μ-loop
-unfolding stepOf
 returns-2 c =
-    sym (absent (ruleOf (c .before .before .before .before .before .before .args .kind) .parameters)
+    refused refl (λ z. omega arith)
+    (sym (absent (ruleOf (c .before .before .before .before .before .before .args .kind) .parameters)
     (c .before .before .before .before .before .loop .place) _ (c .before .before .before .slot .ensures)
     _ _
     (c .before .before .if1 .left)
     (c .before .if2 .taken)
     (c .if3 .taken))
-    ∙ c .before .before .before .before .before .loop .inv
+    ∙ c .before .before .before .before .before .loop .inv .0)
 
 add-t9 : tie.Need-add-t9 Inv-loop μ-loop
 add-t9 c = search needs
 
 returns-3 : tie.Need-returns-3 Inv-loop μ-loop
-unfolding stepOf
 returns-3 c =
-    ap go (place-state _ _ (omega arith))
-    ∙ sym (required-taken (ruleOf (c .before .before .before .before .before .before .args .kind) .parameters)
+    let now = required-taken (ruleOf (c .before .before .before .before .before .before .args .kind) .parameters)
     (c .before .before .before .before .before .loop .place) _ (c .before .before .before .slot .ensures)
     _ _
     (c .before .before .if1 .left)
     (c .before .if2 .taken)
-    (c .if3 .left))
-    ∙ c .before .before .before .before .before .loop .inv
+    (c .if3 .left) in
+    let (step, number) = led-on now (c .before .before .before .before .before .loop .inv) in
+    taken number (ap go (place-state _ _ (omega arith)) ∙ step)
 
 id-type-requires : tie.Need-id-type-requires Inv-loop μ-loop
 id-type-requires c κs = search needs
@@ -73,40 +72,38 @@ first-child-requires-2 c κs = search needs
 
 returns-4 : tie.Need-returns-4 Inv-loop μ-loop
 returns-4 c =
-    c .first-child2 .ensures
-    ∙ sym (neither (ruleOf (c .before .before .before .before .before .before .before .before .before .args .kind) .parameters)
+    let now = neither (ruleOf (c .before .before .before .before .before .before .before .before .before .args .kind) .parameters)
     (c .before .before .before .before .before .before .before .before .loop .place) _ (c .before .before .before .before .before .before .slot .ensures)
     _ _ _
     (c .before .before .id-type .ensures)
     (c .before .before .before .if4 .taken)
-    (c .before .if5 .taken))
-    ∙ c .before .before .before .before .before .before .before .before .loop .inv
+    (c .before .if5 .taken) in
+    alike (c .first-child2 .ensures) (led-on now (c .before .before .before .before .before .before .before .before .loop .inv))
 
 returns-5 : tie.Need-returns-5 Inv-loop μ-loop
-unfolding stepOf
 returns-5 c =
-    sym (either-taken (ruleOf (c .before .before .before .before .before .before .before .before .args .kind) .parameters)
+    let now = either-taken (ruleOf (c .before .before .before .before .before .before .before .before .args .kind) .parameters)
     (c .before .before .before .before .before .before .before .loop .place) _ (c .before .before .before .before .before .slot .ensures)
     _ _ _ _
     (c .before .id-type .ensures)
     (c .before .before .if4 .taken)
-    (c .if5 .left))
-    ∙ c .before .before .before .before .before .before .before .loop .inv
+    (c .if5 .left) in
+    let (step, number) = led-on now (c .before .before .before .before .before .before .before .loop .inv) in
+    taken number step
 
 add-t12 : tie.Need-add-t12 Inv-loop μ-loop
 add-t12 c = search needs
 
 returns-6 : tie.Need-returns-6 Inv-loop μ-loop
-unfolding stepOf
 returns-6 c =
-    ap go (place-state _ _ (omega arith))
-    ∙ sym (optional-taken (ruleOf (c .before .before .before .before .before .before .before .args .kind) .parameters)
+    let now = optional-taken (ruleOf (c .before .before .before .before .before .before .before .args .kind) .parameters)
     (c .before .before .before .before .before .before .loop .place) _ (c .before .before .before .before .slot .ensures)
     _ _
     (c .before .before .if2 .left)
     (c .before .if4 .left)
-    (c .if6 .taken))
-    ∙ c .before .before .before .before .before .before .loop .inv
+    (c .if6 .taken) in
+    let (step, number) = led-on now (c .before .before .before .before .before .before .loop .inv) in
+    taken number (ap go (place-state _ _ (omega arith)) ∙ step)
 
 add-place : tie.Need-add-place Inv-loop μ-loop
 add-place c = search needs
@@ -116,22 +113,21 @@ loop-less c = search needs
 
 loop-again : tie.Need-loop-again Inv-loop μ-loop
 loop-again c =
-    sym (passed (ruleOf (c .before .before .before .before .before .before .before .args .kind) .parameters)
+    let now = passed (ruleOf (c .before .before .before .before .before .before .before .args .kind) .parameters)
     (c .before .before .before .before .before .before .loop .place) _ (c .before .before .before .before .slot .ensures)
     _ _
     (c .before .before .if2 .left)
     (c .before .if4 .left)
-    (c .if6 .left))
-    ∙ c .before .before .before .before .before .before .loop .inv
+    (c .if6 .left) in
+    led-on now (c .before .before .before .before .before .before .loop .inv)
 
 first-child-requires-3 : tie.Need-first-child-requires-3 Inv-loop μ-loop
 first-child-requires-3 c κs = search needs
 
 returns-7 : tie.Need-returns-7 Inv-loop μ-loop
 returns-7 c =
-    c .first-child3 .ensures
-    ∙ sym (first-child-end _ _ (past-four (c .before .before .before .args .kind) (c .before .before .loop .place) (c .before .loop-test .left)))
-    ∙ c .before .before .loop .inv
+    let now = first-child-end _ _ _ (past-four (c .before .before .before .args .kind) (c .before .before .loop .place) (c .before .loop-test .left)) in
+    alike (c .first-child3 .ensures) (led-on now (c .before .before .loop .inv))
 
 pub next-parameter-spec : {M : Type 1} → statement M
 next-parameter-spec =

@@ -3,9 +3,10 @@ use Prim.Native.Nat.{ℕ, _<_, _≤_}
 use mathlib.Core.Path.{_≡_}
 use native.Mathlib.Omega.{arith}
 use borrow.Author.Needs.{needs}
+use borrow.Author.Tests.{lt-ltb}
 use Rattle.elements.specs.Inside.{step}
-use Rattle.kind.specs.Machine.{stateOf}
-use Rattle.kind.proofs.Steps.{place-state, child-state}
+use Rattle.kind.specs.Machine.{stateOf, nextState}
+use Rattle.kind.proofs.Steps.{place-state, child-state, child-stays}
 use Rattle.kind.proofs.machine.step.Statement.{statement}
 use Rattle.kind.proofs.machine.step.Tie as tie
 
@@ -13,21 +14,21 @@ next-parameter-requires : tie.Need-next-parameter-requires
 next-parameter-requires c κs = search needs
 
 returns : tie.Need-returns
-unfolding step
-returns c = rw (place-state _ _ (c .before .if1 .taken)) (c .next-parameter .ensures)
+unfolding step nextState
+returns c = rw (place-state _ _ (c .before .if1 .taken), lt-ltb _ 5 (c .before .if1 .taken)) (c .next-parameter .ensures)
 
 next-child-requires : tie.Need-next-child-requires
 next-child-requires c κs = search needs
 
 returns-2 : tie.Need-returns-2
 unfolding step
-returns-2 c = rw (child-state _ _ (c .before .if2 .taken)) (c .next-child .ensures)
+returns-2 c = rw (child-state _ _ (c .before .if2 .taken), child-stays _ _ _ (c .before .if2 .taken)) (c .next-child .ensures)
 
 last-parameter-requires : tie.Need-last-parameter-requires
 last-parameter-requires c κs = search needs
 
 returns-3 : tie.Need-returns-3
-unfolding step stateOf
+unfolding step stateOf nextState
 returns-3 c = rw (c .before .if3 .taken) (c .last-parameter .ensures)
 
 last-parameter-requires-2 : tie.Need-last-parameter-requires-2
@@ -37,7 +38,7 @@ six : (n : ℕ) → 5 ≤ n → n < 7 → (n ≡ 5 → ⊥) → n ≡ 6
 six n low high other = omega arith
 
 returns-4 : tie.Need-returns-4
-unfolding step stateOf
+unfolding step stateOf nextState
 returns-4 c = rw (six _ (c .before .before .before .if1 .left) (c .before .before .if2 .left) (c .before .if3 .left)) (c .last-parameter2 .ensures)
 
 pub step-spec : {M : Type 1} → statement M

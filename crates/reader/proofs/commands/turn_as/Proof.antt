@@ -18,7 +18,7 @@ fault-at-requires : tie.Need-fault-at-requires
 fault-at-requires c κs = search needs
 
 returns : tie.Need-returns
-returns c = by-step _ (c .before .if1 .taken) (step-bad _ _ _ _ (c .before .if1 .taken) (c .before .before .before .step .ensures)) (c .fault-at .ensures)
+returns c = by-step _ (c .before .if1 .taken) (step-bad _ _ _ _ (c .before .if1 .taken) (c .before .before .before .step .ensures .stands)) (c .fault-at .ensures)
 
 refusal-requires : tie.Need-refusal-requires
 refusal-requires c κs = search needs
@@ -30,7 +30,7 @@ returns-3 : tie.Need-returns-3
 returns-3 c = (
   record {
     taken = step-goes _ _ _ _ (c .before .before .before .if1 .left)
-        (c .before .before .before .before .before .step .ensures);
+        (c .before .before .before .before .before .step .ensures .stands);
     forward = c .before .before .if2 .left;
     next = refl;
   },
@@ -61,7 +61,7 @@ returns-4 : tie.Need-returns-4
 returns-4 c = (
   record {
     taken = step-goes _ _ _ _ (c .before .before .before .before .before .before .if1 .left)
-        (c .before .before .before .before .before .before .before .before .step .ensures);
+        (c .before .before .before .before .before .before .before .before .step .ensures .stands);
     forward = c .before .before .before .before .before .if2 .left;
     next = refl;
   },

@@ -12,7 +12,7 @@ use Rattle.kind.specs.Machine.{stateOf}
 use Rattle.reader.specs.Walked.{Bounded}
 use Rattle.reader.specs.Turn.{Opens, Judges}
 use Rattle.reader.proofs.Loops.{Walking, begun, answered, passed, list-answered, list-forward, list-gone-on}
-use Rattle.reader.proofs.Loops.{to-start, item-start, element-judges, item-judges, list-judges, value-judges}
+use Rattle.reader.proofs.Loops.{to-start, element-judges, item-judges, list-judges, value-judges}
 use Rattle.reader.proofs.Items.{Bare, is-list, bare-start, item-taken}
 use Rattle.reader.proofs.Turns.{step-goes, turn-end, turn-fault, turn-stuck, turn-item}
 use Prim.Native.Nat.{ℕ, _<_}
@@ -95,27 +95,21 @@ abbrev list-below : ℕ → In 2 list-kinds.ps
 list-below t = and 2 list-kinds.ps (falls 2 list-kinds.ps _<_ μ-list t) list.Pre
 
 abbrev content-of-claims : ℕ → content-of-lts.Claims
-content-of-claims t = (item-below t, item.Post, list-below t, list.Post, inline-below t, inline.Post)
-
-content-of-item-requires : (t : ℕ) → content-of-lts.Need-item-requires (content-of-claims t) (content-of-at t) content-of.Post
-content-of-item-requires t c κs = (omega (arith, c .before .before .before .pre .0), c .before .before .before .pre .1)
+content-of-claims t = (list-below t, list.Post, inline-below t, inline.Post)
 
 content-of-list-requires : (t : ℕ) → content-of-lts.Need-list-requires (content-of-claims t) (content-of-at t) content-of.Post
 content-of-list-requires t c κs =
-    let pre = c .before .before .before .before .before .pre in
+    let pre = c .before .before .before .before .pre in
     (omega (arith, pre .0), (pre .1 .0, pre .1 .1, pre .1 .2, pre .1 .3, pre .1 .4, is-list _ (c .before .before .if1 .left) (c .before .if2 .taken)))
 
 content-of-inline-requires : (t : ℕ) → content-of-lts.Need-inline-requires (content-of-claims t) (content-of-at t) content-of.Post
-content-of-inline-requires t c κs = (omega (arith, c .before .before .before .before .pre .0), c .before .before .before .before .pre .1)
+content-of-inline-requires t c κs = (omega (arith, c .before .before .before .pre .0), c .before .before .before .pre .1)
 
 content-of-returns : (t : ℕ) → content-of-lts.Need-returns (content-of-claims t) (content-of-at t) content-of.Post
-content-of-returns t c = item-start (c .before .before .match .keys1) (c .item .ensures)
+content-of-returns t c = to-start (c .list .ensures)
 
 content-of-returns-2 : (t : ℕ) → content-of-lts.Need-returns-2 (content-of-claims t) (content-of-at t) content-of.Post
-content-of-returns-2 t c = to-start (c .list .ensures)
-
-content-of-returns-3 : (t : ℕ) → content-of-lts.Need-returns-3 (content-of-claims t) (content-of-at t) content-of.Post
-content-of-returns-3 t c = to-start (c .inline .ensures)
+content-of-returns-2 t c = to-start (c .inline .ensures)
 
 abbrev inline-claims : ℕ → inline-lts.Claims
 inline-claims t = (
@@ -388,7 +382,7 @@ list-fault-at-requires t c κs = search needs
 
 list-returns-2 : (t : ℕ) → list-lts.Need-returns-2 (list-claims t) (list-at t) list.Post list-Inv-loop list-μ-loop
 list-returns-2 t c = answered (c .before .before .before .before .before .before .before .loop .inv .0)
-    (rw (c .fault-at .ensures) (turn-fault (c .before .before .before .before .before .before .look .ensures) (c .before .before .before .before .before .before .before .loop .inv .0 .within) _ _ (c .before .before .before .step .ensures) (c .before .before .before .before .if1 .left) (c .before .if2 .taken)))
+    (rw (c .fault-at .ensures) (turn-fault (c .before .before .before .before .before .before .look .ensures) (c .before .before .before .before .before .before .before .loop .inv .0 .within) _ _ (c .before .before .before .step .ensures .stands) (c .before .before .before .before .if1 .left) (c .before .if2 .taken)))
 
 list-refusal-requires : (t : ℕ) → list-lts.Need-refusal-requires (list-claims t) (list-at t) list.Post list-Inv-loop list-μ-loop
 list-refusal-requires t c κs = search needs
@@ -413,8 +407,8 @@ list-taken t c =
     let some = c .before .before .before .before .if1 .left in
     let step = c .before .before .before .step in
     let fine = c .before .if2 .left in
-    let (item, bare) = item-taken _ _ _ _ (c .before .before .before .before .before .before .before .before .before .pre .1 .5) (l .inv .1) (step-goes _ _ _ _ fine (step .ensures)) in
-    let (within, opens) = turn-item (look .ensures) (l .inv .0 .within) _ _ (step .ensures) some fine (c .if3 .left) item in
+    let (item, bare) = item-taken _ _ _ _ (c .before .before .before .before .before .before .before .before .before .pre .1 .5) (l .inv .1) (step-goes _ _ _ _ fine (step .ensures .stands)) in
+    let (within, opens) = turn-item (look .ensures) (l .inv .0 .within) _ _ (step .ensures .stands) some fine (c .if3 .left) item in
     (within, opens, item, bare)
 
 list-enter-requires : (t : ℕ) → list-lts.Need-enter-requires (list-claims t) (list-at t) list.Post list-Inv-loop list-μ-loop
@@ -472,12 +466,10 @@ pub +content-of+inline+inside+item+list-spec : {M : Type 1} → statement M
 +content-of+inline+inside+item+list-spec =
     close μ-content-of μ-inline μ-inside μ-item μ-list (λ t. content-of-lts.spec (content-of-claims t) (content-of-at t)
     content-of.Post
-    (content-of-item-requires t)
     (content-of-list-requires t)
     (content-of-inline-requires t)
     (content-of-returns t)
-    (content-of-returns-2 t)
-    (content-of-returns-3 t))
+    (content-of-returns-2 t))
     (λ t. inline-lts.spec (inline-claims t) (inline-at t)
     inline.Post
     inline-Inv-loop

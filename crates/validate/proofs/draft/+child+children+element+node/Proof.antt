@@ -110,7 +110,7 @@ child-step-requires : (t : ℕ) → child-lts.Need-step-requires (child-claims t
 child-step-requires t c κs = search needs
 
 child-returns-2 : (t : ℕ) → child-lts.Need-returns-2 (child-claims t) (child-at t) child.Post
-child-returns-2 t c = child-stepped _ _ _ _ (c .before .before .before .before .before .before .node .ensures) (c .before .step .result .fault) (not-false _ (c .before .before .before .before .if1 .left)) (rw (word-in _ _ _ 0 (c .before .before .before .words .ensures .0) (omega arith)) at (c .before .step .ensures))
+child-returns-2 t c = child-stepped _ _ _ _ (c .before .before .before .before .before .before .node .ensures) (c .before .step .result .fault) (not-false _ (c .before .before .before .before .if1 .left)) (rw (word-in _ _ _ 0 (c .before .before .before .words .ensures .0) (omega arith)) at (c .before .step .ensures .stands))
 
 abbrev children-claims : ℕ → children-lts.Claims
 children-claims t = (lead-reads.Asked, lead-reads.Learnt, refused-reads.Asked, refused-reads.Learnt, child-below t, child.Post, values-reads.Asked, values-reads.Learnt, may-end-reads.Asked, may-end-reads.Learnt)

@@ -2,7 +2,7 @@
 use mathlib.Core.Path.{_∙_, sym}
 use native.Mathlib.Omega.{arith}
 use borrow.Author.Needs.{needs}
-use Rattle.document.specs.WellFormed.{Cells}
+use Rattle.document.specs.Check.{Cells}
 use Rattle.table.specs.Stored.{wordAt}
 use Rattle.validate.specs.Words.{Below}
 use Rattle.validate.proofs.Children.{up}

@@ -4,7 +4,7 @@ use mathlib.Core.Path.{_≡_, _∙_, sym, ap}
 use mathlib.Core.Logic.{⊎-elim}
 use native.Mathlib.Omega.{arith}
 use borrow.Author.Needs.{needs}
-use Rattle.document.specs.WellFormed.{First}
+use Rattle.document.specs.Check.{First}
 use Rattle.validate.specs.Words.{found, Searched}
 use Rattle.validate.proofs.Ids.{kind-read}
 use Rattle.validate.proofs.Rows.{spot-other, search-turn, search-end}

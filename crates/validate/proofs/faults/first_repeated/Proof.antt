@@ -7,7 +7,7 @@ use mathlib.Core.List.{[]}
 use mathlib.Core.Logic.{⊎-elim}
 use native.Mathlib.Omega.{arith}
 use borrow.Author.Needs.{needs}
-use Rattle.document.specs.WellFormed.{repeatedId}
+use Rattle.document.specs.Check.{repeatedId}
 use Rattle.validate.specs.Words.{entriesFrom, idsBefore, repeatsAt, found}
 use Rattle.validate.specs.Index.{Indexed}
 use Rattle.validate.proofs.Ids.{above-id, rest, repeated-here, repeated-on, repeated-end}

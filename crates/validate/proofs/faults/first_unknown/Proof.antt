@@ -5,7 +5,7 @@ use mathlib.Core.Logic.{⊎-elim}
 use native.Mathlib.Omega.{arith}
 use borrow.Author.Needs.{needs}
 use borrow.Author.Tests.{ne-eqb}
-use Rattle.document.specs.WellFormed.{unknownTarget}
+use Rattle.document.specs.Check.{unknownTarget}
 use Rattle.validate.specs.Words.{entriesFrom, idsBefore, found}
 use Rattle.validate.proofs.Ids.{kind-read, rest, unknown-here, unknown-on, unknown-end}
 use Rattle.validate.proofs.faults.first_unknown.Statement.{statement}

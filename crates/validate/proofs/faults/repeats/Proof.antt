@@ -3,7 +3,7 @@ use mathlib.Core.Path.{_≡_, _∙_, sym, ap}
 use mathlib.Core.Bool.{true, false, true≢false}
 use borrow.Author.Needs.{needs}
 use borrow.Author.Tests.{not-true, not-false}
-use Rattle.document.specs.WellFormed.{hasId}
+use Rattle.document.specs.Check.{hasId}
 use Rattle.validate.specs.Words.{keyAt, entryAt}
 use Rattle.validate.specs.Index.{slotOf}
 use Rattle.validate.proofs.Ids.{any-block}

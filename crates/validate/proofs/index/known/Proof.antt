@@ -5,7 +5,7 @@ use mathlib.Core.Logic.{⊎-elim}
 use native.Mathlib.Omega.{arith}
 use borrow.Author.Needs.{needs}
 use Rattle.elements.specs.Bytes.{same}
-use Rattle.document.specs.WellFormed.{isAmong}
+use Rattle.document.specs.Check.{isAmong}
 use Rattle.validate.specs.Words.{idsBefore}
 use Rattle.validate.proofs.Ids.{known-here, known-other, known-none, known-end}
 use Rattle.validate.proofs.Slots.{slot-below, Left, left-first, left-next, next-below}

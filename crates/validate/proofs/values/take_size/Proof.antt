@@ -17,7 +17,7 @@ step-requires : tie.Need-step-requires
 step-requires c κs = search needs
 
 returns-4 : tie.Need-returns-4
-returns-4 c = size-taken _ _ _ _ (c .before .before .before .before .if1 .left) _ _ (c .before .before .before .if2 .left) (c .before .before .if3 .left) (c .before .step .ensures)
+returns-4 c = size-taken _ _ _ _ (c .before .before .before .before .if1 .left) _ _ (c .before .before .before .if2 .left) (c .before .before .if3 .left) (c .before .step .ensures .stands)
 
 pub take-size-spec : {M : Type 1} → statement M
 take-size-spec = tie.close (tie.spec returns returns-2 returns-3 step-requires returns-4)

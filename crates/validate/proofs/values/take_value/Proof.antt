@@ -12,7 +12,7 @@ step-requires : tie.Need-step-requires
 step-requires c κs = search needs
 
 returns-2 : tie.Need-returns-2
-returns-2 c = value-fault _ _ _ _ _ (c .before .before .step .ensures) _ (c .before .before .before .if1 .left) (c .if2 .taken)
+returns-2 c = value-fault _ _ _ _ _ (c .before .before .step .ensures .stands) _ (c .before .before .before .if1 .left) (c .if2 .taken)
 
 sort-requires : tie.Need-sort-requires
 sort-requires c κs = search needs
@@ -21,7 +21,7 @@ fits-requires : tie.Need-fits-requires
 fits-requires c κs = search needs
 
 returns-3 : tie.Need-returns-3
-returns-3 c = value-taken _ _ _ _ _ (c .before .before .before .before .step .ensures) (characterOf (c .before .sort .result)) _ (c .before .before .before .before .before .if1 .left) (c .before .before .if2 .left) (c .before .sort .ensures _) (c .fits2 .ensures)
+returns-3 c = value-taken _ _ _ _ _ (c .before .before .before .before .step .ensures .stands) (characterOf (c .before .sort .result)) _ (c .before .before .before .before .before .if1 .left) (c .before .before .if2 .left) (c .before .sort .ensures _) (c .fits2 .ensures)
 
 pub take-value-spec : {M : Type 1} → statement M
 take-value-spec =

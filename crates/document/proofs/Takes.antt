@@ -1,16 +1,17 @@
--- A block takes what `contentsOf` gives it, and every run of expressions is taken in some way. Assumes nothing.
-use Prim.Native.Nat.{ℕ, zero, suc, _≤_}
+-- A block takes what `contentsOf` gives it, and every run of expressions is taken in some way; so the nested form of an imperative text is what `regroup` makes of it. Assumes nothing.
+use Prim.Native.Nat.{ℕ, zero, suc, _≤_, _<_}
 use mathlib.Core.Path.{_≡_, refl}
-use mathlib.Core.Bool.{Bool, true, false}
-use mathlib.Core.List.{List, _∷_}
+use mathlib.Core.Bool.{Bool, true, false, not}
+use mathlib.Core.List.{List, [], _∷_}
 use native.Mathlib.Omega.{arith}
 use borrow.Author.Tests.{le-leb, lt-leb, leb-true, leb-false}
-use lib.Dec.{leb}
+use lib.Dec.{eqb, leb}
+use Rattle.laws.proofs.Booleans.{cond-case, both, true-T, T-true, not-true}
 use Rattle.elements.specs.Class as Class
-use Rattle.syntax.specs.Expression.{Exprs, none, and}
-use Rattle.document.specs.Spelling.{exprClass}
-use Rattle.document.specs.Imperative.{isCommand, loose, block, stillOpen, childOf, opened, atInnermost, contentsOf}
-use Rattle.reader.specs.Takes.{Takes, at-end, at-command, expression, a-block}
+use Rattle.syntax.specs.Expression.{Expr, Exprs, none, and}
+use Rattle.document.specs.Lead.{exprClass}
+use Rattle.document.specs.Imperative.{isCommand, loose, block, stillOpen, childOf, opened, atInnermost, contentsOf, innermost, regroup}
+use Rattle.document.specs.Takes.{Takes, at-end, at-command, expression, a-block}
 
 pub takes-contents : {s : ℕ} {es content rest : Exprs} (blocks : List ℕ) → Takes s es content rest
     → contentsOf (s ∷ blocks) es ≡ content ∷ contentsOf blocks rest
@@ -67,3 +68,31 @@ taken-within (suc n) s es h = more n s es h (taken-within n)
 
 pub taken : (s : ℕ) (es : Exprs) → Taken s es
 taken s es = taken-within (sizeOf es) s es (omega arith)
+
+-- A command is of lesser significance than the document.
+command-lesser : (x : Expr) → isCommand x ≡ true → Class.significance (exprClass x) < 4
+unfolding isCommand Class.significance
+command-lesser x c =
+    let other : eqb (exprClass x) Class.document ≡ false
+    = not-true _ (T-true _ (both (Class.isBlock (exprClass x)) (not (eqb (exprClass x) Class.document)) (true-T c) .1)) in
+    rw other
+    (cond-case (λ (n : ℕ). n < 4) (eqb (exprClass x) Class.part) (λ _. omega arith)
+    (λ _. cond-case (λ (n : ℕ). n < 4) (eqb (exprClass x) Class.section) (λ _. omega arith)
+    (λ _. cond-case (λ (n : ℕ). n < 4) (eqb (exprClass x) Class.subsection) (λ _. omega arith) (λ _. omega arith))))
+
+-- So the document's block takes all.
+all-taken : {s : ℕ} {es content rest : Exprs} → 4 ≤ s → Takes s es content rest → rest ≡ none
+all-taken h at-end = refl
+all-taken h (at-command {x = x} c l) = absurd (omega (arith, command-lesser x c))
+all-taken h (expression c t) = all-taken h t
+all-taken h (a-block c l t u) = all-taken h u
+
+pub document-takes : (es : Exprs) → (content : Exprs) × Takes (Class.significance Class.document) es content none
+unfolding Class.significance
+document-takes es =
+    let t = taken (Class.significance Class.document) es in
+    (t .content, rw (all-taken (omega arith) (t .takes)) at (t .takes))
+
+pub takes-regroup : {es content : Exprs} (e : Expr) → Takes (Class.significance Class.document) es content none → block e content ≡ regroup e es
+unfolding regroup innermost
+takes-regroup e t = rw (takes-contents [] t)

@@ -1,12 +1,13 @@
--- What a block of an imperative text takes of the expressions that follow its command, and what it leaves. It serves the contracts of private functions;
--- that this is the content which `contentsOf` gives the block is proved in `proofs/Takes.antt`.
+-- Which block an expression of an imperative text belongs to: what a block takes of the expressions that follow its command, and what it leaves. Document 01, "Imperative":
+-- "A command ends each open block of lesser or equal significance, then opens a child of the innermost block left. Other expressions .. are content of the innermost open block".
+-- That the stack of `regroup` finds the same blocks is proved in `proofs/Takes.antt`.
 use Prim.Native.Nat.{ℕ, _≤_, _<_}
 use mathlib.Core.Path.{_≡_}
 use mathlib.Core.Bool.{true, false}
 use Rattle.elements.specs.Class as Class
 use Rattle.syntax.specs.Expression.{Expr, Exprs, none, and}
-use Rattle.document.specs.Spelling.{exprClass}
+use Rattle.document.specs.Lead.{exprClass}
 use Rattle.document.specs.Imperative.{isCommand, loose, block}
 
 -- A block of significance s takes `content` of the expressions es and leaves `rest`: it ends at the text's end or at a command of no lesser significance;
 -- a command of lesser significance opens a block in it, and any other expression is content.
