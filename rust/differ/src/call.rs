@@ -11,7 +11,7 @@ pub trait Call: Clone {
     /// What is done.
     const NAME: &'static str;
 
-    /// Made from one seed.
+    /// A random one, made from one seed.
     fn new(seed: u64) -> Self;
 
     /// Leaves of the memory what the rules say, and returns what they say.
@@ -48,6 +48,16 @@ impl Lengths {
             _ => words,
         };
         Lengths { guards: random.between(16, 31), answer }
+    }
+
+    /// For a case of the sweep: a slice of those words or up to three more, and guards from 16 to 31, by turns.
+    pub fn by_turns(case: u64, words: usize) -> Lengths {
+        Lengths::of_answer(case, words + (case / 16 % 4) as usize)
+    }
+
+    /// For a case of the sweep, where the length of the answer is given.
+    pub fn of_answer(case: u64, answer: usize) -> Lengths {
+        Lengths { guards: 16 + (case % 16) as usize, answer }
     }
 }
 

@@ -8,13 +8,13 @@ pub struct Compared {
     pub difference: Option<String>,
 }
 
-/// Makes the call that a seed stands for.
-pub fn compare<C: Call>(seed: u64) -> Compared {
-    hold(&C::new(seed), C::by_archive)
+/// Makes a call and holds it against the rules; also the call as they leave it.
+pub fn compare<C: Call>(call: &C) -> (Compared, C) {
+    hold(call, C::by_archive)
 }
 
 /// Holds whatever answers a call against the rules: the value returned, and every buffer with its guards.
-fn hold<C: Call>(call: &C, answers: impl FnOnce(&mut C) -> u32) -> Compared {
+fn hold<C: Call>(call: &C, answers: impl FnOnce(&mut C) -> u32) -> (Compared, C) {
     let (mut wanted, mut left) = (call.clone(), call.clone());
     let (number, returned) = (wanted.by_rules(), answers(&mut left));
     let unlike = wanted.unlike(&left);
@@ -23,7 +23,7 @@ fn hold<C: Call>(call: &C, answers: impl FnOnce(&mut C) -> u32) -> Compared {
         let (words, input) = (wanted.answer(), call.input());
         format!("{returned} {:?}, wanted {number} {words:?}, unlike {unlike:?}; {input}", left.answer())
     };
-    Compared { number, difference: (!same).then(difference) }
+    (Compared { number, difference: (!same).then(difference) }, wanted)
 }
 
 #[cfg(test)]
@@ -42,7 +42,7 @@ mod tests {
     fn noticed<C: Call>(change: impl Fn(&mut C, &mut u32) -> bool) -> u64 {
         let one = |seed| {
             let mut changed = false;
-            let compared = hold(&C::new(seed), |call: &mut C| {
+            let (compared, _) = hold(&C::new(seed), |call: &mut C| {
                 let mut returned = call.by_rules();
                 changed = change(call, &mut returned);
                 returned

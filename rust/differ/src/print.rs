@@ -6,7 +6,7 @@ use crate::lent::Lent;
 use oracle::random::PrintCase;
 
 /// Words of an answer: number, length.
-const WORDS: usize = 2;
+pub const WORDS: usize = 2;
 
 /// A call of `structural_print`.
 #[derive(Clone)]
@@ -19,12 +19,9 @@ pub struct Print {
     pub answer: Lent<u32>,
 }
 
-impl Call for Print {
-    const NAME: &'static str = "print";
-
-    fn new(seed: u64) -> Print {
-        let case = PrintCase::new(seed);
-        let Lengths { guards, answer } = Lengths::new(seed, WORDS);
+impl Print {
+    /// Lends what the case says.
+    pub fn of(case: &PrintCase, Lengths { guards, answer }: Lengths) -> Print {
         Print {
             nodes: Lent::holding(&case.nodes, guards),
             node_count: case.node_count,
@@ -33,6 +30,14 @@ impl Call for Print {
             out: Lent::blank(case.out, guards),
             answer: Lent::blank(answer, guards),
         }
+    }
+}
+
+impl Call for Print {
+    const NAME: &'static str = "print";
+
+    fn new(seed: u64) -> Print {
+        Print::of(&PrintCase::new(seed), Lengths::new(seed, WORDS))
     }
 
     fn by_rules(&mut self) -> u32 {

@@ -6,7 +6,7 @@ use crate::lent::Lent;
 use oracle::random::ReadCase;
 
 /// Words of an answer: number, place, line, column, node count, pool count.
-const WORDS: usize = 6;
+pub const WORDS: usize = 6;
 
 /// A call of `structural_read_nested` or `structural_read_imperative`.
 #[derive(Clone)]
@@ -19,12 +19,9 @@ pub struct Read {
     pub answer: Lent<u32>,
 }
 
-impl Call for Read {
-    const NAME: &'static str = "read";
-
-    fn new(seed: u64) -> Read {
-        let case = ReadCase::new(seed);
-        let Lengths { guards, answer } = Lengths::new(seed, WORDS);
+impl Read {
+    /// Lends what the case says.
+    pub fn of(case: &ReadCase, Lengths { guards, answer }: Lengths) -> Read {
         Read {
             imperative: case.imperative,
             text: Lent::holding(&case.text, guards),
@@ -33,6 +30,14 @@ impl Call for Read {
             pool: Lent::blank(case.pool, guards),
             answer: Lent::blank(answer, guards),
         }
+    }
+}
+
+impl Call for Read {
+    const NAME: &'static str = "read";
+
+    fn new(seed: u64) -> Read {
+        Read::of(&ReadCase::new(seed), Lengths::new(seed, WORDS))
     }
 
     fn by_rules(&mut self) -> u32 {

@@ -1,4 +1,4 @@
-//! Many cases, a read and a print each.
+//! Many random cases, a read and a print each.
 
 use crate::call::{Call, NO_ANSWER};
 use crate::compare::compare;
@@ -9,7 +9,7 @@ use std::fmt::{self, Write};
 use std::thread;
 
 /// Calls do not share anything, so that several threads can make them.
-const THREADS: usize = 2;
+pub const THREADS: usize = 2;
 
 /// What came of a run.
 #[derive(Default)]
@@ -33,8 +33,8 @@ fn part(seed: u64, cases: impl Iterator<Item = u64>) -> Report {
     let mut report = Report { seed, ..Report::default() };
     for case in cases {
         let seed = seed.wrapping_add(case);
-        report.reads.take(case, compare::<Read>(seed));
-        report.prints.take(case, compare::<Print>(seed));
+        report.reads.take(case, compare(&Read::new(seed)).0);
+        report.prints.take(case, compare(&Print::new(seed)).0);
     }
     report
 }

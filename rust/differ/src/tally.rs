@@ -56,6 +56,11 @@ impl Tally {
         &self.first
     }
 
+    /// How many returned a value of that sort.
+    pub fn times(&self, sort: impl Fn(u32) -> bool) -> u64 {
+        self.numbers.iter().filter(|(number, _)| sort(**number)).map(|(_, calls)| calls).sum()
+    }
+
     /// Which of these values did not come up.
     pub fn missing(&self, values: impl Iterator<Item = u32>) -> Vec<u32> {
         values.filter(|value| !self.numbers.contains_key(value)).collect()
@@ -95,5 +100,6 @@ mod tests {
         assert_eq!(whole.first().iter().map(|(case, _)| *case).collect::<Vec<_>>(), [0, 2, 4, 6, 8]);
         assert_eq!(whole.to_string(), "0: 25, 1: 25, 2: 25, answer too short: 25");
         assert_eq!(whole.missing([0, 3, NO_ANSWER, 20].into_iter()), [3, 20]);
+        assert_eq!((whole.times(|number| number < 2), whole.times(|number| number == 3)), (50, 0));
     }
 }

@@ -150,18 +150,36 @@ mod tests {
         }
     }
 
+    /// Place 0 is line 1, column 1; document, title and text; a pool of one byte.
     #[test]
-    fn longer_answers_keep_their_later_words() {
-        let (mut nodes, mut places, mut pool) = ([MARK; 33], [MARK; 3], [0xA5; 1]);
-        let mut answer = [MARK; 9];
-        let returned = read(Spelling::Nested, TEXT, &mut nodes, &mut places, &mut pool, &mut answer);
-        assert_eq!(returned, number::OK);
-        assert_eq!(answer, [0, 0, 1, 1, 3, 1, MARK, MARK, MARK]);
+    fn answers_that_are_long_enough_keep_their_later_words() {
+        for (spelling, length) in
+            [Spelling::Nested, Spelling::Imperative].into_iter().flat_map(|s| [6, 7, 9].map(|n| (s, n)))
+        {
+            let (mut nodes, mut places, mut pool) = ([MARK; 33], [MARK; 3], [0xA5; 1]);
+            let mut answer = vec![MARK; length];
+            let returned = read(spelling, TEXT, &mut nodes, &mut places, &mut pool, &mut answer);
+            assert_eq!((returned, &answer[..6]), (number::OK, &[0, 0, 1, 1, 3, 1][..]));
+            assert_eq!((places, &pool, &nodes[22..24]), ([0, 10, 17], b"A", &[9, 1][..]));
+            assert_eq!(answer[6..], vec![MARK; length - 6]);
+        }
+    }
 
-        let mut out = [0xA5; 22];
-        let mut answer = [MARK; 4];
-        assert_eq!(print(&nodes, 3, &pool, 1, &mut out, &mut answer), number::OK);
-        assert_eq!(answer, [0, 22, MARK, MARK]);
-        assert_eq!(&out, b"[document [title \"A\"]]");
+    /// The words of the same table: kind, parent, end, three strings, size.
+    #[test]
+    fn print_answers_that_are_long_enough_keep_their_later_words() {
+        let none = u32::MAX;
+        let nodes = [
+            [1, none, 3, 0, 0, 0, 0, 0, 0, none, none],
+            [8, 0, 3, 0, 0, 0, 0, 0, 0, none, none],
+            [9, 1, 3, 0, 0, 0, 0, 0, 1, none, none],
+        ];
+        for length in [2, 3, 4] {
+            let mut out = [0xA5; 22];
+            let mut answer = vec![MARK; length];
+            assert_eq!(print(&nodes.concat(), 3, b"A", 1, &mut out, &mut answer), number::OK);
+            assert_eq!((&answer[..2], &out), (&[0, 22][..], b"[document [title \"A\"]]"));
+            assert_eq!(answer[2..], vec![MARK; length - 2]);
+        }
     }
 }

@@ -1,0 +1,110 @@
+//! Counts of nodes and pool bytes: around those of a table, beyond what is lent, and around the limits.
+
+use super::table_of;
+use crate::sweep::manual;
+use crate::sweep::must::Must;
+use crate::sweep::sweeper::Sweeper;
+use oracle::random::{Element, PrintCase};
+use oracle::{Kind, NONE, WORDS};
+
+pub fn sweep(sweeper: &mut Sweeper) {
+    around(sweeper);
+    wild(sweeper);
+    nodes(sweeper);
+    pools(sweeper);
+    ids(sweeper);
+}
+
+/// One more or less of either count, over memory that is one element short, exact, one element or a record longer.
+fn around(sweeper: &mut Sweeper) {
+    let must = Must::meet(3 * 3 * 5 * 3, 4 * 2, &[0, 20]);
+    sweeper.prints("counts around those of a table", must, |prints| {
+        let table = table_of(manual::NESTED);
+        let lengths = [-1, 0, 1, 10, 11].into_iter().flat_map(|words| [-1, 0, 1].map(|bytes| (words, bytes)));
+        for ((words, bytes), nodes) in lengths.flat_map(|lent| [-1, 0, 1].map(|nodes| (lent, nodes))) {
+            for pool in [-1, 0, 1] {
+                let fits = words >= 0 && bytes >= 0 && nodes == 0 && pool == 0;
+                let case = lent(&table, [words, bytes, nodes, pool]);
+                prints.expect(if fits { 0 } else { 20 }, &case);
+            }
+        }
+    });
+}
+
+/// So many more words and bytes lent, and so many more nodes and bytes counted.
+fn lent(table: &PrintCase, [words, bytes, nodes, pool]: [i32; 4]) -> PrintCase {
+    let mut case = table.clone();
+    case.nodes.resize(table.nodes.len().saturating_add_signed(words as isize), 9);
+    case.pool.resize(table.pool.len().saturating_add_signed(bytes as isize), b'a');
+    case.node_count = table.node_count.saturating_add_signed(nodes);
+    case.pool_count = table.pool_count.saturating_add_signed(pool);
+    case
+}
+
+/// Counts far off; eleven times the fourth to the sixth is about 4,294,967,296.
+const WILD: [u32; 14] =
+    [0, 1, 2, 0x1745_D174, 0x1745_D175, 0x1745_D176, 4_095, 4_096, 4_097, 65_535, 65_536, 65_537, 0x8000_0000, NONE];
+
+fn wild(sweeper: &mut Sweeper) {
+    let must = Must::meet(14 * 2, 0, &[20]);
+    sweeper.prints("counts far off", must, |prints| {
+        let mut table = table_of(manual::NESTED);
+        table.nodes.resize(4_100 * WORDS, 0);
+        table.pool.resize(65_600, b'a');
+        for count in WILD {
+            prints.expect(20, &PrintCase { node_count: count, ..table.clone() });
+            prints.expect(20, &PrintCase { pool_count: count, ..table.clone() });
+        }
+    });
+}
+
+/// A title of so many texts.
+fn title(texts: impl Iterator<Item = String>) -> Element {
+    let texts = texts.map(Element::of_text).collect();
+    Element::holding(Kind::Document, vec![Element::holding(Kind::Title, texts)])
+}
+
+/// Up to 4,096 nodes.
+fn nodes(sweeper: &mut Sweeper) {
+    let must = Must::meet(6, 2, &[0, 20]);
+    sweeper.prints("nodes of a table", must, |prints| {
+        for nodes in [4_095, 4_096, 4_097, 4_098, 8_192, 30_002] {
+            let document = title((2..nodes).map(|_| "a".into()));
+            prints.expect(if nodes > 4_096 { 20 } else { 0 }, &PrintCase::of(document.table()));
+        }
+    });
+}
+
+/// Up to 65,536 bytes: in one text, in one whose characters are all spelled by number, in many, in an id, and in a type.
+fn pools(sweeper: &mut Sweeper) {
+    let must = Must::meet(7 * 5, 2 * 5, &[0, 20]);
+    sweeper.prints("pool of a table", must, |prints| {
+        for length in [65_535, 65_536, 65_537, 65_538, 131_071, 131_072, 131_073] {
+            let one = |length| "a".repeat(length);
+            let long = title([one(length)].into_iter());
+            let escaped = title(["\u{1}".repeat(length)].into_iter());
+            let many = title((0..2_047).map(|_| one(32)).chain([one(length - 32 * 2_047)]));
+            let id = Element { name: one(length), ..title([].into_iter()) };
+            let class = Element { class: one(length), ..title([].into_iter()) };
+            for document in [long, escaped, many, id, class] {
+                prints.expect(if length > 65_536 { 20 } else { 0 }, &PrintCase::of(document.table()));
+            }
+        }
+    });
+}
+
+/// As many blocks with ids as there can be: 4,096 nodes but document, section and their titles. They are told apart, and
+/// so are those of which the last has the id of the first, or of one in the middle.
+fn ids(sweeper: &mut Sweeper) {
+    let must = Must::meet(3, 1, &[0, 20]);
+    sweeper.prints("ids of a table", must, |prints| {
+        for (last, number) in [(4_091, 0), (0, 20), (2_000, 20)] {
+            let names = (0..4_091).chain([last]).map(|id| format!("i{id}"));
+            let paragraphs = names.map(|name| Element { name, ..Element::new(Kind::Paragraph) });
+            let titled =
+                |kind, rest: Vec<Element>| Element::holding(kind, [vec![Element::new(Kind::Title)], rest].concat());
+            let document = titled(Kind::Document, vec![titled(Kind::Section, paragraphs.collect())]);
+            prints.expect(number, &PrintCase::of(document.table()));
+        }
+    });
+}

@@ -1,0 +1,68 @@
+//! The reads of a group.
+
+use super::group::Group;
+use super::must::goes_well;
+use super::printing;
+use super::sweeper::{slowly, stated, Sweeper};
+use crate::call::Lengths;
+use crate::compare::compare;
+use crate::read::{Read, WORDS};
+use oracle::random::ReadCase;
+
+/// Takes the texts of a group.
+pub struct Reads<'s> {
+    sweeper: &'s mut Sweeper,
+    group: Group,
+}
+
+impl<'s> Reads<'s> {
+    pub fn new(sweeper: &'s mut Sweeper, group: Group) -> Reads<'s> {
+        Reads { sweeper, group }
+    }
+
+    pub fn end(self) -> Group {
+        self.group
+    }
+
+    /// Reads a text.
+    pub fn text(&mut self, imperative: bool, text: &[u8]) {
+        self.with_room(None, imperative, text);
+    }
+
+    /// Reads a text that has to be answered by that number.
+    pub fn expect(&mut self, number: u32, imperative: bool, text: &[u8]) {
+        self.with_room(Some(number), imperative, text);
+    }
+
+    /// Reads with what the case lends, and with so many words for the answer; that number has to be returned.
+    pub fn lent(&mut self, number: u32, case: &ReadCase, answer: usize) {
+        if let Some(turn) = self.sweeper.turn() {
+            self.make(turn, Some(number), &Read::of(case, Lengths::of_answer(turn, answer)));
+        }
+    }
+
+    fn with_room(&mut self, number: Option<u32>, imperative: bool, text: &[u8]) {
+        if let Some(turn) = self.sweeper.turn() {
+            let case = with_room(turn, imperative, text);
+            self.make(turn, number, &Read::of(&case, Lengths::by_turns(turn, WORDS)));
+        }
+    }
+
+    /// Makes the read, and prints what it fills.
+    fn make(&mut self, turn: u64, number: Option<u32>, read: &Read) {
+        let (compared, left) = compare(read);
+        if goes_well(compared.number) {
+            self.group.prints.take(turn, printing::filled(turn, compared.number, &left));
+        }
+        self.group.reads.take(turn, stated(number, compared, read));
+    }
+}
+
+/// A case whose room is what the text needs, or a little more that holds no further node; some also where it needs none.
+fn with_room(turn: u64, imperative: bool, text: &[u8]) -> ReadCase {
+    let needed = oracle::read(text, imperative, &mut [], &mut [], &mut []);
+    let (nodes, pool) = (needed.nodes.max(3) as usize, needed.pool.max(9) as usize);
+    let more = slowly(turn);
+    let words = nodes * oracle::WORDS + more % oracle::WORDS;
+    ReadCase { text: text.to_vec(), imperative, words, places: nodes + more % 2, pool: pool + more % 3 }
+}
