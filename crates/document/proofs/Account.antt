@@ -16,13 +16,13 @@ use Rattle.document.specs.Document.{Node, says, Document}
 use Rattle.document.specs.Spelling.{Spelling, mostBytes, Spells, WithinLimits, nodePlaces}
 use Rattle.document.specs.Meaning.{treeOf}
 use Rattle.document.specs.Table.{count, pool}
-use Rattle.document.specs.Check.{Check, sound, unsound, check}
+use Rattle.document.specs.Check.{Check, sound, unsound, check, Decides}
 use Rattle.document.specs.Answer.{Memory, Outcome, Reading, refused, read, reading, nodeRoom, checked, stored, afterReading, outcome}
 use Rattle.document.specs.Account as Account
 use Rattle.document.specs.Account.{Answers, too-long, ill-formed, no-node-room, no-pool-room, has-fault, accepted}
 use Rattle.document.proofs.NestedForms.{spelled-form, spelled-means}
 use Rattle.document.proofs.Reading.{Found, found, refused-read, spelled-read}
-use Rattle.document.proofs.FirstFaults.{Decides, check-decides, well-formed-check, fault-check}
+use Rattle.document.proofs.FirstFaults.{check-decides, well-formed-check, fault-check}
 
 -- What a text spells is a document.
 document-of : {s : Spelling} {d : Node} {text : List ℕ} → Spells s d text → Document d

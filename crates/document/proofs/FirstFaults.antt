@@ -4,17 +4,12 @@ use mathlib.Core.Path.{_≡_}
 use mathlib.Core.List.{[]}
 use Rattle.document.specs.Document.{Node, Document}
 use Rattle.document.specs.WellFormed.{BadRow, RepeatedId, UnknownLink, UnknownFootnote, None, FirstFault, bad-row, repeated-id, unknown-link, unknown-footnote, WellFormed}
-use Rattle.document.specs.Check.{First, nowhere, at-node, any-number, badRow, entries, repeatedId, unknownLink, unknownFootnote, Check, sound, unsound, checkedBy, check}
+use Rattle.document.specs.Check.{First, nowhere, at-node, any-number, badRow, entries, repeatedId, unknownLink, unknownFootnote, Check, sound, unsound, checkedBy, check, Decides}
 use Rattle.document.specs.Prose.{RowsMatchHead, IdsDiffer, LinksFound, RefsFound, Prose}
 use Rattle.document.proofs.Searches.{Finds, finds-none, finds-first}
 use Rattle.document.proofs.TableRows.{rows-match-head}
 use Rattle.document.proofs.BadRow.{bad-row-found, rows-match-none}
 use Rattle.document.proofs.Prose.{repeated-found, link-found, footnote-found, ids-differ-none, links-found-none, refs-found-none}
-
--- What an answer of the check says of a document.
-abbrev pub Decides : Node → Check → Type 0
-Decides d sound = WellFormed d
-Decides d (unsound n i) = FirstFault d n i
 
 -- The four searches decide in the order of the numbers.
 searches-decide : (d : Node) (f g h k : First) → Finds (BadRow d) f → Finds (RepeatedId d) g → Finds (UnknownLink d) h → Finds (UnknownFootnote d) k

@@ -16,7 +16,7 @@ use Rattle.document.specs.Spelling.{WritesAll, writes-none, writes-and, 
 use Rattle.document.specs.Spelling.{Flat, flat-block, flat-other, FlatAll, flat-none, flat-and, placesOf, placesOfAll, flatPlaces, flatPlacesAll}
 use Rattle.document.specs.Lead.{leadClass, listClass, exprClass}
 use Rattle.document.specs.Meaning.{valueTree, treeOf, treesOf, places, allPlaces}
-use Rattle.document.specs.Imperative.{parameters, join, flatten, flattenContent}
+use Rattle.document.specs.Imperative.{NestedOf, parameters, join, flatten, flattenContent}
 use Rattle.document.proofs.Values.{OfText, of-text}
 use Rattle.document.proofs.Nested.{tree-class, judge-complete}
 use Rattle.document.proofs.BlockRules.{block-range}
@@ -160,13 +160,6 @@ content-trees (holds t ts) =
 written-all : (k : ℕ) (b : Bool) {ts : Trees} {es : Exprs} → WritesAll ts es → Kept k ts → AllTrees b ts → All b es
 written-all k b writes-none h a = tt
 written-all k b (writes-and {t} {e = e} w ws) (h, hs) (p, a) = (rw (written-class k t e w h) p, written-all k b ws hs a)
-
--- A nested expression that writes the tree, flattens to the run, and has its nodes at the same places.
-pub record NestedOf {t : Tree} {es rest : Exprs} (f : Flat t es rest) : Type 0 where
-  pub expression : Expr
-  pub writes : Writes t expression
-  pub run : es ≡ join (flatten expression) rest
-  pub same-places : placesOf t expression writes ≡ flatPlaces f
 
 -- The same of a run for several trees.
 record AllNestedOf {ts : Trees} {es rest : Exprs} (f : FlatAll ts es rest) : Type 0 where

@@ -15,13 +15,13 @@ use Rattle.elements.proofs.Same.{same-equal}
 use Rattle.document.specs.Document.{Tree, Node, says, Document}
 use Rattle.document.specs.RulesTest.{isDocument}
 use Rattle.document.specs.Table.{recordLength, tableOf, pool, count}
-use Rattle.document.specs.Check.{Check, sound, unsound, check}
+use Rattle.document.specs.Check.{Check, sound, unsound, check, Decides}
 use Rattle.document.specs.WellFormed.{WellFormed}
 use Rattle.document.specs.Canonical.{layout, treeLevels, canonical}
 use Rattle.document.specs.Printing.{IsDraft, IsTableOf, hasDraft, treeOfTable, Checked, checkedAs, checking, written, printing}
 use Rattle.document.proofs.RulesTest.{test-lawful}
 use Rattle.document.proofs.Records.{table-length}
-use Rattle.document.proofs.FirstFaults.{Decides, check-decides, well-formed-check}
+use Rattle.document.proofs.FirstFaults.{check-decides, well-formed-check}
 use Rattle.document.proofs.Prose.{same-refl}
 use Rattle.document.proofs.LaidOut.{laid-out}
 use Rattle.document.proofs.Levels.{document-levels}

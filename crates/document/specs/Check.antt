@@ -10,6 +10,7 @@ use Rattle.document.specs.Value.{nonEmpty}
 use Rattle.document.specs.Document.{Node, node, Nodes, childless, child}
 use Rattle.document.specs.Table.{count}
 use Rattle.document.specs.Visits.{childCount}
+use Rattle.document.specs.WellFormed.{FirstFault, WellFormed}
 
 pub data First : Type 0 where
   nowhere : First
@@ -113,3 +114,8 @@ check d =
     (checkedBy 16 (repeatedId [] (entries 0 d))
     (checkedBy 17 (unknownLink (entries 0 d))
     (checkedBy 18 (unknownFootnote (entries 0 d)) sound)))
+
+-- What an answer of the check says of a document.
+abbrev pub Decides : Node → Check → Type 0
+Decides d sound = WellFormed d
+Decides d (unsound n i) = FirstFault d n i

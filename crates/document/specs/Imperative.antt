@@ -2,12 +2,14 @@
 -- `proofs/Flat.antt`, and the other what `Takes` tells in `proofs/Takes.antt`. Document 01, "Imperative": each command takes what follows it, up to the next command that ends it;
 -- what may not stand where it stands is put as an expression that is allowed nowhere, so that the nested meaning refuses it at its own place.
 use Prim.Native.Nat.{ℕ}
+use mathlib.Core.Path.{_≡_}
 use mathlib.Core.Bool.{Bool, not, cond, _&&_, _||_}
 use mathlib.Core.List.{List, [], _∷_, map}
 use lib.Dec.{eqb, leb}
 use Rattle.elements.specs.Class as Class
 use Rattle.syntax.specs.Expression.{Expr, symbol, quoted, list, Exprs, none, and, place}
-use Rattle.document.specs.Spelling.{Spelling, nested, imperative, isBlockParameter}
+use Rattle.document.specs.Document.{Tree}
+use Rattle.document.specs.Spelling.{Spelling, nested, imperative, isBlockParameter, Writes, Flat, placesOf, flatPlaces}
 use Rattle.document.specs.Lead.{leadClass, exprClass}
 
 unfoldable pub parameters : Exprs → Exprs
@@ -37,6 +39,13 @@ unfoldable mutual
 unfoldable pub spelledAs : Spelling → Expr → Exprs
 spelledAs nested e = and e none
 spelledAs imperative e = flatten e
+
+-- A nested expression that writes the tree, flattens to the run, and has its nodes at the same places.
+pub record NestedOf {t : Tree} {es rest : Exprs} (f : Flat t es rest) : Type 0 where
+  pub expression : Expr
+  pub writes : Writes t expression
+  pub run : es ≡ join (flatten expression) rest
+  pub same-places : placesOf t expression writes ≡ flatPlaces f
 
 -- The empty list is allowed nowhere.
 unfoldable pub notAllowed : Expr → Expr
