@@ -4,16 +4,21 @@ use mathlib.Core.Path.{_≡_, refl}
 use mathlib.Core.Bool.{Bool, cond}
 use mathlib.Core.List.{List, [], _∷_, _++_, map}
 use lib.Dec.{T, eqb}
-use lib.ListN.{getD}
+use lib.ListN.{getD, take, replicate}
 use Rattle.laws.proofs.Tables.{every, below}
 use Rattle.elements.specs.Bytes.{same}
-use Rattle.elements.specs.Class.{names, classIn, classOf, isKind, isElement, isBlock, significance}
+use Rattle.elements.specs.Class.{names, classIn, classOf, isKind, isElement, kindOf, isBlock, significance}
 use Rattle.elements.specs.PlainNames.{inOrder, classes, misspelled, beginnings, endings, beginning, ending, marked, markedBy}
 
 -- Each name has its number.
 pub names-in-order : map classOf inOrder ≡ classes
 unfolding inOrder classes same names classIn classOf
 names-in-order = refl
+
+-- The kinds that they lead: those of parameters, include and import lead none.
+pub kinds-in-order : map kindOf inOrder ≡ take 25 classes ++ replicate 6 0
+unfolding inOrder classes same names classIn classOf isKind kindOf
+kinds-in-order = refl
 
 abbrev no-name : List ℕ → Bool
 no-name w = eqb (classOf w) 0
