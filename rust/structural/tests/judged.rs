@@ -1,10 +1,17 @@
-//! Judged texts with their whole answers: those that the program `judged` runs, those that the definitions
-//! are proved to answer, and the limits.
+//! Judged texts with their whole answers: those of `judged.txt`, those that the definitions are proved to answer, and
+//! the limits.
+//!
+//! | here | in the program `judged` | cases |
+//! |---|---|---|
+//! | [`stored_cases`] over `judged.txt` | `cases::all` over its standard input, `judge::small` | 55 |
+//!
+//! The 12 other cases of the program are in `judged_built.rs`.
 
 mod common;
 
+use common::written::{answer, judge, list, rows};
 use common::{string, Room};
-use structural::lent::{Answer, NONE};
+use structural::lent::Answer;
 use structural::{number, read, Spelling};
 
 fn spelling(name: &str) -> Spelling {
@@ -15,45 +22,18 @@ fn spelling(name: &str) -> Spelling {
     }
 }
 
-fn answer(words: &[u32]) -> Answer {
-    Answer { number: words[0], place: words[1], line: words[2], column: words[3], nodes: words[4], pool: words[5] }
-}
-
-/// The words of a list that ends with a full stop, `-` for 4,294,967,295.
-fn list(line: &str) -> Vec<u32> {
-    let words = line.strip_suffix('.').unwrap_or(line).split_whitespace();
-    words.map(|word| if word == "-" { NONE } else { word.parse().unwrap() }).collect()
-}
-
-/// The words of rows that end with a semicolon; one cut short has no further strings and no size.
-fn rows(line: &str) -> Vec<u32> {
-    line.split_terminator(';').flat_map(row).collect()
-}
-
-fn row(row: &str) -> [u32; 11] {
-    let mut words = [0, 0, 0, 0, 0, 0, 0, 0, 0, NONE, NONE];
-    let written = list(row);
-    words[..written.len()].copy_from_slice(&written);
-    words
-}
-
 /// Of seven lines: spelling and name; text; answer and room; node words; places; pool; nothing.
 fn stored_case(lines: &[&str]) {
-    let spelling = spelling(lines[0].split(' ').next().unwrap());
-    let wanted = list(lines[2]);
-    let mut room = Room::new(wanted[6] as usize, wanted[7] as usize, wanted[8] as usize);
-    let answered = room.read(lines[1].as_bytes(), spelling);
-    assert_eq!(answered, answer(&wanted), "{}", lines[0]);
-    let filled = room.filled(answered);
-    assert_eq!(filled, (&rows(lines[3])[..], &list(lines[4])[..], lines[5].as_bytes()), "{}", lines[0]);
+    let [name, text, wanted, nodes, places, pool, ""] = lines else { panic!("{lines:?}") };
+    let spelling = spelling(name.split(' ').next().unwrap());
+    judge(name, text.as_bytes(), spelling, wanted, (&rows(nodes), &list(places), pool.as_bytes()));
 }
 
 #[test]
 fn stored_cases() {
-    let stored = string("crates/judged/stdin");
-    let lines: Vec<&str> = stored.split('\n').collect();
-    let cases = lines.chunks_exact(7);
-    assert!(cases.len() > 50);
+    let lines: Vec<&str> = include_str!("judged.txt").split_terminator('\n').collect();
+    let cases = lines.chunks(7);
+    assert_eq!(cases.len(), 55);
     cases.for_each(stored_case);
 }
 

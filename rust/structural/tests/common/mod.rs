@@ -1,6 +1,8 @@
 //! What several tests use: the repository's files, and memory with guards around it.
 #![allow(dead_code)]
 
+pub mod written;
+
 use std::fs;
 use std::path::{Path, PathBuf};
 use structural::lent::{self, Answer, Printed, NODE_WORDS};
