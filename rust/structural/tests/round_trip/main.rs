@@ -1,0 +1,23 @@
+//! Tables that were read are printed; answers and memory are those of document 01. The expected values were worked out
+//! by hand.
+//!
+//! | module | in the program `round_trip` | cases |
+//! |---|---|---|
+//! | [`ways`], over the documents of [`forms`], [`escapes`] and [`many`] | `documents` and `past` of `main`, `ways` | 24, 24, 96 and 72 |
+//! | [`damage`] | `damage::words`, `damage::bytes`, `damage::counts` | 532, 19 and 14 |
+//! | [`edited`] | `damage::kept` | 23 |
+//! | [`faults`] | `faults` | 10 |
+//! | [`limits`] | `limits` | 10 |
+//!
+//! Those are 824 cases. Each test counts what it runs.
+
+mod cases; // a text and its canonical spelling
+mod damage; // one document with one word, byte or count changed
+mod edited; // documents that are other documents with one word changed
+mod escapes; // every escape
+mod faults; // documents that are not well-formed
+mod forms; // every form
+mod limits; // the limits of what is printed
+mod many; // documents that are built
+mod memory; // marked memory
+mod ways; // what is tried with each document
