@@ -3,7 +3,7 @@
 //! | here | in the program `judged` | cases |
 //! |---|---|---|
 //! | [`longest`], [`too_long`] | `longest::longest`, `longest::too_long` | 2 and 2 |
-//! | [`deepest`], [`too_deep`] | `deep::deepest`, `deep::too_deep`, each from `deep::nested` and `deep::imperative` | 2 and 2 |
+//! | [`deepest`], [`too_deep`] | `deep::deepest`, `deep::too_deep`, from `deep::nested`, `deep::imperative` | 2 and 2 |
 //! | [`most`], [`too_many`] | `wide::most`, `wide::too_many` | 2 and 2 |
 //!
 //! What the program does in `build`, `compare`, `judge`, `numbers` and `shape` is done by [`common::written`] and by
@@ -11,19 +11,12 @@
 
 mod common;
 
+use common::padded;
 use common::written::{judge, list, rows};
 use structural::lent::NONE;
 use structural::Spelling;
 
 const SPELLINGS: [Spelling; 2] = [Spelling::Nested, Spelling::Imperative];
-
-/// The text, and spaces up to a length.
-fn padded(text: &str, length: usize) -> Vec<u8> {
-    let mut padded = text.as_bytes().to_vec();
-    assert!(padded.len() <= length);
-    padded.resize(length, b' ');
-    padded
-}
 
 /// A document, a line end and spaces.
 const SHORT: &str = "[document [title \"A\"]]\n";

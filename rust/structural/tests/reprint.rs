@@ -3,7 +3,7 @@
 //!
 //! | here | in the program `reprint` | cases |
 //! |---|---|---|
-//! | [`manuals`], [`every_manual_comes_back`] | `all` over its standard input, which is the same files; `report`, `manual` | 8 |
+//! | [`manuals`], [`every_manual_comes_back`] | `all`, `report`, `manual`, over the same files | 8 |
 //! | [`Memory::read`] | `nested`, `imperative` | |
 //! | [`Memory::printed`] | `prints`, and the first print in `back` | |
 //! | [`comes_back`] | `back`, `reads_back`, `same_words`, `same_answer` | |

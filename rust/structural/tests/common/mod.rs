@@ -31,6 +31,14 @@ pub fn spellings(example: &str) -> [(Vec<u8>, Spelling); 2] {
     ]
 }
 
+/// The text, and spaces up to a length.
+pub fn padded(text: &str, length: usize) -> Vec<u8> {
+    let mut padded = text.as_bytes().to_vec();
+    assert!(padded.len() <= length);
+    padded.resize(length, b' ');
+    padded
+}
+
 const GUARD: usize = 64;
 
 /// Memory to lend, full of marks, with as many marks on either side that nothing may touch.

@@ -12,10 +12,10 @@
 use crate::memory::{Room, Table};
 use structural::{number, Spelling};
 
-/// The document, with 13 nodes: document, title, text, section, title, paragraph, link, text, image, text, list-ordered,
-/// item, text. Its pool, of 14 bytes: d, t; Top; p; p; x; u, w; y; end.
+/// The document, with 13 nodes: document, title, text, section, title, paragraph, link, text, image, text,
+/// list-ordered, item, text. Its pool, of 14 bytes: d, t; Top; p; p; x; u, w; y; end.
 const TEXT: &[u8] = b"[document [title Top] [id d] [type t] [section [title] [paragraph [id p] [link [target p] x] \
-          [image [target u] [size 7 8] [type w] y] [list-ordered [item end]]]]]";
+                      [image [target u] [size 7 8] [type w] y] [list-ordered [item end]]]]]";
 
 /// Its table, with marks behind it.
 fn document() -> Table {
@@ -147,14 +147,14 @@ const COUNTS: [(usize, u32, usize, u32); 14] = [
     (154, 12, 20, 14),
     (154, 14, 20, 14),
     (154, 0, 20, 14),
-    (154, 4294967295, 20, 14),
-    (154, 390451573, 20, 14),
+    (154, u32::MAX, 20, 14),
+    (154, 390_451_573, 20, 14),
     (142, 13, 20, 14),
     (143, 14, 20, 14),
     (154, 13, 20, 13),
     (154, 13, 20, 15),
     (154, 13, 20, 0),
-    (154, 13, 20, 4294967295),
+    (154, 13, 20, u32::MAX),
     (154, 13, 13, 14),
     (154, 13, 14, 15),
     (0, 0, 0, 0),

@@ -10,10 +10,11 @@
 //! [`edited`] is its `edited`, and all of them its `kept`.
 
 use crate::memory::{Room, Table};
+use structural::lent::NONE;
 use structural::{number, Spelling};
 
-/// A text, the word of its table that is changed, the word's new value, and the spelling that is then wanted, none where
-/// the table has to be refused.
+/// A text, the word of its table that is changed, the word's new value, and the spelling that is then wanted, none
+/// where the table has to be refused.
 type Edit = (&'static [u8], usize, u32, &'static [u8]);
 
 fn edited(edits: &[Edit]) {
@@ -31,12 +32,22 @@ const SIZED: &[u8] = b"[document [title] [section [title] [paragraph [image [tar
 /// The image is node 5: its width is word 64, its height word 65.
 const SIZES: [Edit; 7] = [
     (SIZED, 64, 0, b"[document [title] [section [title] [paragraph [image [target \"u\"] [size 0 8] \"x\"]]]]"),
-    (SIZED, 64, 65535, b"[document [title] [section [title] [paragraph [image [target \"u\"] [size 65535 8] \"x\"]]]]"),
-    (SIZED, 65, 10000, b"[document [title] [section [title] [paragraph [image [target \"u\"] [size 7 10000] \"x\"]]]]"),
-    (SIZED, 64, 65536, b""),
-    (SIZED, 65, 65536, b""),
-    (SIZED, 64, 4294967295, b""),
-    (SIZED, 65, 4294967295, b""),
+    (
+        SIZED,
+        64,
+        65_535,
+        b"[document [title] [section [title] [paragraph [image [target \"u\"] [size 65535 8] \"x\"]]]]",
+    ),
+    (
+        SIZED,
+        65,
+        10_000,
+        b"[document [title] [section [title] [paragraph [image [target \"u\"] [size 7 10000] \"x\"]]]]",
+    ),
+    (SIZED, 64, 65_536, b""),
+    (SIZED, 65, 65_536, b""),
+    (SIZED, 64, NONE, b""),
+    (SIZED, 65, NONE, b""),
 ];
 
 /// A block as another: node 2 or node 4, so word 22 or word 44.

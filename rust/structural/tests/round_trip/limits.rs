@@ -9,7 +9,8 @@
 //!
 //! [`Added::to`] is its `grown`, with `raises` and `raise` in [`raise`], `row`, `set` and `store` in [`Added::row`].
 
-use crate::many::{padded, titled};
+use crate::common::padded;
+use crate::many::titled;
 use crate::memory::{Room, Table};
 use structural::lent::{NODE_WORDS, NONE};
 use structural::{number, Spelling};

@@ -3,15 +3,17 @@
 //!
 //! | module | in the program `round_trip` | cases |
 //! |---|---|---|
-//! | [`ways`], over the documents of [`forms`], [`escapes`] and [`many`] | `documents` and `past` of `main`, `ways` | 24, 24, 96 and 72 |
+//! | [`ways`], with [`cases`], [`forms`], [`escapes`], [`many`] | `documents`, `past`, `ways` | 24, 24, 96 and 72 |
 //! | [`damage`] | `damage::words`, `damage::bytes`, `damage::counts` | 532, 19 and 14 |
 //! | [`edited`] | `damage::kept` | 23 |
 //! | [`faults`] | `faults` | 10 |
 //! | [`limits`] | `limits` | 10 |
 //!
-//! Those are 824 cases. Each test counts what it runs.
+//! Those are 824 cases, as many as the program's output says.
 
 mod cases; // a text and its canonical spelling
+#[path = "../common/mod.rs"]
+mod common;
 mod damage; // one document with one word, byte or count changed
 mod edited; // documents that are other documents with one word changed
 mod escapes; // every escape

@@ -3,19 +3,13 @@
 //!
 //! | here | in the program's `many` | documents |
 //! |---|---|---|
-//! | [`long`], with [`nested`], [`imperative`], [`canonical`], [`linked`], [`paragraphs`] | `long`, with `whole`, `paragraphs`, `paragraph`, `opened`, `linked`, `canonical` | 2 |
+//! | [`long`], [`paragraphs`] | `long`, `whole`, `paragraphs` | 2 |
+//! | [`nested`], [`imperative`], [`canonical`], [`linked`] | `paragraph`, `opened`, `linked`, `canonical` | |
 //! | [`most`], with [`titled`] | `most`, with `titled`, `letters`, `letter` | 1 |
 
 use crate::cases::Case;
+use crate::common::padded;
 use structural::Spelling;
-
-/// The text, and spaces up to a length.
-pub fn padded(text: &str, length: usize) -> Vec<u8> {
-    let mut padded = text.as_bytes().to_vec();
-    assert!(padded.len() <= length);
-    padded.resize(length, b' ');
-    padded
-}
 
 /// A paragraph's link and the image in it, and a list, as a person writes them.
 fn linked(n: usize, to: usize) -> String {

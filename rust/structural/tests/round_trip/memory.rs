@@ -11,9 +11,9 @@ use structural::lent;
 use structural::{number, Spelling};
 
 /// The marks: what each memory is full of beforehand.
-pub const WORD: u32 = 2_779_096_485;
-pub const PLACE: u32 = 1_515_870_810;
-pub const BYTE: u8 = 231;
+const WORD: u32 = 2_779_096_485;
+const PLACE: u32 = 1_515_870_810;
+const BYTE: u8 = 231;
 
 /// How much of the output's memory lies before the part that is lent.
 const BEFORE: usize = 8;
