@@ -1,4 +1,4 @@
--- Reading answers as `specs/Account.antt` tells, and in no other way. Assumes nothing.
+-- Reading answers as `specs/rules/Account.antt` tells, and in no other way.
 use Prim.Native.Nat.{ℕ, _≤_}
 use mathlib.Core.Path.{_≡_, refl, _∙_}
 use mathlib.Core.Bool.{false}
@@ -7,19 +7,21 @@ use native.Mathlib.Omega.{arith}
 use borrow.Author.Tests.{lt-ltb, le-ltb, ltb-false, ltb-true}
 use lib.Dec.{ltb}
 use lib.ListN.{length}
-use Rattle.laws.proofs.Booleans.{cond-case}
-use Rattle.utf8.specs.Scalar.{IsUtf8}
-use Rattle.utf8.specs.Sequence.{validUpTo}
+use Rattle.base.proofs.Booleans.{cond-case}
+use Rattle.utf8.specs.rules.Scalar.{IsUtf8}
+use Rattle.utf8.specs.reference.Sequence.{validUpTo}
 use Rattle.utf8.proofs.Walk.{valid-within}
 use Rattle.utf8.proofs.Agree.{valid-utf8, utf8-valid, fault-place, place-fault}
-use Rattle.document.specs.Document.{Node, says, Document}
-use Rattle.document.specs.Spelling.{Spelling, mostBytes, Spells, WithinLimits, nodePlaces}
-use Rattle.document.specs.Meaning.{treeOf}
-use Rattle.document.specs.Table.{count, pool}
-use Rattle.document.specs.Check.{Check, sound, unsound, check, Decides}
-use Rattle.document.specs.Answer.{Memory, Outcome, Reading, refused, read, reading, nodeRoom, checked, stored, afterReading, outcome}
-use Rattle.document.specs.Account as Account
-use Rattle.document.specs.Account.{Answers, too-long, ill-formed, no-node-room, no-pool-room, has-fault, accepted}
+use Rattle.document.specs.rules.Document.{Node, says, Document}
+use Rattle.base.specs.rules.Limits.{mostBytes}
+use Rattle.document.specs.rules.Spelling.{Spelling, Spells, WithinLimits, nodePlaces}
+use Rattle.document.specs.reference.Meaning.{treeOf}
+use Rattle.document.specs.rules.Table.{count, pool}
+use Rattle.document.specs.reference.Check.{Check, sound, unsound, check, Decides}
+use Rattle.document.specs.reference.Outcome.{Reading, refused, read, reading, checked, stored, afterReading, outcome}
+use Rattle.document.specs.rules.Memory.{Memory, Outcome, nodeRoom}
+use Rattle.document.specs.rules.Account as Account
+use Rattle.document.specs.rules.Account.{Answers, too-long, ill-formed, no-node-room, no-pool-room, has-fault, accepted}
 use Rattle.document.proofs.NestedForms.{spelled-form, spelled-means}
 use Rattle.document.proofs.Reading.{Found, found, refused-read, spelled-read}
 use Rattle.document.proofs.FirstFaults.{check-decides, well-formed-check, fault-check}

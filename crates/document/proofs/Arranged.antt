@@ -1,5 +1,5 @@
 -- An element's values in the order of the canonical spelling: the trees inside an element that keeps the rules stand in that order already, but for a type before an id.
--- What is said of the rows of the rules is one test that antt computes over all kinds. Assumes nothing.
+-- What is said of the rows of the rules is one test that antt computes over all kinds.
 use Prim.Native.Nat.{ℕ, _≤_}
 use mathlib.Core.Path.{_≡_, refl, sym, _∙_, ap, subst}
 use mathlib.Core.Bool.{Bool, true, false, not, cond, _&&_, _||_}
@@ -8,18 +8,19 @@ use mathlib.Core.Logic.{_⊎_, inl, inr}
 use native.Mathlib.Omega.{arith}
 use lib.Dec.{T, eqb, leb, leb→le, eqb→eq}
 use borrow.Author.Tests.{eqb-true, ne-eqb}
-use Rattle.laws.proofs.Booleans.{cond-case, both, both-true, true-T, T-true, or-true, or-left}
-use Rattle.laws.proofs.Tables.{below, each-below}
-use Rattle.elements.specs.Class as Class
-use Rattle.elements.specs.Rules.{Slot, must, may, id-type, rules, ruleIn, ruleOf}
-use Rattle.elements.specs.Inside.{State, expecting, Step, go, step, start, ended, noneRequired, nextParameter}
-use Rattle.elements.specs.Characters.{typeCharacter, idCharacter}
-use Rattle.document.specs.Value.{nonEmpty, every, targetCharacter, isValue, isSize}
-use Rattle.document.specs.Document.{Tree, text, value, size, element, Trees, empty, holds, treeClass, missing}
-use Rattle.document.specs.RulesTest.{goesOn, keepsRules, keepRules}
-use Rattle.document.specs.Document.{keyOf, typeOf, widthOr, heightOr, keyIn, typeIn, widthIn, heightIn, isNode, says, sayAll}
-use Rattle.document.specs.Canonical.{valueBefore, sizeBefore, keyClass, nodeFirst, placeValues, treeLevels, mostLevelsIn}
-use Rattle.document.specs.Faults.{Next, Begun, due, children, Taken}
+use Rattle.base.proofs.Booleans.{cond-case, both, both-true, true-T, T-true, or-true, or-left}
+use Rattle.base.proofs.Tables.{below, each-below}
+use Rattle.elements.specs.rules.Class as Class
+use Rattle.elements.specs.rules.Rules.{Slot, must, may, id-type, rules, ruleIn, ruleOf}
+use Rattle.elements.specs.rules.Inside.{State, expecting, Step, go, step, start, ended, noneRequired, nextParameter}
+use Rattle.elements.specs.rules.Characters.{typeCharacter, idCharacter}
+use Rattle.document.specs.rules.Value.{nonEmpty, every, targetCharacter, isValue, isSize}
+use Rattle.base.specs.rules.Limits.{missing}
+use Rattle.document.specs.rules.Document.{Tree, text, value, size, element, Trees, empty, holds, treeClass}
+use Rattle.document.specs.reference.RulesTest.{goesOn, keepsRules, keepRules}
+use Rattle.document.specs.rules.Document.{keyOf, typeOf, widthOr, heightOr, keyIn, typeIn, widthIn, heightIn, isNode, says, sayAll}
+use Rattle.document.specs.rules.Canonical.{valueBefore, sizeBefore, keyClass, nodeFirst, placeValues, treeLevels, mostLevelsIn}
+use Rattle.document.specs.rules.Faults.{Next, Begun, due, children, Taken}
 use Rattle.document.proofs.Steps.{begunOf, stepped}
 use Rattle.document.proofs.Classes.{isChild, allowed-child, chosen-child}
 use Rattle.document.proofs.Nested.{goes-on}

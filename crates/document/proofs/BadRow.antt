@@ -1,4 +1,4 @@
--- The search for a bad row finds the first node that has fault 15, by the numbers of nodes. Assumes nothing.
+-- The search for a bad row finds the first node that has fault 15, by the numbers of nodes.
 use Prim.Native.Nat.{ℕ, _+_, _<_}
 use mathlib.Core.Path.{_≡_, _∙_, refl, sym, ap}
 use mathlib.Core.Bool.{Bool, true, _&&_}
@@ -8,14 +8,15 @@ use native.Mathlib.Omega.{arith}
 use lib.Dec.{eqb}
 use lib.ListN.{length}
 use borrow.Author.Tests.{eqb-true, eqb-false, eq-eqb, ne-eqb}
-use Rattle.laws.proofs.Booleans.{bool-case, both, true-T, T-true}
-use Rattle.elements.specs.Class as Class
-use Rattle.document.specs.Document.{Node, node, Nodes, childless, child, missing, Document}
-use Rattle.document.specs.Table.{count, pool}
-use Rattle.document.specs.Visits.{childCount, nodeKind, nodeChildren, Visit, visits, visitsAll, visitsOf}
-use Rattle.document.specs.WellFormed.{BadRow, None}
-use Rattle.document.specs.Check.{Cells, any-number, exactly, cellsIn, cellsBelow, differs, badRow, badRowAmong}
-use Rattle.document.specs.Prose.{OneOf, In, RowsMatchHead}
+use Rattle.base.proofs.Booleans.{bool-case, both, true-T, T-true}
+use Rattle.elements.specs.rules.Class as Class
+use Rattle.base.specs.rules.Limits.{missing}
+use Rattle.document.specs.rules.Document.{Node, node, Nodes, childless, child, Document}
+use Rattle.document.specs.rules.Table.{count, pool}
+use Rattle.document.specs.rules.Visits.{childCount, nodeKind, nodeChildren, Visit, visits, visitsAll, visitsOf}
+use Rattle.document.specs.rules.WellFormed.{BadRow, None}
+use Rattle.document.specs.reference.Check.{Cells, any-number, exactly, cellsIn, cellsBelow, differs, badRow, badRowAmong}
+use Rattle.document.specs.reference.Prose.{OneOf, In, RowsMatchHead}
 use Rattle.document.proofs.Counted.{Counted, counted, one-number}
 use Rattle.document.proofs.Searches.{Finds, firstOf, first-append, FirstAnswer, first-answer, test-finds}
 use Rattle.document.proofs.Records.{numbered}

@@ -1,14 +1,14 @@
--- Each tree in an element that keeps the rules keeps them, and in a block the parameters stand before the content. Assumes nothing.
+-- Each tree in an element that keeps the rules keeps them, and in a block the parameters stand before the content.
 use Prim.Native.Nat.{ℕ}
 use mathlib.Core.Path.{_≡_, refl}
 use mathlib.Core.List.{List}
 use lib.Dec.{T}
-use Rattle.laws.proofs.Booleans.{cond-case, both, T-true}
-use Rattle.elements.specs.Class as Class
-use Rattle.elements.specs.Inside.{State, expecting, holding, go, step, start}
-use Rattle.document.specs.Document.{Tree, element, Trees, empty, holds, treeClass}
-use Rattle.document.specs.RulesTest.{goesOn, keepsRules, keepRules}
-use Rattle.document.specs.Spelling.{isBlockParameter, parametersOf, contentOf}
+use Rattle.base.proofs.Booleans.{cond-case, both, T-true}
+use Rattle.elements.specs.rules.Class as Class
+use Rattle.elements.specs.rules.Inside.{State, expecting, holding, go, step, start}
+use Rattle.document.specs.rules.Document.{Tree, element, Trees, empty, holds, treeClass}
+use Rattle.document.specs.reference.RulesTest.{goesOn, keepsRules, keepRules}
+use Rattle.document.specs.rules.Spelling.{isBlockParameter, parametersOf, contentOf}
 use Rattle.document.proofs.Nested.{goes-on}
 use Rattle.document.proofs.BlockRules.{Within, LeadsTo, Follows, Takes, step-takes, start-within}
 

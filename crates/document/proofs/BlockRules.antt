@@ -1,5 +1,5 @@
 -- What a block takes: title, id and type, and then children that are no parameters, all of one alternative and so of one significance.
--- What is said of the rows of the rules is one test that antt computes over the seven blocks. Assumes nothing.
+-- What is said of the rows of the rules is one test that antt computes over the seven blocks.
 use Prim.Native.Nat.{ℕ, _≤_, _<_}
 use mathlib.Core.Path.{_≡_, refl}
 use mathlib.Core.Bool.{Bool, true, false, not, cond, _&&_}
@@ -7,16 +7,16 @@ use mathlib.Core.List.{List, [], _∷_, List·Memᴰ}
 use native.Mathlib.Omega.{arith}
 use lib.Dec.{T, eqb, leb, ltb, leb→le, ltb→lt, eqb→eq}
 use borrow.Author.Tests.{eqb-true}
-use Rattle.laws.proofs.Tables.{every, each, below, each-below}
-use Rattle.laws.proofs.Booleans.{cond-case, both, true-T, T-true, not-true}
-use Rattle.elements.specs.Bytes.{among}
-use Rattle.elements.specs.Class as Class
-use Rattle.elements.specs.Rules.{Slot, must, may, id-type, Content, alternatives, exactly-one, alternativesOf, rules, ruleIn, ruleOf}
-use Rattle.elements.specs.Inside.{State, expecting, holding, Step, go, bad, isInclude, someHas, firstChild, nextChild, nextParameter, step, start}
+use Rattle.base.proofs.Tables.{every, each, below, each-below}
+use Rattle.base.proofs.Booleans.{cond-case, both, true-T, T-true, not-true}
+use Rattle.elements.specs.rules.Bytes.{among}
+use Rattle.elements.specs.rules.Class as Class
+use Rattle.elements.specs.rules.Rules.{Slot, must, may, id-type, Content, alternatives, exactly-one, alternativesOf, rules, ruleIn, ruleOf}
+use Rattle.elements.specs.rules.Inside.{State, expecting, holding, Step, go, bad, isInclude, someHas, firstChild, nextChild, nextParameter, step, start}
 use Rattle.elements.proofs.Same.{each-among}
 use Rattle.elements.proofs.Alternatives.{chosen-case, one-has}
 use Rattle.elements.proofs.Significance.{one-significance}
-use Rattle.document.specs.Spelling.{isBlockParameter}
+use Rattle.document.specs.rules.Spelling.{isBlockParameter}
 
 -- Parameters that a block may have.
 unfoldable pub ofBlock : List Slot → Bool

@@ -1,18 +1,19 @@
--- Joining, flattening and judging of blocks: what both directions of regrouping use. Assumes nothing.
+-- Joining, flattening and judging of blocks: what both directions of regrouping use.
 use Prim.Native.Nat.{ℕ}
 use mathlib.Core.Path.{_≡_, refl, ap}
 use mathlib.Core.Bool.{true, false}
 use native.Mathlib.Omega.{arith}
 use lib.Dec.{T, eqb}
 use borrow.Author.Tests.{eqb-true, le-leb, ne-eqb}
-use Rattle.laws.proofs.Booleans.{cond-case}
-use Rattle.elements.specs.Class as Class
-use Rattle.elements.specs.Inside.{State, go, step, start}
-use Rattle.syntax.specs.Expression.{Expr, symbol, quoted, list, Exprs, none, and, place}
-use Rattle.document.specs.Spelling.{isBlockParameter}
-use Rattle.document.specs.Imperative.{parameters, join, flatten, flattenContent}
-use Rattle.document.specs.Lead.{leadClass, listClass, exprClass}
-use Rattle.document.specs.Meaning.{Verdict, fine, finish, judge, judgeList, run, judgeRoot}
+use Rattle.base.proofs.Booleans.{cond-case}
+use Rattle.elements.specs.rules.Class as Class
+use Rattle.elements.specs.rules.Inside.{State, go, step, start}
+use Rattle.syntax.specs.rules.Expression.{Expr, symbol, quoted, list, Exprs, none, and, place}
+use Rattle.document.specs.rules.Spelling.{isBlockParameter}
+use Rattle.document.specs.reference.Imperative.{parameters, flatten, flattenContent}
+use Rattle.document.specs.rules.Command.{join}
+use Rattle.document.specs.rules.Lead.{leadClass, listClass, exprClass}
+use Rattle.document.specs.reference.Meaning.{Verdict, fine, finish, judge, judgeList, run, judgeRoot}
 use Rattle.document.proofs.Nested.{not-fine, passed}
 use Rattle.document.proofs.BlockRules.{block-range}
 

@@ -1,5 +1,4 @@
 -- The quoted strings of the canonical spelling: each byte as a piece of a string, which stands for that byte. Document 01, "Canonical spelling".
--- Assumes nothing.
 use Prim.Native.Nat.{ℕ, _/_, _%_, _≤_, _<_}
 use mathlib.Core.Path.{_≡_, refl, ap, _∙_}
 use mathlib.Core.Bool.{Bool, cond, _&&_, _||_}
@@ -7,16 +6,16 @@ use mathlib.Core.List.{List, [], _∷_, _++_, append-assoc, append-nil}
 use native.Mathlib.Omega.{arith}
 use lib.Dec.{T, eqb, ltb, ltb→lt}
 use borrow.Author.Tests.{ltb-true, ltb-false, le-ltb, ne-eqb}
-use Rattle.laws.proofs.Booleans.{cond-under, bool-case, both, both-true}
-use Rattle.laws.proofs.Tables.{below, each-below}
-use Rattle.elements.specs.Bytes.{same}
+use Rattle.base.proofs.Booleans.{cond-under, bool-case, both, both-true}
+use Rattle.base.proofs.Tables.{below, each-below}
+use Rattle.elements.specs.rules.Bytes.{same}
 use Rattle.elements.proofs.Same.{same-equal}
-use Rattle.utf8.specs.Scalar.{isScalar, encode, IsUtf8}
+use Rattle.utf8.specs.rules.Scalar.{isScalar, encode, IsUtf8}
 use Rattle.utf8.proofs.Agree.{byte-utf8, utf8-append, utf8-split, utf8-tail}
-use Rattle.syntax.specs.Byte.{isRaw}
-use Rattle.syntax.specs.Syntax.{Piece, raw, letter, number, pieceBefore, piecesBefore, isHex, hexDigit, hexValue, isPiece, arePieces, letterValue, pieceValue, piecesValue}
-use Rattle.document.specs.Value.{every}
-use Rattle.document.specs.Canonical.{hexByte, unicodeBefore, byteBefore, bytesBefore}
+use Rattle.syntax.specs.rules.Byte.{isRaw}
+use Rattle.syntax.specs.rules.Syntax.{Piece, raw, letter, number, pieceBefore, piecesBefore, isHex, hexDigit, hexValue, isPiece, arePieces, letterValue, pieceValue, piecesValue}
+use Rattle.document.specs.rules.Value.{every}
+use Rattle.document.specs.rules.Canonical.{hexByte, unicodeBefore, byteBefore, bytesBefore}
 
 -- ---- ASCII
 

@@ -1,5 +1,4 @@
 -- The symbols of the canonical spelling: names, ids, types and numbers are ordinary ASCII bytes. Document 01, "Canonical spelling".
--- Assumes nothing.
 use Prim.Native.Nat.{ℕ, _+_, _-_, _*_, _/_, _≤_, _<_}
 use mathlib.Core.Path.{_≡_, refl}
 use mathlib.Core.Bool.{Bool, not, _&&_, _||_}
@@ -8,18 +7,18 @@ use native.Mathlib.Omega.{arith}
 use lib.Dec.{T, eqb, leb, ltb, leb→le, le→leb, lt→ltb, eqb→eq, not-T}
 use lib.ListN.{length}
 use borrow.Author.Tests.{ltb-true, ltb-false}
-use Rattle.laws.proofs.Booleans.{cond-case, bool-case, both, both-true, or-left, or-right, T-true, false-not-T}
-use Rattle.laws.proofs.Tables.{below, each-below}
-use Rattle.utf8.specs.Scalar.{IsUtf8}
+use Rattle.base.proofs.Booleans.{cond-case, bool-case, both, both-true, or-left, or-right, T-true, false-not-T}
+use Rattle.base.proofs.Tables.{below, each-below}
+use Rattle.utf8.specs.rules.Scalar.{IsUtf8}
 use Rattle.utf8.proofs.Agree.{nil-utf8}
-use Rattle.elements.specs.Class as Class
-use Rattle.elements.specs.Characters.{isDigit, isLetter, typeCharacter, idCharacter, characterOf}
-use Rattle.syntax.specs.Byte.{byteClass, ordinaryClass, isOrdinary}
-use Rattle.syntax.specs.Syntax.{areOrdinary}
+use Rattle.elements.specs.rules.Class as Class
+use Rattle.elements.specs.rules.Characters.{isDigit, isLetter, typeCharacter, idCharacter, characterOf}
+use Rattle.syntax.specs.rules.Byte.{byteClass, ordinaryClass, isOrdinary}
+use Rattle.syntax.specs.rules.Syntax.{areOrdinary}
 use Rattle.elements.proofs.Characters.{none-high}
-use Rattle.document.specs.Value.{nonEmpty, every, isDecimal, decimalAfter, namesBlock, targetCharacter}
-use Rattle.document.specs.Spelling.{WritesNumber}
-use Rattle.document.specs.Canonical.{digit, digits}
+use Rattle.document.specs.rules.Value.{nonEmpty, every, isDecimal, decimalAfter, namesBlock, targetCharacter}
+use Rattle.document.specs.rules.Spelling.{WritesNumber}
+use Rattle.document.specs.rules.Canonical.{digit, digits}
 use Rattle.document.proofs.Classes.{leads}
 use Rattle.document.proofs.CanonicalStrings.{isAscii, ascii-before}
 

@@ -1,13 +1,13 @@
--- The node that the check answers is one of the document's. Assumes nothing.
+-- The node that the check answers is one of the document's.
 use Prim.Native.Nat.{ℕ, _<_}
 use mathlib.Core.Path.{_≡_, ap, subst}
 use mathlib.Core.List.{[], List·Memᴰ}
 use native.Mathlib.Omega.{arith}
 use lib.Dec.{eqb}
-use Rattle.elements.specs.Class as Class
-use Rattle.document.specs.Document.{Node}
-use Rattle.document.specs.Table.{count}
-use Rattle.document.specs.Check.{First, nowhere, at-node, any-number, badRow, Entry, entries, repeatedId, unknownLink, unknownFootnote, Check, sound, unsound, checkedBy, check}
+use Rattle.elements.specs.rules.Class as Class
+use Rattle.document.specs.rules.Document.{Node}
+use Rattle.document.specs.rules.Table.{count}
+use Rattle.document.specs.reference.Check.{First, nowhere, at-node, any-number, badRow, Entry, entries, repeatedId, unknownLink, unknownFootnote, Check, sound, unsound, checkedBy, check}
 use Rattle.document.proofs.Searches.{FirstIn, FirstAnswer}
 use Rattle.document.proofs.Records.{entryOf, visit-below}
 use Rattle.document.proofs.BadRow.{numberOf, boundsOf, isBad, bad-row-answer, bound-visited}

@@ -1,20 +1,20 @@
 -- Which classes the table of rules and the names of the language have: a parameter is led by a name, a child is an element or a text, and no name is a text's.
--- Each is one test that antt computes over the whole table. Assumes nothing.
+-- Each is one test that antt computes over the whole table.
 use Prim.Native.Nat.{ℕ}
 use mathlib.Core.Bool.{Bool, true, not, _&&_, _||_}
 use mathlib.Core.List.{List, [], _∷_}
 use lib.Dec.{T, eqb}
-use Rattle.laws.proofs.Booleans.{cond-case, both}
-use Rattle.laws.proofs.Tables.{every, each}
-use Rattle.elements.specs.Bytes.{same}
-use Rattle.elements.specs.Class as Class
-use Rattle.elements.specs.Class.{Named, names, classIn, classOf}
-use Rattle.elements.specs.Rules.{Slot, must, may, id-type, Content, alternatives, exactly-one, Rule, rules, ruleOf}
+use Rattle.base.proofs.Booleans.{cond-case, both}
+use Rattle.base.proofs.Tables.{every, each}
+use Rattle.elements.specs.rules.Bytes.{same}
+use Rattle.elements.specs.rules.Class as Class
+use Rattle.elements.specs.rules.Class.{Named, names, classIn, classOf}
+use Rattle.elements.specs.rules.Rules.{Slot, must, may, id-type, Content, alternatives, exactly-one, Rule, rules, ruleOf}
 use Rattle.elements.proofs.Same.{each-among}
 use Rattle.elements.proofs.EachRow.{each-kind}
-use Rattle.syntax.specs.Expression.{Expr, symbol, quoted, list}
-use Rattle.document.specs.Lead.{leadClass}
-use Rattle.document.specs.Faults.{Next, Begun, due, children, Allowed, Chooses, Taken}
+use Rattle.syntax.specs.rules.Expression.{Expr, symbol, quoted, list}
+use Rattle.document.specs.rules.Lead.{leadClass}
+use Rattle.document.specs.rules.Faults.{Next, Begun, due, children, Allowed, Chooses, Taken}
 
 -- The class may be that of a list led by a name.
 abbrev pub leads : ℕ → Bool

@@ -1,30 +1,32 @@
 -- Opens every definition that the answer of a read or of printing goes through, module by module: a statement that is computed says `unfolding computes`.
 use lib.Count.{leadingZeros}
-use Rattle.utf8.specs.Scalar
-use Rattle.utf8.specs.Sequence
-use Rattle.utf8.specs.Position
-use Rattle.elements.specs.Bytes
-use Rattle.elements.specs.Class
-use Rattle.elements.specs.Rules
-use Rattle.elements.specs.Characters
-use Rattle.elements.specs.Inside
-use Rattle.syntax.specs.Byte
-use Rattle.syntax.specs.Syntax
-use Rattle.syntax.specs.Expression
-use Rattle.syntax.specs.Scan
-use Rattle.document.specs.Value
-use Rattle.document.specs.Document
-use Rattle.document.specs.RulesTest
-use Rattle.document.specs.Spelling
-use Rattle.document.specs.Lead
-use Rattle.document.specs.Meaning
-use Rattle.document.specs.Imperative
-use Rattle.document.specs.Table
-use Rattle.document.specs.Visits
-use Rattle.document.specs.Check
-use Rattle.document.specs.Answer
-use Rattle.document.specs.Canonical
-use Rattle.document.specs.Printing
+use Rattle.utf8.specs.rules.Scalar
+use Rattle.utf8.specs.reference.Sequence
+use Rattle.utf8.specs.rules.Position
+use Rattle.elements.specs.rules.Bytes
+use Rattle.elements.specs.rules.Class
+use Rattle.elements.specs.rules.Rules
+use Rattle.elements.specs.rules.Characters
+use Rattle.elements.specs.rules.Inside
+use Rattle.syntax.specs.rules.Byte
+use Rattle.syntax.specs.rules.Syntax
+use Rattle.syntax.specs.rules.Expression
+use Rattle.syntax.specs.reference.Scan
+use Rattle.document.specs.rules.Value
+use Rattle.document.specs.rules.Document
+use Rattle.document.specs.reference.RulesTest
+use Rattle.document.specs.rules.Spelling
+use Rattle.document.specs.rules.Lead
+use Rattle.document.specs.reference.Meaning
+use Rattle.document.specs.rules.Command
+use Rattle.document.specs.reference.Imperative
+use Rattle.document.specs.rules.Table
+use Rattle.document.specs.rules.Visits
+use Rattle.document.specs.reference.Check
+use Rattle.document.specs.rules.Memory
+use Rattle.document.specs.reference.Outcome
+use Rattle.document.specs.rules.Canonical
+use Rattle.document.specs.reference.Printing
 
 unfoldable scalar : Unit {0}
 unfolding Scalar.isScalar Scalar.encode Scalar.encodeAll Scalar.allScalar
@@ -99,9 +101,13 @@ unfolding Meaning.textBytes Meaning.symbolBytes Meaning.onlyOne Meaning.numberOf
     Meaning.finish Meaning.judgeValue Meaning.judgeRoot Meaning.treeOf Meaning.judge Meaning.places
 meaning = tt
 
+unfoldable command : Unit {0}
+unfolding Command.isCommand Command.notAllowed Command.loose Command.inCommand Command.join Command.block
+command = tt
+
 unfoldable imperative : Unit {0}
-unfolding Imperative.parameters Imperative.join Imperative.spelledAs Imperative.flatten Imperative.notAllowed Imperative.inCommand Imperative.loose Imperative.isCommand Imperative.block Imperative.stillOpen Imperative.childOf
-    Imperative.opened Imperative.atInnermost Imperative.contentsOf Imperative.innermost Imperative.regroup
+unfolding Imperative.parameters Imperative.spelledAs Imperative.flatten Imperative.stillOpen Imperative.childOf Imperative.opened
+    Imperative.atInnermost Imperative.contentsOf Imperative.innermost Imperative.regroup
 imperative = tt
 
 unfoldable table : Unit {0}
@@ -114,10 +120,14 @@ unfolding Check.orElse Visits.childCount Check.headCells Check.cellsIn Check.dif
     Check.checkedBy Check.check Check.badRow Check.entries
 wellformed = tt
 
-unfoldable answer : Unit {0}
-unfolding Answer.answerAt Answer.refusal Answer.noRoom Answer.over Answer.filled Answer.tooDeep Answer.judged Answer.oneExpression Answer.afterScan
-    Answer.reading Answer.nodeRoom Answer.checked Answer.stored Answer.afterReading Answer.outcome
-answer = tt
+unfoldable memory : Unit {0}
+unfolding Memory.answerAt Memory.refusal Memory.noRoom Memory.over Memory.filled Memory.nodeRoom
+memory = tt
+
+unfoldable outcome : Unit {0}
+unfolding Outcome.tooDeep Outcome.judged Outcome.oneExpression Outcome.afterScan Outcome.reading Outcome.checked Outcome.stored
+    Outcome.afterReading Outcome.outcome
+outcome = tt
 
 unfoldable canonical : Unit {0}
 unfolding Canonical.valueBefore Canonical.sizeBefore Canonical.keyClass Canonical.nodeFirst Canonical.placeValues Canonical.hexByte
@@ -131,5 +141,5 @@ unfolding Printing.part Printing.below Printing.notBelow Printing.addRecord Prin
 printing = tt
 
 unfoldable pub computes : Unit {0}
-unfolding leadingZeros scalar sequence position bytes class rules inside byte syntax expression scan value document rulestest spelling meaning imperative table wellformed answer canonical printing
+unfolding leadingZeros scalar sequence position bytes class rules inside byte syntax expression scan value document rulestest spelling meaning command imperative table wellformed memory outcome canonical printing
 computes = tt

@@ -1,10 +1,10 @@
--- Lists that are numbered one by one: a number names one element, and the smaller number stands before. Assumes nothing.
+-- Lists that are numbered one by one: a number names one element, and the smaller number stands before.
 use Prim.Native.Nat.{ℕ, zero, suc, _≤_, _<_}
 use mathlib.Core.Path.{_≡_, _∙_, refl, ap}
 use mathlib.Core.Logic.{_⊎_, inl, inr}
 use mathlib.Core.List.{List, [], _∷_, _++_, map, List·Memᴰ, List·Memᴰ·head, List·Memᴰ·tail, List·Memᴰ·not-nil, List·Memᴰ·cases-cons, Memᴰ·append-right}
 use native.Mathlib.Omega.{arith}
-use Rattle.document.specs.Visits.{upFrom}
+use Rattle.document.specs.rules.Visits.{upFrom}
 
 module _ {A : Type 0} (number : A → ℕ) where
   -- From i on.

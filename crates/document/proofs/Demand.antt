@@ -1,18 +1,19 @@
 -- Demand 3: reading answers 0 exactly when the text is within the limits and spells a well-formed document that fits the room; node words, pool and counts
--- are then that document's; and no text spells two documents. Assumes nothing.
+-- are then that document's; and no text spells two documents.
 use Prim.Native.Nat.{ℕ, _≤_}
 use mathlib.Core.Path.{_≡_, refl, sym}
 use mathlib.Core.List.{List}
 use native.Mathlib.Omega.{arith}
 use lib.ListN.{length}
-use Rattle.document.specs.Document.{Node}
-use Rattle.document.specs.Spelling.{Spelling, nested, imperative, Spells}
-use Rattle.document.specs.Table.{count, pool}
-use Rattle.document.specs.Answer.{answerAt, Memory, Outcome, refusal, noRoom, filled, nodeRoom, outcome}
-use Rattle.document.specs.Account as Account
-use Rattle.document.specs.Account.{Answers, too-long, ill-formed}
-use Rattle.document.specs.Account.{no-node-room, no-pool-room, has-fault, accepted}
-use Rattle.document.specs.Demand.{Fits, Readable, Read}
+use Rattle.document.specs.rules.Document.{Node}
+use Rattle.document.specs.rules.Spelling.{Spelling, nested, imperative, Spells}
+use Rattle.document.specs.rules.Table.{count, pool}
+use Rattle.document.specs.reference.Outcome.{outcome}
+use Rattle.document.specs.rules.Memory.{answerAt, Memory, Outcome, refusal, noRoom, filled, nodeRoom}
+use Rattle.document.specs.rules.Account as Account
+use Rattle.document.specs.rules.Account.{Answers, too-long, ill-formed}
+use Rattle.document.specs.rules.Account.{no-node-room, no-pool-room, has-fault, accepted}
+use Rattle.document.specs.rules.Demand.{Fits, Readable, Read}
 use Rattle.document.proofs.NestedForms.{spelled-once, spelled-once-in-both}
 use Rattle.document.proofs.Account.{answers, answers-only}
 use Rattle.document.proofs.Numbers.{refused-number, fault-number}

@@ -1,17 +1,18 @@
--- The nested form of an imperative text whose brackets nest at most 59 deep nests at most 64 deep, if the nested meaning accepts it. Assumes nothing.
+-- The nested form of an imperative text whose brackets nest at most 59 deep nests at most 64 deep, if the nested meaning accepts it.
 use Prim.Native.Nat.{ℕ, suc, _+_, _≤_, max}
 use mathlib.Core.Path.{_≡_, refl}
 use mathlib.Core.Bool.{false}
 use native.Mathlib.Omega.{arith}
 use lib.Dec.{T}
-use Rattle.laws.proofs.Booleans.{bool-case, true-T, T-true}
-use Rattle.elements.specs.Class as Class
-use Rattle.elements.specs.Inside.{State, expecting, holding, start}
-use Rattle.syntax.specs.Expression.{Expr, symbol, quoted, list, Exprs, none, and, depth, depthAll}
-use Rattle.document.specs.Spelling.{isBlockParameter}
-use Rattle.document.specs.Imperative.{parameters, join, flatten, flattenContent, regroup}
-use Rattle.document.specs.Lead.{leadClass, listClass, exprClass}
-use Rattle.document.specs.Meaning.{fine, judge, judgeList, judgeRoot}
+use Rattle.base.proofs.Booleans.{bool-case, true-T, T-true}
+use Rattle.elements.specs.rules.Class as Class
+use Rattle.elements.specs.rules.Inside.{State, expecting, holding, start}
+use Rattle.syntax.specs.rules.Expression.{Expr, symbol, quoted, list, Exprs, none, and, depth, depthAll}
+use Rattle.document.specs.rules.Spelling.{isBlockParameter}
+use Rattle.document.specs.reference.Imperative.{parameters, flatten, flattenContent, regroup}
+use Rattle.document.specs.rules.Command.{join}
+use Rattle.document.specs.rules.Lead.{leadClass, listClass, exprClass}
+use Rattle.document.specs.reference.Meaning.{fine, judge, judgeList, judgeRoot}
 use Rattle.document.proofs.BlockRules.{Child, Within, LeadsTo, Takes, step-takes, start-within}
 use Rattle.document.proofs.Blocks.{Read, read-on, inside-block, root-document, flatten-leaf}
 use Rattle.document.proofs.Regroup.{flatten-regroup}

@@ -1,11 +1,12 @@
--- The table and the pool determine the document: two nodes, lawful or not, with one table and one pool are equal. Assumes nothing.
+-- The table and the pool determine the document: two nodes, lawful or not, with one table and one pool are equal.
 use Prim.Native.Nat.{ℕ, suc, _+_, _<_}
 use mathlib.Core.Path.{_≡_, _∙_, refl, ap}
 use mathlib.Core.List.{List, [], _∷_, _++_, append-assoc}
 use native.Mathlib.Omega.{arith}
 use lib.ListN.{length}
-use Rattle.document.specs.Document.{Node, node, Nodes, childless, child, missing}
-use Rattle.document.specs.Table.{count, countAll, pool, poolAll, rows, rowsAll, tableOf}
+use Rattle.base.specs.rules.Limits.{missing}
+use Rattle.document.specs.rules.Document.{Node, node, Nodes, childless, child}
+use Rattle.document.specs.rules.Table.{count, countAll, pool, poolAll, rows, rowsAll, tableOf}
 
 -- Two strings of one length that begin one list are equal, and so is what follows them.
 cut : (s t x y : List ℕ) → length s ≡ length t → s ++ x ≡ t ++ y → (s ≡ t) × (x ≡ y)

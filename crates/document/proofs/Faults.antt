@@ -1,4 +1,4 @@
--- The rules for faults name the fault that the judge answers, and no other. Document 01, "Numbers answered". Assumes nothing.
+-- The rules for faults name the fault that the judge answers, and no other. Document 01, "Numbers answered".
 use Prim.Native.Nat.{ℕ}
 use mathlib.Core.Path.{_≡_, refl, sym, _∙_}
 use mathlib.Core.Bool.{false, not}
@@ -6,17 +6,17 @@ use mathlib.Core.Logic.{⊎-elim}
 use lib.Dec.{T, eqb, T-not}
 use native.Mathlib.Omega.{arith}
 use borrow.Author.Tests.{eqb-true, eqb-false, eq-eqb, ne-eqb}
-use Rattle.laws.proofs.Booleans.{both, cond-case, true-T, T-true, or-true, not-T-false, false-not-T}
-use Rattle.elements.specs.Class as Class
-use Rattle.elements.specs.Rules.{ruleOf}
-use Rattle.elements.specs.Inside.{State, Step, go, bad, step, start, ended}
-use Rattle.syntax.specs.Expression.{Expr, symbol, quoted, list, Exprs, none, and, place}
-use Rattle.syntax.specs.Atoms.{AtomsOf}
-use Rattle.document.specs.RulesTest.{keepsRules}
-use Rattle.document.specs.Lead.{leadClass, listClass, exprClass}
-use Rattle.document.specs.Meaning.{Verdict, fine, fault, Progress, reached, faultAt, advance, finish, judgeValue, valueTree}
-use Rattle.document.specs.Meaning.{judge, judgeList, run, judgeRoot, treeOf}
-use Rattle.document.specs.Faults.{Begun, due, Taken, Fine, FaultIn, FaultOf, fault-of, RootFault, no-document, in-document}
+use Rattle.base.proofs.Booleans.{both, cond-case, true-T, T-true, or-true, not-T-false, false-not-T}
+use Rattle.elements.specs.rules.Class as Class
+use Rattle.elements.specs.rules.Rules.{ruleOf}
+use Rattle.elements.specs.rules.Inside.{State, Step, go, bad, step, start, ended}
+use Rattle.syntax.specs.rules.Expression.{Expr, symbol, quoted, list, Exprs, none, and, place}
+use Rattle.syntax.specs.rules.Atoms.{AtomsOf}
+use Rattle.document.specs.reference.RulesTest.{keepsRules}
+use Rattle.document.specs.rules.Lead.{leadClass, listClass, exprClass}
+use Rattle.document.specs.reference.Meaning.{Verdict, fine, fault, Progress, reached, faultAt, advance, finish, judgeValue, valueTree}
+use Rattle.document.specs.reference.Meaning.{judge, judgeList, run, judgeRoot, treeOf}
+use Rattle.document.specs.rules.Faults.{Begun, due, Taken, Fine, FaultIn, FaultOf, fault-of, RootFault, no-document, in-document}
 use Rattle.document.proofs.Leads.{by-lead}
 use Rattle.document.proofs.RulesTest.{kept-test, test-kept}
 use Rattle.document.proofs.Values.{value-written}

@@ -1,11 +1,11 @@
--- The check of a document finds the fault 15 to 18 that `specs/WellFormed.antt` tells of, and nothing where it is well-formed; both ways. Assumes nothing.
+-- The check of a document finds the fault 15 to 18 that `specs/rules/WellFormed.antt` tells of, and nothing where it is well-formed; both ways.
 use Prim.Native.Nat.{ℕ}
 use mathlib.Core.Path.{_≡_}
 use mathlib.Core.List.{[]}
-use Rattle.document.specs.Document.{Node, Document}
-use Rattle.document.specs.WellFormed.{BadRow, RepeatedId, UnknownLink, UnknownFootnote, None, FirstFault, bad-row, repeated-id, unknown-link, unknown-footnote, WellFormed}
-use Rattle.document.specs.Check.{First, nowhere, at-node, any-number, badRow, entries, repeatedId, unknownLink, unknownFootnote, Check, sound, unsound, checkedBy, check, Decides}
-use Rattle.document.specs.Prose.{RowsMatchHead, IdsDiffer, LinksFound, RefsFound, Prose}
+use Rattle.document.specs.rules.Document.{Node, Document}
+use Rattle.document.specs.rules.WellFormed.{BadRow, RepeatedId, UnknownLink, UnknownFootnote, None, FirstFault, bad-row, repeated-id, unknown-link, unknown-footnote, WellFormed}
+use Rattle.document.specs.reference.Check.{First, nowhere, at-node, any-number, badRow, entries, repeatedId, unknownLink, unknownFootnote, Check, sound, unsound, checkedBy, check, Decides}
+use Rattle.document.specs.reference.Prose.{RowsMatchHead, IdsDiffer, LinksFound, RefsFound, Prose}
 use Rattle.document.proofs.Searches.{Finds, finds-none, finds-first}
 use Rattle.document.proofs.TableRows.{rows-match-head}
 use Rattle.document.proofs.BadRow.{bad-row-found, rows-match-none}
@@ -83,7 +83,7 @@ module _ (d : Node) (doc : Document d) where
     },
   )
 
-  -- And just where the statements of `specs/Prose.antt` hold.
+  -- And just where the statements of `specs/reference/Prose.antt` hold.
   pub well-formed-prose : (WellFormed d → Prose d) × (Prose d → WellFormed d)
   well-formed-prose = (
     λ w.

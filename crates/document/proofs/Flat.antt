@@ -1,22 +1,23 @@
--- What `Flat` tells of an imperative run is what `flatten` makes of a nested expression that writes the same tree, with the same places. Assumes nothing.
+-- What `Flat` tells of an imperative run is what `flatten` makes of a nested expression that writes the same tree, with the same places.
 use Prim.Native.Nat.{ℕ}
 use mathlib.Core.Path.{_≡_, refl, sym, ap, _∙_}
 use mathlib.Core.Bool.{Bool, true, false, cond}
 use mathlib.Core.List.{List, [], _∷_, _++_, append-assoc}
 use native.Mathlib.Omega.{arith}
 use lib.Dec.{T}
-use Rattle.laws.proofs.Booleans.{bool-case, cond-case, both, true-T, T-true, not-T-false}
-use Rattle.elements.specs.Class as Class
-use Rattle.elements.specs.Inside.{start}
-use Rattle.syntax.specs.Expression.{Expr, symbol, quoted, list, Exprs, none, and, place}
-use Rattle.document.specs.Document.{Tree, text, value, size, element, Trees, empty, holds, treeClass, isNode}
-use Rattle.document.specs.RulesTest.{keepsRules, keepRules}
-use Rattle.document.specs.Spelling.{as-symbol, as-string, Writes, writes-text, writes-value, writes-type, writes-size, writes-element}
-use Rattle.document.specs.Spelling.{WritesAll, writes-none, writes-and, bracketed, isBlockParameter, parametersOf, contentOf, Bracketed, brackets-around}
-use Rattle.document.specs.Spelling.{Flat, flat-block, flat-other, FlatAll, flat-none, flat-and, placesOf, placesOfAll, flatPlaces, flatPlacesAll}
-use Rattle.document.specs.Lead.{leadClass, listClass, exprClass}
-use Rattle.document.specs.Meaning.{valueTree, treeOf, treesOf, places, allPlaces}
-use Rattle.document.specs.Imperative.{NestedOf, parameters, join, flatten, flattenContent}
+use Rattle.base.proofs.Booleans.{bool-case, cond-case, both, true-T, T-true, not-T-false}
+use Rattle.elements.specs.rules.Class as Class
+use Rattle.elements.specs.rules.Inside.{start}
+use Rattle.syntax.specs.rules.Expression.{Expr, symbol, quoted, list, Exprs, none, and, place}
+use Rattle.document.specs.rules.Document.{Tree, text, value, size, element, Trees, empty, holds, treeClass, isNode}
+use Rattle.document.specs.reference.RulesTest.{keepsRules, keepRules}
+use Rattle.document.specs.rules.Spelling.{as-symbol, as-string, Writes, writes-text, writes-value, writes-type, writes-size, writes-element}
+use Rattle.document.specs.rules.Spelling.{WritesAll, writes-none, writes-and, bracketed, isBlockParameter, parametersOf, contentOf, Bracketed, brackets-around}
+use Rattle.document.specs.rules.Spelling.{Flat, flat-block, flat-other, FlatAll, flat-none, flat-and, placesOf, placesOfAll, flatPlaces, flatPlacesAll}
+use Rattle.document.specs.rules.Lead.{leadClass, listClass, exprClass}
+use Rattle.document.specs.reference.Meaning.{valueTree, treeOf, treesOf, places, allPlaces}
+use Rattle.document.specs.reference.Imperative.{NestedOf, parameters, flatten, flattenContent}
+use Rattle.document.specs.rules.Command.{join}
 use Rattle.document.proofs.Values.{OfText, of-text}
 use Rattle.document.proofs.Nested.{tree-class, judge-complete}
 use Rattle.document.proofs.BlockRules.{block-range}

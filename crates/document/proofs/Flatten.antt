@@ -1,4 +1,4 @@
--- Regrouping what flattening made gives back the expression that was flattened, if the nested meaning accepts it. Assumes nothing.
+-- Regrouping what flattening made gives back the expression that was flattened, if the nested meaning accepts it.
 use Prim.Native.Nat.{ℕ, _≤_, _<_}
 use mathlib.Core.Path.{_≡_, refl, ap, _∙_}
 use mathlib.Core.Bool.{true, false, cond}
@@ -6,15 +6,17 @@ use mathlib.Core.List.{List, [], _∷_}
 use native.Mathlib.Omega.{arith}
 use lib.Dec.{T, eqb}
 use borrow.Author.Tests.{le-leb, lt-leb}
-use Rattle.laws.proofs.Booleans.{bool-case, true-T, T-true}
-use Rattle.elements.specs.Bytes.{among}
-use Rattle.elements.specs.Class as Class
-use Rattle.elements.specs.Inside.{State, expecting, holding, go, start}
-use Rattle.syntax.specs.Expression.{Expr, symbol, quoted, list, Exprs, none, and}
-use Rattle.document.specs.Spelling.{isBlockParameter}
-use Rattle.document.specs.Imperative.{parameters, join, flatten, flattenContent, inCommand, loose, isCommand, block, stillOpen, childOf, opened, atInnermost, contentsOf, innermost, regroup}
-use Rattle.document.specs.Lead.{leadClass, listClass, exprClass}
-use Rattle.document.specs.Meaning.{fine, judge, judgeList, judgeRoot}
+use Rattle.base.proofs.Booleans.{bool-case, true-T, T-true}
+use Rattle.elements.specs.rules.Bytes.{among}
+use Rattle.elements.specs.rules.Class as Class
+use Rattle.elements.specs.rules.Inside.{State, expecting, holding, go, start}
+use Rattle.syntax.specs.rules.Expression.{Expr, symbol, quoted, list, Exprs, none, and}
+use Rattle.document.specs.rules.Spelling.{isBlockParameter}
+use Rattle.document.specs.reference.Imperative.{parameters, flatten, flattenContent, stillOpen, childOf, opened, atInnermost, contentsOf, innermost, regroup}
+use Rattle.document.specs.rules.Command.{join, inCommand}
+use Rattle.document.specs.rules.Command.{loose, isCommand, block}
+use Rattle.document.specs.rules.Lead.{leadClass, listClass, exprClass}
+use Rattle.document.specs.reference.Meaning.{fine, judge, judgeList, judgeRoot}
 use Rattle.document.proofs.Nested.{not-fine}
 use Rattle.document.proofs.BlockRules.{Child, Level, Within, LeadsTo, Follows, Takes, step-takes, start-within}
 use Rattle.document.proofs.Blocks.{join-none, join-join, Read, read-on, inside-block, root-document, flatten-child, flatten-leaf}

@@ -1,12 +1,12 @@
--- Each example of `specs/Examples.antt`, `specs/Outcomes.antt` and `specs/PrintingExamples.antt` has what is beside it, by computation: the whole outcome,
+-- Each example of `specs/examples/Judged.antt`, `specs/examples/Outcomes.antt` and `specs/examples/Printing.antt` has what is beside it, by computation: the whole outcome,
 -- or the answer alone (number, place, line, column and both counts).
 use mathlib.Core.Path.{_≡_, refl}
 use mathlib.Core.List.{List, map}
-use Rattle.document.specs.Spelling.{nested}
-use Rattle.document.specs.Expected.{bytes, numbers, lentMemory, row, bare, keyed, typed, texts, joined, leaves, Whole, left}
-use Rattle.document.specs.Examples.{titled-A, untitled, same-id-twice, link-to-nowhere, listed, Example, examples, settlements, open-points, faults, answered, room, Lent, memoryOf, readInto, short-of-room, Tidied, printable, paper, printedFrom, readIn, spelledOut}
-use Rattle.document.specs.Outcomes.{outcomes, id-behind-type, escaped-by-number, images-and-a-link, table-and-list, two-spellings, row-too-short, id-again, link-on-line-3, reference-to-a-section}
-use Rattle.document.specs.PrintingExamples.{Print, printedAs, blank, escaped, prints}
+use Rattle.document.specs.rules.Spelling.{nested}
+use Rattle.document.specs.examples.Expected.{bytes, numbers, lentMemory, row, bare, keyed, typed, texts, joined, leaves, Whole, left}
+use Rattle.document.specs.examples.Judged.{titled-A, untitled, same-id-twice, link-to-nowhere, listed, Example, examples, settlements, open-points, faults, answered, room, Lent, memoryOf, readInto, short-of-room, Tidied, printable, paper, printedFrom, readIn, spelledOut}
+use Rattle.document.specs.examples.Outcomes.{outcomes, id-behind-type, escaped-by-number, images-and-a-link, table-and-list, two-spellings, row-too-short, id-again, link-on-line-3, reference-to-a-section}
+use Rattle.document.specs.examples.Printing.{Print, printedAs, blank, escaped, prints}
 use Rattle.document.proofs.Compute.{computes}
 
 -- Opens how an outcome is written down.

@@ -1,17 +1,17 @@
--- The canonical layout of a document keeps the rules and says the document. Document 01, "Canonical spelling". Assumes nothing.
+-- The canonical layout of a document keeps the rules and says the document. Document 01, "Canonical spelling".
 use Prim.Native.Nat.{ℕ}
 use mathlib.Core.Path.{_≡_, refl}
 use mathlib.Core.Bool.{Bool, true, false, not, cond}
 use native.Mathlib.Omega.{arith}
 use lib.Dec.{T, eqb, eqb→eq}
-use Rattle.laws.proofs.Booleans.{cond-case, both, both-true, T-true, not-true}
-use Rattle.elements.specs.Class as Class
-use Rattle.elements.specs.Rules.{ruleOf}
-use Rattle.elements.specs.Inside.{State, step, start}
-use Rattle.document.specs.Document.{Tree, text, value, size, element, Trees, empty, holds, treeClass}
-use Rattle.document.specs.RulesTest.{keepsRules, keepRules, isDocument}
-use Rattle.document.specs.Document.{Node, node, child, keyOf, typeOf, widthOr, heightOr, isNode, says, sayAll, Document}
-use Rattle.document.specs.Canonical.{layout, layoutAll, treeLevels}
+use Rattle.base.proofs.Booleans.{cond-case, both, both-true, T-true, not-true}
+use Rattle.elements.specs.rules.Class as Class
+use Rattle.elements.specs.rules.Rules.{ruleOf}
+use Rattle.elements.specs.rules.Inside.{State, step, start}
+use Rattle.document.specs.rules.Document.{Tree, text, value, size, element, Trees, empty, holds, treeClass}
+use Rattle.document.specs.reference.RulesTest.{keepsRules, keepRules, isDocument}
+use Rattle.document.specs.rules.Document.{Node, node, child, keyOf, typeOf, widthOr, heightOr, isNode, says, sayAll, Document}
+use Rattle.document.specs.rules.Canonical.{layout, layoutAll, treeLevels}
 use Rattle.document.proofs.RulesTest.{lawful-test}
 use Rattle.document.proofs.Nested.{goes-on}
 use Rattle.document.proofs.Arranged.{nodesIn, valuesOf, arrangedBy, Alike, alike-itself, AllAlike, all-alike-itself, all-alike-on, first-kept, holds-alike, low-node, arranged}

@@ -1,11 +1,11 @@
--- A list whose lead has a class is led by that class's own name. Assumes nothing.
+-- A list whose lead has a class is led by that class's own name.
 use Prim.Native.Nat.{ℕ}
 use mathlib.Core.Path.{_≡_, sym}
 use Rattle.elements.proofs.Names.{named}
-use Rattle.syntax.specs.Expression.{Expr, symbol, quoted, list, Exprs, and}
-use Rattle.document.specs.Document.{Tree}
-use Rattle.document.specs.Spelling.{Writes, bracketed}
-use Rattle.document.specs.Lead.{leadClass}
+use Rattle.syntax.specs.rules.Expression.{Expr, symbol, quoted, list, Exprs, and}
+use Rattle.document.specs.rules.Document.{Tree}
+use Rattle.document.specs.rules.Spelling.{Writes, bracketed}
+use Rattle.document.specs.rules.Lead.{leadClass}
 
 -- What is written by brackets around the name of the lead's class is written by the list itself.
 pub by-lead : (t : Tree) (at c : ℕ) (e : Expr) (es : Exprs) → leadClass e ≡ c → (c ≡ 0 → ⊥) → ((p : ℕ) → Writes t (bracketed at p c es))

@@ -1,14 +1,14 @@
--- How deep the brackets of the canonical spelling nest: as deep as the tree's, and no deeper than the expression that writes it. Assumes nothing.
+-- How deep the brackets of the canonical spelling nest: as deep as the tree's, and no deeper than the expression that writes it.
 use Prim.Native.Nat.{ℕ, _≤_}
 use mathlib.Core.Path.{_≡_}
 use mathlib.Core.List.{List}
 use native.Mathlib.Omega.{arith}
 use lib.Dec.{T}
-use Rattle.syntax.specs.Expression.{Expr, Exprs, none, and, depth, depthAll}
-use Rattle.document.specs.Document.{Tree, text, value, size, element, Trees, empty, holds, Node, isNode, says}
-use Rattle.document.specs.RulesTest.{keepsRules, isDocument}
-use Rattle.document.specs.Spelling.{Spelling, Writes, writes-text, writes-value, writes-type, writes-size, writes-element, WritesAll, writes-none, writes-and, Spells, WithinLimits}
-use Rattle.document.specs.Canonical.{layout, treeLevels, mostLevelsIn}
+use Rattle.syntax.specs.rules.Expression.{Expr, Exprs, none, and, depth, depthAll}
+use Rattle.document.specs.rules.Document.{Tree, text, value, size, element, Trees, empty, holds, Node, isNode, says}
+use Rattle.document.specs.reference.RulesTest.{keepsRules, isDocument}
+use Rattle.document.specs.rules.Spelling.{Spelling, Writes, writes-text, writes-value, writes-type, writes-size, writes-element, WritesAll, writes-none, writes-and, Spells, WithinLimits}
+use Rattle.document.specs.rules.Canonical.{layout, treeLevels, mostLevelsIn}
 use Rattle.document.proofs.LaidOut.{layout-alike, document-node}
 use Rattle.document.proofs.RulesTest.{lawful-test}
 use Rattle.document.proofs.NestedForms.{spelled-form, nested-depth}

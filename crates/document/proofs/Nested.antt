@@ -1,5 +1,5 @@
 -- The nested meaning is fine exactly when the expression writes a tree that keeps the rules, and then it is that tree.
--- Document 01, "Numbers answered" and "Spelling". Assumes nothing.
+-- Document 01, "Numbers answered" and "Spelling".
 use Prim.Native.Nat.{ℕ, _≤_}
 use mathlib.Core.Path.{_≡_, refl, sym, ap, _∙_}
 use mathlib.Core.Bool.{Bool, true, false, not, cond, _&&_}
@@ -7,19 +7,19 @@ use mathlib.Core.List.{List}
 use lib.Dec.{T, eqb, leb, leb→le, T-not, lit≤}
 use native.Mathlib.Omega.{arith}
 use borrow.Author.Tests.{eqb-true, eq-eqb, lt-leb}
-use Rattle.laws.proofs.Booleans.{cond-case, both, both-true, and-false, true-T, T-true}
-use Rattle.elements.specs.Class as Class
-use Rattle.elements.specs.Inside.{State, Step, go, bad, step, start, ended}
-use Rattle.syntax.specs.Expression.{Expr, symbol, quoted, list, Exprs, none, and, place}
-use Rattle.syntax.specs.Atoms.{AtomsOf, AllAtoms}
-use Rattle.document.specs.Value.{nonEmpty, isValue}
-use Rattle.document.specs.RulesTest.{isText, goesOn, keepsRules, keepRules, isDocument}
-use Rattle.document.specs.Document.{Tree, text, value, size, element, Trees, empty, holds, treeClass}
-use Rattle.document.specs.Spelling.{Writes, writes-text, writes-value, writes-type, writes-size, writes-element, WritesAll}
-use Rattle.document.specs.Spelling.{writes-none, writes-and, WritesText, as-symbol, as-string, bracketed}
-use Rattle.document.specs.Lead.{leadClass, listClass, exprClass}
-use Rattle.document.specs.Meaning.{textBytes, onlyOne, sizeTree, valueTree, treeOf, listTree, treesOf, Verdict, fine, fault, Progress}
-use Rattle.document.specs.Meaning.{faultAt, advance, finish, judgeValue, judge, judgeList, run, judgeRoot}
+use Rattle.base.proofs.Booleans.{cond-case, both, both-true, and-false, true-T, T-true}
+use Rattle.elements.specs.rules.Class as Class
+use Rattle.elements.specs.rules.Inside.{State, Step, go, bad, step, start, ended}
+use Rattle.syntax.specs.rules.Expression.{Expr, symbol, quoted, list, Exprs, none, and, place}
+use Rattle.syntax.specs.rules.Atoms.{AtomsOf, AllAtoms}
+use Rattle.document.specs.rules.Value.{nonEmpty, isValue}
+use Rattle.document.specs.reference.RulesTest.{isText, goesOn, keepsRules, keepRules, isDocument}
+use Rattle.document.specs.rules.Document.{Tree, text, value, size, element, Trees, empty, holds, treeClass}
+use Rattle.document.specs.rules.Spelling.{Writes, writes-text, writes-value, writes-type, writes-size, writes-element, WritesAll}
+use Rattle.document.specs.rules.Spelling.{writes-none, writes-and, WritesText, as-symbol, as-string, bracketed}
+use Rattle.document.specs.rules.Lead.{leadClass, listClass, exprClass}
+use Rattle.document.specs.reference.Meaning.{textBytes, onlyOne, sizeTree, valueTree, treeOf, listTree, treesOf, Verdict, fine, fault, Progress}
+use Rattle.document.specs.reference.Meaning.{faultAt, advance, finish, judgeValue, judge, judgeList, run, judgeRoot}
 use Rattle.document.proofs.Leads.{by-lead}
 use Rattle.document.proofs.Values.{value-written, OfText, of-text, text-bytes, type-tree, size-tree}
 use Rattle.elements.proofs.Names.{name-of-class}

@@ -1,23 +1,23 @@
 -- The nested expression behind each spelling: there is one, it is determined by the text's expressions, and so is the document; of any text, also past the limits, and across the two spellings.
--- Assumes nothing.
 use Prim.Native.Nat.{ℕ, _≤_}
 use mathlib.Core.Path.{_≡_, refl, sym, ap, _∙_}
 use mathlib.Core.Bool.{Bool, true, false, cond}
 use mathlib.Core.List.{List}
 use native.Mathlib.Omega.{arith}
 use lib.Dec.{T, eqb}
-use Rattle.laws.proofs.Booleans.{both}
-use Rattle.elements.specs.Class as Class
-use Rattle.syntax.specs.Syntax.{Forest, levels}
-use Rattle.syntax.specs.Expression.{Expr, symbol, quoted, list, Exprs, none, and, locate, depth, depthAll}
+use Rattle.base.proofs.Booleans.{both}
+use Rattle.elements.specs.rules.Class as Class
+use Rattle.syntax.specs.rules.Syntax.{Forest, levels}
+use Rattle.syntax.specs.rules.Expression.{Expr, symbol, quoted, list, Exprs, none, and, locate, depth, depthAll}
 use Rattle.syntax.proofs.Accepted.{same-bytes}
 use Rattle.syntax.proofs.Located.{located-depth}
-use Rattle.document.specs.Document.{Tree, treeClass, Node, says}
-use Rattle.document.specs.RulesTest.{keepsRules, isDocument}
-use Rattle.document.specs.Spelling.{Spelling, nested, imperative, mostLevels, isBlockParameter, Writes, WritesIn, as-nested, as-imperative, Spells, WithinLimits, placesIn}
-use Rattle.document.specs.Lead.{leadClass, exprClass}
-use Rattle.document.specs.Meaning.{fine, judgeRoot, treeOf, places}
-use Rattle.document.specs.Imperative.{join, parameters, flatten, flattenContent, spelledAs}
+use Rattle.document.specs.rules.Document.{Tree, treeClass, Node, says}
+use Rattle.document.specs.reference.RulesTest.{keepsRules, isDocument}
+use Rattle.document.specs.rules.Spelling.{Spelling, nested, imperative, mostLevels, isBlockParameter, Writes, WritesIn, as-nested, as-imperative, Spells, WithinLimits, placesIn}
+use Rattle.document.specs.rules.Lead.{leadClass, exprClass}
+use Rattle.document.specs.reference.Meaning.{fine, judgeRoot, treeOf, places}
+use Rattle.document.specs.reference.Imperative.{parameters, flatten, flattenContent, spelledAs}
+use Rattle.document.specs.rules.Command.{join}
 use Rattle.document.proofs.Nested.{root-complete}
 use Rattle.document.proofs.RulesTest.{lawful-test}
 use Rattle.document.proofs.Blocks.{join-none}

@@ -1,12 +1,12 @@
--- The nodes in document order: those of the visits, and those that trees say one after the other. Assumes nothing.
+-- The nodes in document order: those of the visits, and those that trees say one after the other.
 use Prim.Native.Nat.{ℕ, _+_}
 use mathlib.Core.Path.{_≡_, refl, ap, _∙_}
 use mathlib.Core.Bool.{Bool, true, false, cond}
 use mathlib.Core.List.{List, [], _∷_, _++_, map, map-append, append-assoc}
 use lib.ListN.{length}
-use Rattle.document.specs.Document.{Tree, Trees, holds, isNode, Node, node, Nodes, childless, child, says, sayAll}
-use Rattle.document.specs.Table.{count, pool}
-use Rattle.document.specs.Visits.{Visit, visits, visitsAll}
+use Rattle.document.specs.rules.Document.{Tree, Trees, holds, isNode, Node, node, Nodes, childless, child, says, sayAll}
+use Rattle.document.specs.rules.Table.{count, pool}
+use Rattle.document.specs.rules.Visits.{Visit, visits, visitsAll}
 use Rattle.document.proofs.BlockParts.{Parts, no-more, one-more}
 
 -- A node before its children, and each child before the next.

@@ -1,28 +1,28 @@
--- Which numbers a refusal can have: the scan answers 3 to 6, the walk 8 to 12, the check 15 to 18. Assumes nothing.
+-- Which numbers a refusal can have: the scan answers 3 to 6, the walk 8 to 12, the check 15 to 18.
 use Prim.Native.Nat.{ℕ, _≤_}
 use mathlib.Core.Path.{_≡_}
 use mathlib.Core.List.{List, [], _∷_}
 use native.Mathlib.Omega.{arith}
 use lib.Dec.{eqb}
-use Rattle.laws.proofs.Booleans.{cond-case}
-use Rattle.elements.specs.Bytes.{among}
-use Rattle.elements.specs.Class as Class
-use Rattle.elements.specs.Rules.{Slot, must, may, id-type, Content, alternatives, exactly-one, alternativesOf, ruleOf}
-use Rattle.elements.specs.Inside.{State, expecting, holding, Step, go, bad, step, start, ended, firstChild, nextChild, nextParameter, isInclude, someHas}
+use Rattle.base.proofs.Booleans.{cond-case}
+use Rattle.elements.specs.rules.Bytes.{among}
+use Rattle.elements.specs.rules.Class as Class
+use Rattle.elements.specs.rules.Rules.{Slot, must, may, id-type, Content, alternatives, exactly-one, alternativesOf, ruleOf}
+use Rattle.elements.specs.rules.Inside.{State, expecting, holding, Step, go, bad, step, start, ended, firstChild, nextChild, nextParameter, isInclude, someHas}
 use Rattle.elements.proofs.Alternatives.{chosen-case}
-use Rattle.syntax.specs.Expression.{Expr, symbol, quoted, list, Exprs, none, and, place}
-use Rattle.syntax.specs.Fault.{Opened, Hit, control, lone-return, no-escape, empty-string, unclosed-string, unopened, other-partner, left-open, too-deep}
-use Rattle.document.specs.Document.{Node}
-use Rattle.document.specs.RulesTest.{keepsRules}
-use Rattle.document.specs.Faults.{RootFault}
-use Rattle.document.specs.Account as Account
-use Rattle.document.specs.Account.{RefusedFor}
-use Rattle.document.specs.WellFormed.{FirstFault, bad-row, repeated-id, unknown-link, unknown-footnote}
-use Rattle.document.specs.Check.{First, nowhere, at-node, Check, sound, unsound, checkedBy, check}
+use Rattle.syntax.specs.rules.Expression.{Expr, symbol, quoted, list, Exprs, none, and, place}
+use Rattle.syntax.specs.rules.Fault.{Opened, Hit, control, lone-return, no-escape, empty-string, unclosed-string, unopened, other-partner, left-open, too-deep}
+use Rattle.document.specs.rules.Document.{Node}
+use Rattle.document.specs.reference.RulesTest.{keepsRules}
+use Rattle.document.specs.rules.Faults.{RootFault}
+use Rattle.document.specs.rules.Account as Account
+use Rattle.document.specs.rules.Account.{RefusedFor}
+use Rattle.document.specs.rules.WellFormed.{FirstFault, bad-row, repeated-id, unknown-link, unknown-footnote}
+use Rattle.document.specs.reference.Check.{First, nowhere, at-node, Check, sound, unsound, checkedBy, check}
 use Rattle.document.proofs.Faults.{named-fault}
-use Rattle.document.specs.Spelling.{Spelling}
-use Rattle.document.specs.Lead.{leadClass, exprClass}
-use Rattle.document.specs.Meaning.{Verdict, fine, fault, Progress, reached, stopped, faultAt, advance, finish, judgeValue, judge, judgeRoot, valueTree}
+use Rattle.document.specs.rules.Spelling.{Spelling}
+use Rattle.document.specs.rules.Lead.{leadClass, exprClass}
+use Rattle.document.specs.reference.Meaning.{Verdict, fine, fault, Progress, reached, stopped, faultAt, advance, finish, judgeValue, judge, judgeRoot, valueTree}
 
 abbrev pub OfWalk : ℕ → Type 0
 OfWalk n = (8 ≤ n) × (n ≤ 12)
@@ -91,14 +91,14 @@ mutual
   judge-number k (quoted at s) = tt
   judge-number k (list at es) = list-number k at es
 
-  list-number : (k at : ℕ) (es : Exprs) → VerdictNumber (Rattle.document.specs.Meaning.judgeList k at es)
+  list-number : (k at : ℕ) (es : Exprs) → VerdictNumber (Rattle.document.specs.reference.Meaning.judgeList k at es)
   list-number k at none = omega arith
   list-number k at (and e es) =
       cond-case VerdictNumber (Class.isElement (leadClass e))
       (λ _. finished at (leadClass e) _ (run-number at (leadClass e) (start (leadClass e)) es))
       (λ _. cond-case VerdictNumber (keepsRules k (valueTree (leadClass e) es)) (λ _. tt) (λ _. omega arith))
 
-  run-number : (at k : ℕ) (s : State) (es : Exprs) → ProgressNumber (Rattle.document.specs.Meaning.run at k s es)
+  run-number : (at k : ℕ) (s : State) (es : Exprs) → ProgressNumber (Rattle.document.specs.reference.Meaning.run at k s es)
   run-number at k s none = tt
   run-number at k s (and e es) =
       advanced at (place e) (step k s (exprClass e)) (judge k e) _ (step-number k s (exprClass e)) (judge-number k e) (λ s′. run-number at k s′ es)

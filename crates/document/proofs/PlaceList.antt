@@ -1,4 +1,4 @@
--- The place list of a text ties each node to the text: one place a node, ascending, and at each the node begins. Assumes nothing.
+-- The place list of a text ties each node to the text: one place a node, ascending, and at each the node begins.
 use Prim.Native.Nat.{ℕ, zero, suc, _+_, _≤_, _<_}
 use mathlib.Core.Path.{_≡_, refl, ap, _∙_}
 use mathlib.Core.Logic.{_⊎_, inl, inr}
@@ -7,22 +7,23 @@ use native.Mathlib.Nat.{zero-add, le-refl, le-trans}
 use native.Mathlib.Omega.{arith}
 use lib.Dec.{T}
 use lib.ListN.{length, getD, drop, length-map}
-use Rattle.laws.proofs.Booleans.{both, T-true}
-use Rattle.elements.specs.Class as Class
-use Rattle.elements.specs.Inside.{start}
-use Rattle.syntax.specs.Syntax.{space, line-end, word, string, leafBefore, Before, a-symbol, another, after, Forest, end, leaf, brackets, Ok}
-use Rattle.syntax.specs.Expression.{Expr, symbol, Exprs, none, and, place, locateLeaf, locate}
+use Rattle.base.proofs.Booleans.{both, T-true}
+use Rattle.elements.specs.rules.Class as Class
+use Rattle.elements.specs.rules.Inside.{start}
+use Rattle.syntax.specs.rules.Syntax.{space, line-end, word, string, leafBefore, Before, a-symbol, another, after, Forest, end, leaf, brackets, Ok}
+use Rattle.syntax.specs.rules.Expression.{Expr, symbol, Exprs, none, and, place, locateLeaf, locate}
 use Rattle.syntax.proofs.Classes.{Fits}
 use Rattle.syntax.proofs.Standing.{SymbolAt, StringAt, Front, ListAt, Stands, StandAll, stands-forward, forest-stands}
-use Rattle.document.specs.Document.{Tree, value, size, element, Trees, empty, holds, isNode, Node, missing, says}
-use Rattle.document.specs.RulesTest.{keepsRules, keepRules}
-use Rattle.document.specs.Table.{count}
-use Rattle.document.specs.Visits.{nodeKind, nodeText, Visit, visitsOf, upFrom}
-use Rattle.document.specs.Spelling.{Spelling, as-symbol, as-string, Writes, writes-text, writes-value, writes-type, writes-size, writes-element}
-use Rattle.document.specs.Spelling.{WritesAll, writes-none, writes-and, parametersOf, contentOf, Bracketed, brackets-around}
-use Rattle.document.specs.Spelling.{Flat, flat-block, flat-other, FlatAll, flat-none, flat-and, WritesIn, as-nested, as-imperative, Spells}
-use Rattle.document.specs.Spelling.{placesOf, placesOfAll, flatPlaces, flatPlacesAll, placesIn, nodePlaces}
-use Rattle.document.specs.Placed.{Blank, SymbolEnds, Begins, Ascending, Placed}
+use Rattle.base.specs.rules.Limits.{missing}
+use Rattle.document.specs.rules.Document.{Tree, value, size, element, Trees, empty, holds, isNode, Node, says}
+use Rattle.document.specs.reference.RulesTest.{keepsRules, keepRules}
+use Rattle.document.specs.rules.Table.{count}
+use Rattle.document.specs.rules.Visits.{nodeKind, nodeText, Visit, visitsOf, upFrom}
+use Rattle.document.specs.rules.Spelling.{Spelling, as-symbol, as-string, Writes, writes-text, writes-value, writes-type, writes-size, writes-element}
+use Rattle.document.specs.rules.Spelling.{WritesAll, writes-none, writes-and, parametersOf, contentOf, Bracketed, brackets-around}
+use Rattle.document.specs.rules.Spelling.{Flat, flat-block, flat-other, FlatAll, flat-none, flat-and, WritesIn, as-nested, as-imperative, Spells}
+use Rattle.document.specs.rules.Spelling.{placesOf, placesOfAll, flatPlaces, flatPlacesAll, placesIn, nodePlaces}
+use Rattle.document.specs.rules.Placed.{Blank, SymbolEnds, Begins, Ascending, Placed}
 use Rattle.document.proofs.BlockParts.{Kept, element-kept, parameters-kept, content-kept, block-parts}
 use Rattle.document.proofs.NodeOrder.{nodesOf, visitedOf, visits-nodes, treeNodes, treesNodes, holds-nodes, parts-nodes}
 use Rattle.document.proofs.RulesTest.{lawful-test}

@@ -1,4 +1,4 @@
--- An expression that is fine has one place for each node of what it says. Document 01, "The table": "The place list has one word a node". Assumes nothing.
+-- An expression that is fine has one place for each node of what it says. Document 01, "The table": "The place list has one word a node".
 use Prim.Native.Nat.{ℕ, suc, _+_}
 use mathlib.Core.Path.{_≡_, refl, sym, ap, _∙_}
 use mathlib.Core.Bool.{Bool, true, false, cond}
@@ -7,15 +7,15 @@ use native.Mathlib.Omega.{arith}
 use lib.Dec.{T, eqb}
 use lib.ListN.{length, length-append}
 use borrow.Author.Tests.{eqb-true}
-use Rattle.laws.proofs.Booleans.{cond-case, T-true}
-use Rattle.elements.specs.Class as Class
-use Rattle.elements.specs.Inside.{State, step, start}
-use Rattle.syntax.specs.Expression.{Expr, symbol, quoted, list, Exprs, none, and, place}
-use Rattle.document.specs.Document.{Tree, element, Trees, holds, isNode, says, sayAll, child}
-use Rattle.document.specs.Table.{count, countAll}
-use Rattle.document.specs.Lead.{leadClass, listClass, exprClass}
-use Rattle.document.specs.Meaning.{sizeTree, valueTree, treeOf, listTree, treesOf, Verdict, fine, finish, judgeValue, judge}
-use Rattle.document.specs.Meaning.{judgeList, run, judgeRoot, places, listPlaces, allPlaces}
+use Rattle.base.proofs.Booleans.{cond-case, T-true}
+use Rattle.elements.specs.rules.Class as Class
+use Rattle.elements.specs.rules.Inside.{State, step, start}
+use Rattle.syntax.specs.rules.Expression.{Expr, symbol, quoted, list, Exprs, none, and, place}
+use Rattle.document.specs.rules.Document.{Tree, element, Trees, holds, isNode, says, sayAll, child}
+use Rattle.document.specs.rules.Table.{count, countAll}
+use Rattle.document.specs.rules.Lead.{leadClass, listClass, exprClass}
+use Rattle.document.specs.reference.Meaning.{sizeTree, valueTree, treeOf, listTree, treesOf, Verdict, fine, finish, judgeValue, judge}
+use Rattle.document.specs.reference.Meaning.{judgeList, run, judgeRoot, places, listPlaces, allPlaces}
 use Rattle.document.proofs.Nested.{not-fine, passed}
 
 -- The nodes of what a tree says; a value says none.

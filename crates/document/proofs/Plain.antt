@@ -1,15 +1,15 @@
--- The definitions of `Value` and `Canonical` agree with the plain tables and examples of `specs/Plain.antt`, by computation. Assumes nothing.
+-- The definitions of `Value` and `Canonical` agree with the plain tables and examples of `specs/examples/Plain.antt`, by computation.
 use Prim.Native.Nat.{ℕ}
 use mathlib.Core.Path.{_≡_, refl}
 use mathlib.Core.Bool.{Bool, _&&_}
 use mathlib.Core.List.{map}
 use lib.Dec.{T}
-use Rattle.laws.proofs.Tables.{every, below, alike}
-use Rattle.utf8.specs.Quoted.{utf8Of, ofBytes}
-use Rattle.elements.specs.Bytes.{among}
-use Rattle.document.specs.Value.{namesBlock, targetCharacter}
-use Rattle.document.specs.Spelling.{holdsText, isBlockParameter}
-use Rattle.document.specs.Plain.{namingBlocks, Target, targets, holdingTexts, ofBlocks, Valued, values, valued, Digits, digits, numberIn, Size, sizes, sized, spelledOf, spelledAs}
+use Rattle.base.proofs.Tables.{every, below, alike}
+use Rattle.utf8.specs.examples.Quoted.{utf8Of, ofBytes}
+use Rattle.elements.specs.rules.Bytes.{among}
+use Rattle.document.specs.rules.Value.{namesBlock, targetCharacter}
+use Rattle.document.specs.rules.Spelling.{holdsText, isBlockParameter}
+use Rattle.document.specs.examples.Plain.{namingBlocks, Target, targets, holdingTexts, ofBlocks, Valued, values, valued, Digits, digits, numberIn, Size, sizes, sized, spelledOf, spelledAs}
 use Rattle.document.proofs.Compute.{computes}
 
 -- The classes 0 to 32 that name a block by their target, that hold one text, and that are a command's parameters.

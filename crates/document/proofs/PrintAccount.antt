@@ -1,16 +1,17 @@
--- Printing answers as `specs/PrintAccount.antt` tells, and in no other way. Assumes nothing.
+-- Printing answers as `specs/rules/PrintAccount.antt` tells, and in no other way.
 use Prim.Native.Nat.{ℕ}
 use mathlib.Core.Path.{_≡_, refl, sym, ap, _∙_}
 use mathlib.Core.List.{List}
 use borrow.Author.Tests.{lt-ltb, le-ltb, ltb-true, ltb-false, eqb-true, eqb-false}
 use lib.Dec.{eqb, ltb}
 use lib.ListN.{length}
-use Rattle.laws.proofs.Booleans.{cond-case, bool-case}
-use Rattle.document.specs.Document.{Node}
-use Rattle.document.specs.Canonical.{canonical}
-use Rattle.document.specs.Check.{check}
-use Rattle.document.specs.Printing.{Printed, Checked, checkedAs, checking, written, printing}
-use Rattle.document.specs.PrintAccount.{Holds, PrintAnswers, no-table, too-short, spelled}
+use Rattle.base.proofs.Booleans.{cond-case, bool-case}
+use Rattle.document.specs.rules.Document.{Node}
+use Rattle.document.specs.rules.Canonical.{canonical}
+use Rattle.document.specs.reference.Check.{check}
+use Rattle.document.specs.reference.Printing.{Checked, checkedAs, checking, written, printing}
+use Rattle.document.specs.rules.Draft.{Printed}
+use Rattle.document.specs.rules.PrintAccount.{Holds, PrintAnswers, no-table, too-short, spelled}
 use Rattle.document.proofs.FirstFaults.{well-formed-check}
 use Rattle.document.proofs.PrintingDecided.{checks, sound-table, prints, refuses}
 

@@ -1,5 +1,5 @@
 -- What the check of a table and printing answer: of the document whose table they are given, and 20 where they are given no document's. Document 01,
--- "Printing returns number and length." Assumes nothing.
+-- "Printing returns number and length."
 use Prim.Native.Nat.{ℕ, _*_, _≤_}
 use mathlib.Core.Path.{_≡_, refl, ap}
 use mathlib.Core.Bool.{Bool, true, false, _&&_}
@@ -9,16 +9,18 @@ use lib.Dec.{T, leb, leb→le}
 use borrow.Author.Tests.{le-leb, ne-eqb}
 use lib.ListN.{length, take}
 use lib.Seq.{length-take-le}
-use Rattle.laws.proofs.Booleans.{both, T-true, not-T-false, cond-case, true-T}
-use Rattle.elements.specs.Bytes.{same}
+use Rattle.base.proofs.Booleans.{both, T-true, not-T-false, cond-case, true-T}
+use Rattle.elements.specs.rules.Bytes.{same}
 use Rattle.elements.proofs.Same.{same-equal}
-use Rattle.document.specs.Document.{Tree, Node, says, Document}
-use Rattle.document.specs.RulesTest.{isDocument}
-use Rattle.document.specs.Table.{recordLength, tableOf, pool, count}
-use Rattle.document.specs.Check.{Check, sound, unsound, check, Decides}
-use Rattle.document.specs.WellFormed.{WellFormed}
-use Rattle.document.specs.Canonical.{layout, treeLevels, canonical}
-use Rattle.document.specs.Printing.{IsDraft, IsTableOf, hasDraft, treeOfTable, Checked, checkedAs, checking, written, printing}
+use Rattle.document.specs.rules.Document.{Tree, Node, says, Document}
+use Rattle.document.specs.reference.RulesTest.{isDocument}
+use Rattle.document.specs.rules.Record.{recordLength}
+use Rattle.document.specs.rules.Table.{tableOf, pool, count}
+use Rattle.document.specs.reference.Check.{Check, sound, unsound, check, Decides}
+use Rattle.document.specs.rules.WellFormed.{WellFormed}
+use Rattle.document.specs.rules.Canonical.{layout, treeLevels, canonical}
+use Rattle.document.specs.reference.Printing.{hasDraft, treeOfTable, Checked, checkedAs, checking, written, printing}
+use Rattle.document.specs.rules.Draft.{IsDraft, IsTableOf}
 use Rattle.document.proofs.RulesTest.{test-lawful}
 use Rattle.document.proofs.Records.{table-length}
 use Rattle.document.proofs.FirstFaults.{check-decides, well-formed-check}
@@ -149,6 +151,6 @@ module _ (words : List ℕ) (n : ℕ) (bytes : List ℕ) (m : ℕ) where
         rw (checks d hn hm (x .draft), well-formed-check d (x .draft .document) (x .well-formed), tree-is d hn (x .draft), said)
 
     -- Given no such table, it answers 20.
-    pub refuses : (checking words n bytes m .number ≡ 0 → ⊥) → printing words n bytes m out ≡ record { number = 20; length = 0; out = out }
+    pub refuses : (checking words n bytes m .number ≡ 0 → ⊥) → printing words n bytes m out ≡ record { number = 20; size = 0; out = out }
     unfolding printing
     refuses none = rw (ne-eqb (checking words n bytes m .number) 0 none)

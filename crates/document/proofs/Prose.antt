@@ -1,5 +1,5 @@
 -- Ids, links and footnote-refs: each search finds the first node that has the fault 16, 17 or 18, by the numbers of nodes; and no node has it just where the
--- statements of `specs/Prose.antt` hold. Assumes nothing.
+-- statements of `specs/reference/Prose.antt` hold.
 use Prim.Native.Nat.{ℕ, _<_}
 use mathlib.Core.Path.{_≡_, _∙_, refl, sym, ap, subst}
 use mathlib.Core.Bool.{Bool, true, false, not, cond, _&&_, _||_}
@@ -9,16 +9,17 @@ use native.Mathlib.Omega.{arith}
 use lib.Dec.{T, eqb, eqb→eq, eqb-refl}
 use lib.Seq.{append-snoc}
 use borrow.Author.Tests.{eq-eqb}
-use Rattle.laws.proofs.Booleans.{cond-case, bool-case, both, both-true, or-true, or-left, or-right, true-T, T-true, not-true, not-T-false, false-not-T}
-use Rattle.elements.specs.Bytes.{same}
-use Rattle.elements.specs.Class as Class
-use Rattle.document.specs.Document.{Node, missing}
-use Rattle.document.specs.Value.{nonEmpty}
-use Rattle.document.specs.Table.{count}
-use Rattle.document.specs.Check.{First, nowhere, at-node, Entry, entries, hasId, isAmong, repeatedId, idsWhere, unknownTarget, unknownLink, unknownFootnote}
-use Rattle.document.specs.Visits.{nodeKind, nodeKey, Visit, visits, visitsOf}
-use Rattle.document.specs.WellFormed.{NodeAt, HasId, RepeatedId, UnknownLink, UnknownFootnote, None, FirstSuch}
-use Rattle.document.specs.Prose.{IdsDifferAmong, HasIdAmong, IdsDiffer, LinksFound, RefsFound}
+use Rattle.base.proofs.Booleans.{cond-case, bool-case, both, both-true, or-true, or-left, or-right, true-T, T-true, not-true, not-T-false, false-not-T}
+use Rattle.elements.specs.rules.Bytes.{same}
+use Rattle.elements.specs.rules.Class as Class
+use Rattle.base.specs.rules.Limits.{missing}
+use Rattle.document.specs.rules.Document.{Node}
+use Rattle.document.specs.rules.Value.{nonEmpty}
+use Rattle.document.specs.rules.Table.{count}
+use Rattle.document.specs.reference.Check.{First, nowhere, at-node, Entry, entries, hasId, isAmong, repeatedId, idsWhere, unknownTarget, unknownLink, unknownFootnote}
+use Rattle.document.specs.rules.Visits.{nodeKind, nodeKey, Visit, visits, visitsOf}
+use Rattle.document.specs.rules.WellFormed.{NodeAt, HasId, RepeatedId, UnknownLink, UnknownFootnote, None, FirstSuch}
+use Rattle.document.specs.reference.Prose.{IdsDifferAmong, HasIdAmong, IdsDiffer, LinksFound, RefsFound}
 use Rattle.elements.proofs.Same.{same-equal}
 use Rattle.document.proofs.Counted.{Counted, counted, one-number, earlier-less, less-earlier}
 use Rattle.document.proofs.Searches.{Finds, finds-same, firstOf, FirstIn, FirstAnswer, first-answer, test-finds}

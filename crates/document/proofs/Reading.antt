@@ -1,27 +1,27 @@
 -- What reading finds in a text that is UTF-8: an expression exactly where the text spells a document, and then that document's; else the fault that the
--- rules name. Assumes nothing.
+-- rules name.
 use Prim.Native.Nat.{ℕ, _≤_}
 use mathlib.Core.Path.{_≡_, refl, sym, _∙_}
 use mathlib.Core.List.{List}
 use borrow.Author.Tests.{lt-ltb, le-ltb, ltb-true}
 use lib.Dec.{ltb}
 use lib.ListN.{length}
-use Rattle.laws.proofs.Booleans.{cond-case}
-use Rattle.utf8.specs.Scalar.{IsUtf8}
-use Rattle.syntax.specs.Syntax.{levels}
-use Rattle.syntax.specs.Expression.{Expr, Exprs, none, and, locate, depth}
-use Rattle.syntax.specs.Scan as Scan
-use Rattle.syntax.specs.Scan.{Scanned, scan}
+use Rattle.base.proofs.Booleans.{cond-case}
+use Rattle.utf8.specs.rules.Scalar.{IsUtf8}
+use Rattle.syntax.specs.rules.Syntax.{levels}
+use Rattle.syntax.specs.rules.Expression.{Expr, Exprs, none, and, locate, depth}
+use Rattle.syntax.specs.reference.Scan as Scan
+use Rattle.syntax.specs.reference.Scan.{Scanned, scan}
 use Rattle.syntax.proofs.Accepted.{accepted}
 use Rattle.syntax.proofs.Decided.{accepts, refused-fault}
 use Rattle.syntax.proofs.Refused.{fault-refused}
-use Rattle.syntax.specs.Atoms.{AtomsOf}
-use Rattle.document.specs.Document.{Node, says}
-use Rattle.document.specs.Spelling.{Spelling, nested, imperative, mostLevels, WritesIn, Spells, WithinLimits, nodePlaces}
-use Rattle.document.specs.Imperative.{spelledAs, regroup}
-use Rattle.document.specs.Meaning.{Verdict, fine, fault, judgeRoot, treeOf, places}
-use Rattle.document.specs.Answer.{Reading, refused, read, tooDeep, judged, oneExpression, afterScan, reading}
-use Rattle.document.specs.Account.{Scans, NestedForm, as-it-stands, regrouped, RefusedFor, no-syntax, no-expression, second-expression, against-rules, too-deep}
+use Rattle.syntax.specs.rules.Atoms.{AtomsOf}
+use Rattle.document.specs.rules.Document.{Node, says}
+use Rattle.document.specs.rules.Spelling.{Spelling, nested, imperative, mostLevels, WritesIn, Spells, WithinLimits, nodePlaces}
+use Rattle.document.specs.reference.Imperative.{spelledAs, regroup}
+use Rattle.document.specs.reference.Meaning.{Verdict, fine, fault, judgeRoot, treeOf, places}
+use Rattle.document.specs.reference.Outcome.{Reading, refused, read, tooDeep, judged, oneExpression, afterScan, reading}
+use Rattle.document.specs.rules.Account.{Scans, NestedForm, as-it-stands, regrouped, RefusedFor, no-syntax, no-expression, second-expression, against-rules, too-deep}
 use Rattle.document.proofs.Nested.{AllText, AllTexts, root-sound, root-complete}
 use Rattle.document.proofs.RulesTest.{lawful-test, test-lawful}
 use Rattle.document.proofs.Regroup.{flatten-regroup}

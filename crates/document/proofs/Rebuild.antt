@@ -1,4 +1,4 @@
--- The records and the pool of a node give the node back: what the test of printing looks for is the document itself. Assumes nothing.
+-- The records and the pool of a node give the node back: what the test of printing looks for is the document itself.
 use Prim.Native.Nat.{ℕ, zero, suc, _+_, _≤_}
 use mathlib.Core.Path.{_≡_, _∙_, refl, sym, ap}
 use mathlib.Core.List.{List, [], _∷_, _++_, append-assoc, append-nil}
@@ -6,9 +6,10 @@ use native.Mathlib.Nat.{add-zero, zero-add, suc-add, add-assoc}
 use native.Mathlib.Omega.{arith}
 use lib.ListN.{length, length-append}
 use borrow.Author.Tests.{lt-ltb, le-ltb}
-use Rattle.document.specs.Document.{Node, node, Nodes, childless, child, missing}
-use Rattle.document.specs.Table.{count, countAll, pool, poolAll, offset, rows, rowsAll, tableOf}
-use Rattle.document.specs.Printing.{Numbered, part, below, notBelow, addRecord, rebuild, candidate}
+use Rattle.base.specs.rules.Limits.{missing}
+use Rattle.document.specs.rules.Document.{Node, node, Nodes, childless, child}
+use Rattle.document.specs.rules.Table.{count, countAll, pool, poolAll, offset, rows, rowsAll, tableOf}
+use Rattle.document.specs.reference.Printing.{Numbered, part, below, notBelow, addRecord, rebuild, candidate}
 use Rattle.document.proofs.Determined.{count-positive}
 use Rattle.document.proofs.Records.{named}
 

@@ -1,5 +1,4 @@
 -- The laws of the table and the pool: the nodes in document order, each with its number, its parent's number and where its strings begin.
--- Assumes nothing.
 use Prim.Native.Nat.{ℕ, zero, suc, _+_, _*_, _≤_, _<_}
 use mathlib.Core.Path.{_≡_, _∙_, refl, sym, ap, subst}
 use mathlib.Core.Logic.{_⊎_, inl, inr}
@@ -9,10 +8,12 @@ use native.Mathlib.Numerals.{add-one}
 use native.Mathlib.Omega.{arith}
 use lib.ListN.{length, take, drop, length-append}
 use lib.Seq.{take-at, drop-at}
-use Rattle.document.specs.Document.{Node, node, Nodes, childless, child, missing}
-use Rattle.document.specs.Table.{recordLength, count, countAll, pool, poolAll, offset, rows, rowsAll, tableOf}
-use Rattle.document.specs.Check.{Entry, entries, entriesAmong}
-use Rattle.document.specs.Visits.{nodeKind, nodeKey, nodeType, nodeText, nodeWidth, nodeHeight, Visit, visits, visitsAll, visitsOf, upFrom, endOf, typeStart, textStart, wordsOf, stringsOf, each, Spans, Holder}
+use Rattle.base.specs.rules.Limits.{missing}
+use Rattle.document.specs.rules.Document.{Node, node, Nodes, childless, child}
+use Rattle.document.specs.rules.Record.{recordLength}
+use Rattle.document.specs.rules.Table.{count, countAll, pool, poolAll, offset, rows, rowsAll, tableOf}
+use Rattle.document.specs.reference.Check.{Entry, entries, entriesAmong}
+use Rattle.document.specs.rules.Visits.{nodeKind, nodeKey, nodeType, nodeText, nodeWidth, nodeHeight, Visit, visits, visitsAll, visitsOf, upFrom, endOf, typeStart, textStart, wordsOf, stringsOf, each, Spans, Holder}
 
 upFrom-append : (i m n : ℕ) → upFrom i (m + n) ≡ upFrom i m ++ upFrom (i + m) n
 unfolding upFrom

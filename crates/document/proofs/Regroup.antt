@@ -1,4 +1,4 @@
--- Flattening what regrouping made gives back the expressions that were regrouped, if the nested meaning accepts it. Assumes nothing.
+-- Flattening what regrouping made gives back the expressions that were regrouped, if the nested meaning accepts it.
 use Prim.Native.Nat.{ℕ, suc, _≤_, _<_}
 use mathlib.Core.Path.{_≡_, refl, sym, ap, _∙_}
 use mathlib.Core.Bool.{true, false, not, _||_}
@@ -7,15 +7,17 @@ use native.Mathlib.Omega.{arith}
 use lib.Dec.{T, eqb, leb, lit<}
 use lib.ListN.{length}
 use borrow.Author.Tests.{leb-true, ne-eqb}
-use Rattle.laws.proofs.Booleans.{cond-case, bool-case, both, and-true, or-false, true-T, T-true, not-true}
-use Rattle.elements.specs.Bytes.{among}
-use Rattle.elements.specs.Class as Class
-use Rattle.elements.specs.Inside.{State, start}
-use Rattle.syntax.specs.Expression.{Expr, symbol, quoted, list, Exprs, none, and}
-use Rattle.document.specs.Spelling.{isBlockParameter}
-use Rattle.document.specs.Imperative.{parameters, join, flatten, flattenContent, notAllowed, inCommand, loose, isCommand, block, stillOpen, childOf, opened, atInnermost, contentsOf, innermost, regroup}
-use Rattle.document.specs.Lead.{leadClass, listClass, exprClass}
-use Rattle.document.specs.Meaning.{fine, judge, judgeList, judgeRoot}
+use Rattle.base.proofs.Booleans.{cond-case, bool-case, both, and-true, or-false, true-T, T-true, not-true}
+use Rattle.elements.specs.rules.Bytes.{among}
+use Rattle.elements.specs.rules.Class as Class
+use Rattle.elements.specs.rules.Inside.{State, start}
+use Rattle.syntax.specs.rules.Expression.{Expr, symbol, quoted, list, Exprs, none, and}
+use Rattle.document.specs.rules.Spelling.{isBlockParameter}
+use Rattle.document.specs.reference.Imperative.{parameters, flatten, flattenContent, stillOpen, childOf, opened, atInnermost, contentsOf, innermost, regroup}
+use Rattle.document.specs.rules.Command.{join, notAllowed, inCommand}
+use Rattle.document.specs.rules.Command.{loose, isCommand, block}
+use Rattle.document.specs.rules.Lead.{leadClass, listClass, exprClass}
+use Rattle.document.specs.reference.Meaning.{fine, judge, judgeList, judgeRoot}
 use Rattle.document.proofs.Nested.{not-fine}
 use Rattle.document.proofs.Blocks.{join-none, join-join, Read, read-on, inside-block, root-document}
 use Rattle.document.proofs.Blocks.{block-no-parameter, parameters-child, flatten-child, flatten-leaf}

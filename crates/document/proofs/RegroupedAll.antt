@@ -1,17 +1,18 @@
 -- Regrouping an imperative text brings nothing into it: what holds of all its expressions, and any bound on what they hold together, holds of its nested form.
--- Assumes nothing.
 use Prim.Native.Nat.{ℕ, _+_, _≤_}
 use mathlib.Core.Path.{_≡_}
 use mathlib.Core.Bool.{_||_}
 use mathlib.Core.List.{List, [], _∷_, map}
 use native.Mathlib.Omega.{arith}
 use lib.Dec.{eqb, leb}
-use Rattle.laws.proofs.Booleans.{cond-case}
-use Rattle.elements.specs.Class as Class
-use Rattle.syntax.specs.Expression.{Expr, symbol, quoted, list, Exprs, none, and}
-use Rattle.document.specs.Spelling.{isBlockParameter}
-use Rattle.document.specs.Imperative.{join, notAllowed, inCommand, loose, isCommand, block, stillOpen, childOf, opened, atInnermost, contentsOf, innermost, regroup}
-use Rattle.document.specs.Lead.{exprClass}
+use Rattle.base.proofs.Booleans.{cond-case}
+use Rattle.elements.specs.rules.Class as Class
+use Rattle.syntax.specs.rules.Expression.{Expr, symbol, quoted, list, Exprs, none, and}
+use Rattle.document.specs.rules.Spelling.{isBlockParameter}
+use Rattle.document.specs.reference.Imperative.{stillOpen, childOf, opened, atInnermost, contentsOf, innermost, regroup}
+use Rattle.document.specs.rules.Command.{join, notAllowed, inCommand}
+use Rattle.document.specs.rules.Command.{loose, isCommand, block}
+use Rattle.document.specs.rules.Lead.{exprClass}
 
 -- The laws of a property of expressions, `P n e`, and of runs of them, `Ps n es`, within a bound n that runs share out.
 pub record Laws (P : ℕ → Expr → Type 0) (Ps : ℕ → Exprs → Type 0) : Type 0 where

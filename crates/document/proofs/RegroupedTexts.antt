@@ -1,9 +1,10 @@
--- Regrouping an imperative text brings nothing into it: where all its symbols and strings are texts, so are those of its nested form. Assumes nothing.
+-- Regrouping an imperative text brings nothing into it: where all its symbols and strings are texts, so are those of its nested form.
 use Prim.Native.Nat.{ℕ}
 use native.Mathlib.Omega.{arith}
-use Rattle.syntax.specs.Expression.{Expr, Exprs, and}
-use Rattle.syntax.specs.Atoms.{AtomsOf}
-use Rattle.document.specs.Imperative.{notAllowed, regroup}
+use Rattle.syntax.specs.rules.Expression.{Expr, Exprs, and}
+use Rattle.syntax.specs.rules.Atoms.{AtomsOf}
+use Rattle.document.specs.reference.Imperative.{regroup}
+use Rattle.document.specs.rules.Command.{notAllowed}
 use Rattle.document.proofs.Nested.{AllText, AllTexts}
 use Rattle.document.proofs.RegroupedAll.{Laws, regrouped-all}
 

@@ -1,5 +1,5 @@
 -- Demand 2 over the definitions: the canonical spelling of a document is a nested spelling of it, so reading it gives that document back, and the table of a document
--- that was read is printed. Assumes nothing.
+-- that was read is printed.
 use Prim.Native.Nat.{ℕ, _≤_}
 use mathlib.Core.Path.{_≡_, refl}
 use mathlib.Core.List.{List}
@@ -7,15 +7,16 @@ use native.Mathlib.Omega.{arith}
 use lib.Dec.{leb, leb→le}
 use borrow.Author.Tests.{le-leb}
 use lib.ListN.{length}
-use Rattle.laws.proofs.Booleans.{true-T}
-use Rattle.syntax.specs.Syntax.{levels}
-use Rattle.document.specs.Document.{Node, Document}
-use Rattle.document.specs.Spelling.{Spelling, nested, mostLevels, mostBytes, Spells}
-use Rattle.document.specs.Table.{count, pool, tableOf}
-use Rattle.document.specs.Canonical.{layout, treeLevels, canonical}
-use Rattle.document.specs.Printing.{IsTableOf}
-use Rattle.document.specs.Answer.{Memory}
-use Rattle.document.specs.Demand.{Fits, Readable}
+use Rattle.base.proofs.Booleans.{true-T}
+use Rattle.syntax.specs.rules.Syntax.{levels}
+use Rattle.document.specs.rules.Document.{Node, Document}
+use Rattle.base.specs.rules.Limits.{mostBytes}
+use Rattle.document.specs.rules.Spelling.{Spelling, nested, mostLevels, Spells}
+use Rattle.document.specs.rules.Table.{count, pool, tableOf}
+use Rattle.document.specs.rules.Canonical.{layout, treeLevels, canonical}
+use Rattle.document.specs.rules.Draft.{IsTableOf}
+use Rattle.document.specs.rules.Memory.{Memory}
+use Rattle.document.specs.rules.Demand.{Fits, Readable}
 use Rattle.document.proofs.LaidOut.{laid-out}
 use Rattle.document.proofs.Levels.{spelled-levels}
 use Rattle.document.proofs.CanonicalSpells.{canonical-spells}

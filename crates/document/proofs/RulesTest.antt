@@ -1,4 +1,4 @@
--- The test of the rules tells the trees that keep them. Assumes nothing.
+-- The test of the rules tells the trees that keep them.
 use Prim.Native.Nat.{ℕ}
 use mathlib.Core.Path.{_≡_, refl}
 use mathlib.Core.Bool.{Bool}
@@ -7,15 +7,15 @@ use native.Mathlib.Omega.{arith}
 use borrow.Author.Tests.{eq-eqb}
 use lib.Dec.{T, eqb, eqb→eq}
 use lib.ListN.{length}
-use Rattle.laws.proofs.Booleans.{both, both-true, true-T}
-use Rattle.utf8.specs.Sequence.{validUpTo}
+use Rattle.base.proofs.Booleans.{both, both-true, true-T}
+use Rattle.utf8.specs.reference.Sequence.{validUpTo}
 use Rattle.utf8.proofs.Agree.{valid-utf8, utf8-valid}
-use Rattle.elements.specs.Class as Class
-use Rattle.elements.specs.Inside.{State, Step, go, bad, step, start}
-use Rattle.syntax.specs.Atoms.{IsText}
-use Rattle.document.specs.Value.{nonEmpty}
-use Rattle.document.specs.Document.{Tree, text, value, size, element, Trees, empty, holds, treeClass, GoesOn, KeepsRules, KeepRules, Lawful}
-use Rattle.document.specs.RulesTest.{isText, goesOn, keepsRules, keepRules, isDocument}
+use Rattle.elements.specs.rules.Class as Class
+use Rattle.elements.specs.rules.Inside.{State, Step, go, bad, step, start}
+use Rattle.syntax.specs.rules.Atoms.{IsText}
+use Rattle.document.specs.rules.Value.{nonEmpty}
+use Rattle.document.specs.rules.Document.{Tree, text, value, size, element, Trees, empty, holds, treeClass, GoesOn, KeepsRules, KeepRules, Lawful}
+use Rattle.document.specs.reference.RulesTest.{isText, goesOn, keepsRules, keepRules, isDocument}
 
 pub text-test : (s : List ℕ) → IsText s → T (isText s)
 unfolding isText nonEmpty

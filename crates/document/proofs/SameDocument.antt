@@ -1,16 +1,17 @@
--- Two texts within the limits that spell one document, in either spelling each, are read alike. Assumes nothing.
+-- Two texts within the limits that spell one document, in either spelling each, are read alike.
 use Prim.Native.Nat.{ℕ}
 use mathlib.Core.Path.{_≡_, refl}
 use mathlib.Core.Bool.{Bool, true, false, cond}
 use mathlib.Core.List.{List}
 use lib.Dec.{ltb}
 use lib.ListN.{length}
-use Rattle.document.specs.Document.{Node}
-use Rattle.document.specs.Spelling.{Spelling, Spells, WithinLimits}
-use Rattle.document.specs.Table.{count, pool}
-use Rattle.document.specs.Check.{Check, sound, unsound, check}
-use Rattle.document.specs.Answer.{answerAt, Memory, Outcome, noRoom, filled, nodeRoom, checked, stored, outcome}
-use Rattle.document.specs.Demand.{Alike}
+use Rattle.document.specs.rules.Document.{Node}
+use Rattle.document.specs.rules.Spelling.{Spelling, Spells, WithinLimits}
+use Rattle.document.specs.rules.Table.{count, pool}
+use Rattle.document.specs.reference.Check.{Check, sound, unsound, check}
+use Rattle.document.specs.reference.Outcome.{checked, stored, outcome}
+use Rattle.document.specs.rules.Memory.{answerAt, Memory, Outcome, noRoom, filled, nodeRoom}
+use Rattle.document.specs.rules.Demand.{Alike}
 use Rattle.document.proofs.Account.{spelled-stored}
 
 either : (b : Bool) {x y x′ y′ : Outcome} → Alike x x′ → Alike y y′ → Alike (cond b x y) (cond b x′ y′)

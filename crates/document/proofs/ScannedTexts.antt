@@ -1,13 +1,13 @@
--- The symbols and strings of a text that is UTF-8 are texts: one or more code points. Assumes nothing.
+-- The symbols and strings of a text that is UTF-8 are texts: one or more code points.
 use mathlib.Core.List.{List}
 use Prim.Native.Nat.{ℕ}
 use lib.Dec.{T}
-use Rattle.utf8.specs.Scalar.{IsUtf8}
-use Rattle.syntax.specs.Syntax.{Forest, another, Ok, bytesOf}
-use Rattle.syntax.specs.Expression.{locate}
-use Rattle.syntax.specs.Atoms.{IsText}
+use Rattle.utf8.specs.rules.Scalar.{IsUtf8}
+use Rattle.syntax.specs.rules.Syntax.{Forest, another, Ok, bytesOf}
+use Rattle.syntax.specs.rules.Expression.{locate}
+use Rattle.syntax.specs.rules.Atoms.{IsText}
 use Rattle.syntax.proofs.Atoms.{all-atoms-map, atoms-utf8}
-use Rattle.document.specs.RulesTest.{isText}
+use Rattle.document.specs.reference.RulesTest.{isText}
 use Rattle.document.proofs.RulesTest.{text-test}
 use Rattle.document.proofs.Nested.{AllTexts}
 

@@ -1,13 +1,13 @@
--- A search through a numbered list finds the first that passes a test, by its number; and a fault that the test tells is decided by it. Assumes nothing.
+-- A search through a numbered list finds the first that passes a test, by its number; and a fault that the test tells is decided by it.
 use Prim.Native.Nat.{ℕ, suc, _<_}
 use mathlib.Core.Path.{_≡_, _∙_, refl, ap}
 use mathlib.Core.Bool.{Bool, true, false, cond}
 use mathlib.Core.Logic.{_⊎_, inl, inr}
 use mathlib.Core.List.{List, [], _∷_, _++_, List·Memᴰ, List·Memᴰ·head, List·Memᴰ·tail, List·Memᴰ·not-nil, List·Memᴰ·cases-cons}
 use native.Mathlib.Omega.{arith}
-use Rattle.laws.proofs.Booleans.{cond-case}
-use Rattle.document.specs.WellFormed.{None, FirstSuch}
-use Rattle.document.specs.Check.{First, nowhere, at-node, orElse}
+use Rattle.base.proofs.Booleans.{cond-case}
+use Rattle.document.specs.rules.WellFormed.{None, FirstSuch}
+use Rattle.document.specs.reference.Check.{First, nowhere, at-node, orElse}
 use Rattle.document.proofs.Counted.{Counted, at-least}
 
 -- What an answer of a search says of a fault.

@@ -1,5 +1,4 @@
 -- The steps through an element against the rules' relations: which expression is the next parameter, which is a child, and which is refused and why.
--- Assumes nothing.
 use Prim.Native.Nat.{ℕ}
 use mathlib.Core.Path.{_≡_, refl, _∙_}
 use mathlib.Core.Bool.{Bool, true, false, cond, _||_}
@@ -7,15 +6,15 @@ use mathlib.Core.Logic.{⊎-elim}
 use mathlib.Core.List.{List, [], _∷_, List·Memᴰ, List·Memᴰ·head, List·Memᴰ·eq-of-singleton}
 use lib.Dec.{T, eqb, eqb-refl, eqb→eq}
 use borrow.Author.Tests.{eqb-true, eqb-false, ne-eqb}
-use Rattle.laws.proofs.Booleans.{cond-case, bool-case, or-true, or-left, true-T, T-true, not-T-false, false-not-T}
-use Rattle.elements.specs.Bytes.{among}
-use Rattle.elements.specs.Class as Class
-use Rattle.elements.specs.Rules.{Slot, must, may, id-type, Content, alternatives, exactly-one, alternativesOf, Rule, rules, ruleOf}
-use Rattle.elements.specs.Inside.{State, expecting, holding, Step, go, bad, step, ended, noneRequired, mayBeEmpty}
-use Rattle.elements.specs.Inside.{firstChild, nextChild, nextParameter, isInclude, someHas, chosen}
+use Rattle.base.proofs.Booleans.{cond-case, bool-case, or-true, or-left, true-T, T-true, not-T-false, false-not-T}
+use Rattle.elements.specs.rules.Bytes.{among}
+use Rattle.elements.specs.rules.Class as Class
+use Rattle.elements.specs.rules.Rules.{Slot, must, may, id-type, Content, alternatives, exactly-one, alternativesOf, Rule, rules, ruleOf}
+use Rattle.elements.specs.rules.Inside.{State, expecting, holding, Step, go, bad, step, ended, noneRequired, mayBeEmpty}
+use Rattle.elements.specs.rules.Inside.{firstChild, nextChild, nextParameter, isInclude, someHas, chosen}
 use Rattle.elements.proofs.EachRow.{each-kind}
 use Rattle.elements.proofs.Alternatives.{chosen-case, one-has, some-has, apart, chosen-one}
-use Rattle.document.specs.Faults.{Next, NoneDue, Absent, Begun, due, children, ContentPlace, Allowed, Chooses, SameSort, Taken, NoneRequired, MayEnd}
+use Rattle.document.specs.rules.Faults.{Next, NoneDue, Absent, Begun, due, children, ContentPlace, Allowed, Chooses, SameSort, Taken, NoneRequired, MayEnd}
 use Rattle.document.proofs.Classes.{chosen-allowed}
 
 abbrev pub begunOf : State → Begun

@@ -1,4 +1,4 @@
--- In a document the rows that a table's head binds are those of the table's body, so that rule 15 reads as document 01 puts it. Assumes nothing.
+-- In a document the rows that a table's head binds are those of the table's body, so that rule 15 reads as document 01 puts it.
 use Prim.Native.Nat.{ℕ, _+_, _≤_}
 use mathlib.Core.Path.{_≡_, _∙_, refl, sym, ap, subst}
 use mathlib.Core.Bool.{Bool, true, false, not, cond, _&&_, _||_}
@@ -7,17 +7,17 @@ use mathlib.Core.List.{List, [], _∷_}
 use native.Mathlib.Omega.{arith}
 use lib.Dec.{T, eqb, eqb→eq}
 use borrow.Author.Tests.{eqb-true, eqb-false, eq-eqb, ne-eqb}
-use Rattle.laws.proofs.Booleans.{cond-case, bool-case, both, or-true, not-true, T-true}
-use Rattle.elements.specs.Bytes.{among}
-use Rattle.elements.specs.Class as Class
-use Rattle.elements.specs.Rules.{Slot, must, may, id-type, Content, alternatives, exactly-one, alternativesOf, Rule, rules, ruleIn, ruleOf}
-use Rattle.elements.specs.Inside.{State, expecting, holding, Step, go, bad, isInclude, someHas, allows, firstChild, nextChild, nextParameter, step, start}
+use Rattle.base.proofs.Booleans.{cond-case, bool-case, both, or-true, not-true, T-true}
+use Rattle.elements.specs.rules.Bytes.{among}
+use Rattle.elements.specs.rules.Class as Class
+use Rattle.elements.specs.rules.Rules.{Slot, must, may, id-type, Content, alternatives, exactly-one, alternativesOf, Rule, rules, ruleIn, ruleOf}
+use Rattle.elements.specs.rules.Inside.{State, expecting, holding, Step, go, bad, isInclude, someHas, allows, firstChild, nextChild, nextParameter, step, start}
 use Rattle.elements.proofs.Alternatives.{chosen-case, some-has}
-use Rattle.document.specs.Document.{Tree, text, value, size, element, Trees, empty, holds, treeClass, Node, node, Nodes, childless, child, isNode, says, sayAll, Document}
-use Rattle.document.specs.RulesTest.{goesOn, keepsRules, keepRules}
-use Rattle.document.specs.Check.{Cells, exactly, headCells, cellsIn}
-use Rattle.document.specs.Visits.{childCount, nodeKind, nodeChildren}
-use Rattle.document.specs.Prose.{OneOf, In, InSome, RowAt, RowAmong, RowsMatch, RowsMatchHead}
+use Rattle.document.specs.rules.Document.{Tree, text, value, size, element, Trees, empty, holds, treeClass, Node, node, Nodes, childless, child, isNode, says, sayAll, Document}
+use Rattle.document.specs.reference.RulesTest.{goesOn, keepsRules, keepRules}
+use Rattle.document.specs.reference.Check.{Cells, exactly, headCells, cellsIn}
+use Rattle.document.specs.rules.Visits.{childCount, nodeKind, nodeChildren}
+use Rattle.document.specs.reference.Prose.{OneOf, In, InSome, RowAt, RowAmong, RowsMatch, RowsMatchHead}
 use Rattle.document.proofs.RulesTest.{kept-test}
 
 -- 1 if the two are the same class, else 0.

@@ -1,4 +1,4 @@
--- A block takes what `contentsOf` gives it, and every run of expressions is taken in some way; so the nested form of an imperative text is what `regroup` makes of it. Assumes nothing.
+-- A block takes what `contentsOf` gives it, and every run of expressions is taken in some way; so the nested form of an imperative text is what `regroup` makes of it.
 use Prim.Native.Nat.{ℕ, zero, suc, _≤_, _<_}
 use mathlib.Core.Path.{_≡_, refl}
 use mathlib.Core.Bool.{Bool, true, false, not}
@@ -6,12 +6,13 @@ use mathlib.Core.List.{List, [], _∷_}
 use native.Mathlib.Omega.{arith}
 use borrow.Author.Tests.{le-leb, lt-leb, leb-true, leb-false}
 use lib.Dec.{eqb, leb}
-use Rattle.laws.proofs.Booleans.{cond-case, both, true-T, T-true, not-true}
-use Rattle.elements.specs.Class as Class
-use Rattle.syntax.specs.Expression.{Expr, Exprs, none, and}
-use Rattle.document.specs.Lead.{exprClass}
-use Rattle.document.specs.Imperative.{isCommand, loose, block, stillOpen, childOf, opened, atInnermost, contentsOf, innermost, regroup}
-use Rattle.document.specs.Takes.{Takes, at-end, at-command, expression, a-block}
+use Rattle.base.proofs.Booleans.{cond-case, both, true-T, T-true, not-true}
+use Rattle.elements.specs.rules.Class as Class
+use Rattle.syntax.specs.rules.Expression.{Expr, Exprs, none, and}
+use Rattle.document.specs.rules.Lead.{exprClass}
+use Rattle.document.specs.reference.Imperative.{stillOpen, childOf, opened, atInnermost, contentsOf, innermost, regroup}
+use Rattle.document.specs.rules.Command.{isCommand, loose, block}
+use Rattle.document.specs.rules.Takes.{Takes, at-end, at-command, expression, a-block}
 
 pub takes-contents : {s : ℕ} {es content rest : Exprs} (blocks : List ℕ) → Takes s es content rest
     → contentsOf (s ∷ blocks) es ≡ content ∷ contentsOf blocks rest

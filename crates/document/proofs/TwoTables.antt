@@ -1,13 +1,14 @@
--- An example, computed: a row of a table without head, and an equal row of a table with head after it. Only the second has fault 15. Assumes nothing.
+-- An example, computed: a row of a table without head, and an equal row of a table with head after it. Only the second has fault 15.
 use mathlib.Core.Path.{_≡_, refl}
 use mathlib.Core.List.{List, [], _∷_, map}
 use native.Mathlib.Omega.{arith}
 use lib.ListN.{getD}
-use Rattle.elements.specs.Class as Class
-use Rattle.document.specs.Document.{Tree, element, empty, holds, Node, says, Document, missing}
-use Rattle.document.specs.Visits.{Visit, visits, visitsOf}
-use Rattle.document.specs.WellFormed.{BadRow, FirstSuch}
-use Rattle.document.specs.Check.{at-node, any-number, badRow}
+use Rattle.elements.specs.rules.Class as Class
+use Rattle.base.specs.rules.Limits.{missing}
+use Rattle.document.specs.rules.Document.{Tree, element, empty, holds, Node, says, Document}
+use Rattle.document.specs.rules.Visits.{Visit, visits, visitsOf}
+use Rattle.document.specs.rules.WellFormed.{BadRow, FirstSuch}
+use Rattle.document.specs.reference.Check.{at-node, any-number, badRow}
 use Rattle.document.proofs.Compute.{computes}
 use Rattle.document.proofs.RulesTest.{test-lawful}
 use Rattle.document.proofs.BadRow.{bad-row-found}

@@ -1,4 +1,4 @@
--- Demand 1 over the definitions: every text has one of the numbered answers, and 1 to 14 and 19 leave the lent memory as it was. Assumes nothing.
+-- Demand 1 over the definitions: every text has one of the numbered answers, and 1 to 14 and 19 leave the lent memory as it was.
 use Prim.Native.Nat.{ℕ, _≤_}
 use mathlib.Core.Path.{_≡_, refl}
 use mathlib.Core.Bool.{false}
@@ -6,11 +6,12 @@ use mathlib.Core.List.{List}
 use native.Mathlib.Omega.{arith}
 use borrow.Author.Tests.{lt-leb, ne-eqb}
 use lib.Dec.{T, eqb, leb}
-use Rattle.laws.proofs.Booleans.{and-false, false-not-T}
-use Rattle.document.specs.Spelling.{Spelling}
-use Rattle.document.specs.Answer.{answerAt, Memory, Outcome, refusal, noRoom, filled, outcome}
-use Rattle.document.specs.Account as Account
-use Rattle.document.specs.Account.{keepsMemory, Answers, too-long, ill-formed, no-node-room, no-pool-room, has-fault, accepted}
+use Rattle.base.proofs.Booleans.{and-false, false-not-T}
+use Rattle.document.specs.rules.Spelling.{Spelling}
+use Rattle.document.specs.reference.Outcome.{outcome}
+use Rattle.document.specs.rules.Memory.{answerAt, Memory, Outcome, refusal, noRoom, filled}
+use Rattle.document.specs.rules.Account as Account
+use Rattle.document.specs.rules.Account.{keepsMemory, Answers, too-long, ill-formed, no-node-room, no-pool-room, has-fault, accepted}
 use Rattle.document.proofs.Account.{answers}
 use Rattle.document.proofs.Numbers.{refused-number, fault-number}
 

@@ -1,4 +1,4 @@
--- A list led by a parameter's name is fine exactly when it writes a value that keeps the rules. Assumes nothing.
+-- A list led by a parameter's name is fine exactly when it writes a value that keeps the rules.
 use Prim.Native.Nat.{ℕ, _≤_}
 use mathlib.Core.Path.{_≡_, refl, sym, subst⁻¹}
 use mathlib.Core.Bool.{Bool, true, false, cond, _||_}
@@ -6,16 +6,16 @@ use mathlib.Core.Logic.{⊎-elim}
 use mathlib.Core.List.{List}
 use lib.Dec.{T, eqb, leb, eqb→eq, lit≤}
 use borrow.Author.Tests.{eqb-true}
-use Rattle.laws.proofs.Booleans.{cond-case, both, or-true, true-T, T-true}
-use Rattle.elements.specs.Class as Class
-use Rattle.syntax.specs.Expression.{Expr, symbol, quoted, list, Exprs, none, and}
-use Rattle.elements.specs.Characters.{typeCharacter, idCharacter}
-use Rattle.document.specs.Value.{nonEmpty, every, isValue, isSize, isDecimal, targetCharacter}
-use Rattle.document.specs.Document.{Tree, value, size}
-use Rattle.document.specs.RulesTest.{keepsRules}
-use Rattle.document.specs.Spelling.{WritesText, as-symbol, as-string, WritesNumber, Writes, writes-value, writes-type, writes-size}
-use Rattle.document.specs.Spelling.{holdsText, bracketed}
-use Rattle.document.specs.Meaning.{textBytes, symbolBytes, onlyOne, numberOf, sizeTree, valueTree}
+use Rattle.base.proofs.Booleans.{cond-case, both, or-true, true-T, T-true}
+use Rattle.elements.specs.rules.Class as Class
+use Rattle.syntax.specs.rules.Expression.{Expr, symbol, quoted, list, Exprs, none, and}
+use Rattle.elements.specs.rules.Characters.{typeCharacter, idCharacter}
+use Rattle.document.specs.rules.Value.{nonEmpty, every, isValue, isSize, isDecimal, targetCharacter}
+use Rattle.document.specs.rules.Document.{Tree, value, size}
+use Rattle.document.specs.reference.RulesTest.{keepsRules}
+use Rattle.document.specs.rules.Spelling.{WritesText, as-symbol, as-string, WritesNumber, Writes, writes-value, writes-type, writes-size}
+use Rattle.document.specs.rules.Spelling.{holdsText, bracketed}
+use Rattle.document.specs.reference.Meaning.{textBytes, symbolBytes, onlyOne, numberOf, sizeTree, valueTree}
 
 -- The expression is a symbol of these bytes.
 data IsSymbol (s : List ℕ) : Expr → Type 0 where

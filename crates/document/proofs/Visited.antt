@@ -1,13 +1,14 @@
--- The visits of a node are the nodes that stand in it, and a node's children are visited under its number. Assumes nothing.
+-- The visits of a node are the nodes that stand in it, and a node's children are visited under its number.
 use Prim.Native.Nat.{ℕ, _+_}
 use mathlib.Core.Path.{_≡_, refl, sym}
 use mathlib.Core.Logic.{_⊎_, inl, inr}
 use mathlib.Core.List.{List, List·Memᴰ, List·Memᴰ·head, List·Memᴰ·tail, List·Memᴰ·not-nil, List·Memᴰ·cases-cons, List·Memᴰ·append-cases, Memᴰ·append-left, Memᴰ·append-right}
 use lib.ListN.{length}
-use Rattle.document.specs.Document.{Node, node, Nodes, childless, child, missing}
-use Rattle.document.specs.Table.{count, pool}
-use Rattle.document.specs.Visits.{nodeChildren, Visit, visits, visitsAll, visitsOf}
-use Rattle.document.specs.Prose.{OneOf, In, InSome}
+use Rattle.base.specs.rules.Limits.{missing}
+use Rattle.document.specs.rules.Document.{Node, node, Nodes, childless, child}
+use Rattle.document.specs.rules.Table.{count, pool}
+use Rattle.document.specs.rules.Visits.{nodeChildren, Visit, visits, visitsAll, visitsOf}
+use Rattle.document.specs.reference.Prose.{OneOf, In, InSome}
 use Rattle.document.proofs.Records.{subtree-in}
 
 mutual

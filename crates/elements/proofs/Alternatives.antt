@@ -1,14 +1,14 @@
--- Which alternative of a content has a class, and which one a first child chooses. Assumes nothing.
+-- Which alternative of a content has a class, and which one a first child chooses.
 use Prim.Native.Nat.{ℕ}
 use mathlib.Core.Path.{_≡_, refl, subst}
 use mathlib.Core.Logic.{⊎-elim}
 use mathlib.Core.Bool.{Bool, true, false, not, _&&_}
 use mathlib.Core.List.{List, [], _∷_, List·Memᴰ, List·Memᴰ·head, List·Memᴰ·tail}
 use lib.Dec.{T, T-not}
-use Rattle.laws.proofs.Booleans.{cond-case, both, or-true, or-left, or-right, true-T, T-true, not-T-false}
-use Rattle.laws.proofs.Tables.{every}
-use Rattle.elements.specs.Bytes.{among}
-use Rattle.elements.specs.Inside.{holding, Step, go, bad, someHas, chosen}
+use Rattle.base.proofs.Booleans.{cond-case, both, or-true, or-left, or-right, true-T, T-true, not-T-false}
+use Rattle.base.proofs.Tables.{every}
+use Rattle.elements.specs.rules.Bytes.{among}
+use Rattle.elements.specs.rules.Inside.{holding, Step, go, bad, someHas, chosen}
 use Rattle.elements.proofs.Same.{each-among}
 
 module _ (c : ℕ) where

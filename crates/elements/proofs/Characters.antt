@@ -1,12 +1,12 @@
--- The characters of values, found by comparisons of a byte. Assumes nothing.
+-- The characters of values, found by comparisons of a byte.
 use mathlib.Core.Path.{_≡_, sym, _∙_}
 use mathlib.Core.Bool.{Bool, true, false}
 use Prim.Native.Nat.{ℕ, _≤_, _<_}
 use native.Mathlib.Omega.{arith}
 use lib.Dec.{eqb, leb}
 use borrow.Author.Tests.{le-leb, lt-leb, ne-eqb}
-use Rattle.laws.proofs.Booleans.{cond-case, and-true, and-false, or-none}
-use Rattle.elements.specs.Characters.{isLetter, isDigit, typeCharacter, idCharacter, uriCharacter, characterOf}
+use Rattle.base.proofs.Booleans.{cond-case, and-true, and-false, or-none}
+use Rattle.elements.specs.rules.Characters.{isLetter, isDigit, typeCharacter, idCharacter, uriCharacter, characterOf}
 
 module _ (b : ℕ) where
   pub type-digit : b ≤ 0x39 → leb 0x30 b ≡ typeCharacter b

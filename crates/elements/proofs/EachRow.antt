@@ -1,11 +1,11 @@
--- What is tested of each row of the rules, and of the row of a number that has none, holds of every number's row. Assumes nothing.
+-- What is tested of each row of the rules, and of the row of a number that has none, holds of every number's row.
 use Prim.Native.Nat.{ℕ}
 use mathlib.Core.Bool.{Bool}
 use mathlib.Core.List.{List, [], _∷_}
 use lib.Dec.{T, eqb}
-use Rattle.laws.proofs.Booleans.{cond-case, both}
-use Rattle.laws.proofs.Tables.{every}
-use Rattle.elements.specs.Rules.{alternatives, Rule, rules, ruleIn, ruleOf}
+use Rattle.base.proofs.Booleans.{cond-case, both}
+use Rattle.base.proofs.Tables.{every}
+use Rattle.elements.specs.rules.Rules.{alternatives, Rule, rules, ruleIn, ruleOf}
 
 -- The row of a number that has none.
 abbrev pub empty : ℕ → Rule

@@ -1,5 +1,5 @@
 -- A name and its class tell each other: what is printed of a class is read back as that class, and what has a class is printed of it.
--- Each theorem is one test that antt computes over all names. Assumes nothing.
+-- Each theorem is one test that antt computes over all names.
 use Prim.Native.Nat.{ℕ, _≤_}
 use mathlib.Core.Path.{_≡_, refl, sym, _∙_}
 use mathlib.Core.Bool.{Bool, _||_}
@@ -7,10 +7,10 @@ use mathlib.Core.List.{List, [], _∷_, List·Memᴰ}
 use native.Mathlib.Omega.{arith}
 use borrow.Author.Tests.{ne-eqb}
 use lib.Dec.{T, eqb, eqb→eq}
-use Rattle.laws.proofs.Booleans.{cond-case, both, true-T}
-use Rattle.laws.proofs.Tables.{every, each, below, each-below}
-use Rattle.elements.specs.Bytes.{same}
-use Rattle.elements.specs.Class.{Named, names, text, classIn, classOf, nameIn, nameOf}
+use Rattle.base.proofs.Booleans.{cond-case, both, true-T}
+use Rattle.base.proofs.Tables.{every, each, below, each-below}
+use Rattle.elements.specs.rules.Bytes.{same}
+use Rattle.elements.specs.rules.Class.{Named, names, text, classIn, classOf, nameIn, nameOf}
 use Rattle.elements.proofs.Same.{same-equal}
 
 abbrev reads-back : Named → Bool

@@ -1,12 +1,12 @@
--- The ranges of `Characters` are the characters written out in `specs/PlainCharacters.antt`, by computation over all 256 bytes. Assumes nothing.
+-- The ranges of `Characters` are the characters written out in `specs/examples/PlainCharacters.antt`, by computation over all 256 bytes.
 use Prim.Native.Nat.{ℕ}
 use Prim.Native.String.{String}
 use mathlib.Core.Bool.{Bool, _&&_}
 use lib.Dec.{T}
-use Rattle.laws.proofs.Tables.{below, alike}
-use Rattle.elements.specs.Bytes.{codes, among}
-use Rattle.elements.specs.Characters.{isDigit, isLetter, typeCharacter, idCharacter, uriCharacter, characterOf}
-use Rattle.elements.specs.PlainCharacters.{ofDigit, ofType, ofId, ofUri}
+use Rattle.base.proofs.Tables.{below, alike}
+use Rattle.elements.specs.rules.Bytes.{codes, among}
+use Rattle.elements.specs.rules.Characters.{isDigit, isLetter, typeCharacter, idCharacter, uriCharacter, characterOf}
+use Rattle.elements.specs.examples.PlainCharacters.{ofDigit, ofType, ofId, ofUri}
 
 abbrev written : (ℕ → Bool) → String → ℕ → Bool
 written test s b = alike (test b) (among b (codes s))

@@ -1,14 +1,14 @@
--- The steps of `Inside` are those of the lines of `specs/PlainInside.antt`, by computation: for every line and every class, and no line is missing. Assumes nothing.
+-- The steps of `Inside` are those of the lines of `specs/examples/PlainInside.antt`, by computation: for every line and every class, and no line is missing.
 use Prim.Native.Nat.{ℕ}
 use mathlib.Core.Bool.{Bool, false, not, cond, _&&_, _||_}
 use mathlib.Core.List.{List, [], _∷_, _++_}
 use lib.Dec.{T, eqb}
-use Rattle.laws.proofs.Tables.{every, below, alike}
-use Rattle.elements.specs.Bytes.{same, among}
-use Rattle.elements.specs.Class.{significance}
-use Rattle.elements.specs.Rules.{alternativesOf, rules, ruleIn, ruleOf}
-use Rattle.elements.specs.Inside.{State, expecting, holding, Step, go, bad, step, start, ended, noneRequired, mayBeEmpty, nextParameter, nextChild, firstChild, allows, chosen, someHas, isInclude}
-use Rattle.elements.specs.PlainInside.{Entry, entries, said}
+use Rattle.base.proofs.Tables.{every, below, alike}
+use Rattle.elements.specs.rules.Bytes.{same, among}
+use Rattle.elements.specs.rules.Class.{significance}
+use Rattle.elements.specs.rules.Rules.{alternativesOf, rules, ruleIn, ruleOf}
+use Rattle.elements.specs.rules.Inside.{State, expecting, holding, Step, go, bad, step, start, ended, noneRequired, mayBeEmpty, nextParameter, nextChild, firstChild, allows, chosen, someHas, isInclude}
+use Rattle.elements.specs.examples.PlainInside.{Entry, entries, said}
 
 -- The next step from where one leads.
 abbrev then : ℕ → ℕ → Step → Step

@@ -1,14 +1,14 @@
--- The names and numbers of `Class` agree with the plain text of `specs/PlainNames.antt`, by computation. Assumes nothing.
+-- The names and numbers of `Class` agree with the plain text of `specs/examples/PlainNames.antt`, by computation.
 use Prim.Native.Nat.{ℕ}
 use mathlib.Core.Path.{_≡_, refl}
 use mathlib.Core.Bool.{Bool, cond}
 use mathlib.Core.List.{List, [], _∷_, _++_, map}
 use lib.Dec.{T, eqb}
 use lib.ListN.{getD, take, replicate}
-use Rattle.laws.proofs.Tables.{every, below}
-use Rattle.elements.specs.Bytes.{same}
-use Rattle.elements.specs.Class.{names, classIn, classOf, isKind, isElement, kindOf, isBlock, significance}
-use Rattle.elements.specs.PlainNames.{inOrder, classes, misspelled, beginnings, endings, beginning, ending, marked, markedBy}
+use Rattle.base.proofs.Tables.{every, below}
+use Rattle.elements.specs.rules.Bytes.{same}
+use Rattle.elements.specs.rules.Class.{names, classIn, classOf, isKind, isElement, kindOf, isBlock, significance}
+use Rattle.elements.specs.examples.PlainNames.{inOrder, classes, misspelled, beginnings, endings, beginning, ending, marked, markedBy}
 
 -- Each name has its number.
 pub names-in-order : map classOf inOrder ≡ classes

@@ -1,4 +1,4 @@
--- What the tests `same` of two byte strings and `among` of a number tell. Assumes nothing.
+-- What the tests `same` of two byte strings and `among` of a number tell.
 use Prim.Native.Nat.{ℕ, suc, _+_, _<_, _≤_}
 use mathlib.Core.Path.{_≡_, _∙_, refl, ap}
 use mathlib.Core.Bool.{Bool, true, false, _&&_, and-false}
@@ -10,9 +10,9 @@ use lib.Dec.{T, eqb, eqb→eq}
 use lib.ListN.{length, getD, drop, drop-of-length-le}
 use lib.Seq.{drop-cons}
 use borrow.Author.Tests.{eq-eqb, ne-eqb}
-use Rattle.laws.proofs.Booleans.{both, or-true}
-use Rattle.laws.proofs.Tables.{every}
-use Rattle.elements.specs.Bytes.{same, among}
+use Rattle.base.proofs.Booleans.{both, or-true}
+use Rattle.base.proofs.Tables.{every}
+use Rattle.elements.specs.rules.Bytes.{same, among}
 
 -- Strings that pass the test are equal.
 pub same-equal : (xs ys : List ℕ) → T (same xs ys) → xs ≡ ys

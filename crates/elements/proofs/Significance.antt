@@ -1,16 +1,16 @@
 -- The significance of a child tells its alternative: all kinds of one alternative of a row have one significance, and those of another have another.
--- One test that antt computes over the rows. Assumes nothing.
+-- One test that antt computes over the rows.
 use Prim.Native.Nat.{ℕ}
 use mathlib.Core.Path.{_≡_, sym, _∙_}
 use mathlib.Core.Bool.{Bool}
 use mathlib.Core.List.{List, List·Memᴰ}
 use lib.Dec.{T, eqb}
 use borrow.Author.Tests.{eqb-true, eq-eqb}
-use Rattle.laws.proofs.Booleans.{true-T}
-use Rattle.laws.proofs.Tables.{every, each, alike, alike-eq}
-use Rattle.elements.specs.Bytes.{same, among}
-use Rattle.elements.specs.Class.{significance}
-use Rattle.elements.specs.Rules.{alternativesOf, Rule, rules, ruleOf}
+use Rattle.base.proofs.Booleans.{true-T}
+use Rattle.base.proofs.Tables.{every, each, alike, alike-eq}
+use Rattle.elements.specs.rules.Bytes.{same, among}
+use Rattle.elements.specs.rules.Class.{significance}
+use Rattle.elements.specs.rules.Rules.{alternativesOf, Rule, rules, ruleOf}
 use Rattle.elements.proofs.Same.{same-equal, same-itself, each-among}
 use Rattle.elements.proofs.EachRow.{each-kind}
 

@@ -1,9 +1,2 @@
-pub mod Bytes
-pub mod Class
-pub mod Rules
-pub mod Inside
-pub mod Examples
-pub mod Characters
-pub mod PlainNames
-pub mod PlainCharacters
-pub mod PlainInside
+pub mod rules
+pub mod examples

@@ -1,4 +1,4 @@
--- What a `match` on a number knows past its last arm. Assumes nothing.
+-- What a `match` on a number knows past its last arm.
 use Prim.Native.Nat.{ℕ}
 use mathlib.Core.Path.{_≡_}
 use mathlib.Core.List.{List, [], _∷_}

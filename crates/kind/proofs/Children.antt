@@ -1,4 +1,4 @@
--- Children by their significance: in a row it tells the alternatives apart, so that code compares it where the rules compare alternatives. Assumes nothing.
+-- Children by their significance: in a row it tells the alternatives apart, so that code compares it where the rules compare alternatives.
 use Prim.Native.Nat.{ℕ, _+_, _-_, _≤_}
 use mathlib.Core.Path.{_≡_, _∙_, refl, sym, ap}
 use mathlib.Core.Logic.{⊎-elim}
@@ -7,11 +7,11 @@ use mathlib.Core.List.{List, [], _∷_, List·Memᴰ, List·Memᴰ·head, List·
 use native.Mathlib.Omega.{arith}
 use lib.Dec.{T, eqb, eqb→eq}
 use borrow.Author.Tests.{eq-eqb, ne-eqb, eqb-true, eqb-false}
-use Rattle.laws.proofs.Booleans.{cond-case, bool-case, or-true, or-left, or-right, true-T, T-true, not-T-false, false-not-T}
-use Rattle.elements.specs.Bytes.{among}
-use Rattle.elements.specs.Class.{significance}
-use Rattle.elements.specs.Rules.{Content, alternatives, exactly-one, alternativesOf, ruleOf}
-use Rattle.elements.specs.Inside.{holding, Step, go, bad, isInclude, allows, firstChild, nextChild, mayBeEmpty}
+use Rattle.base.proofs.Booleans.{cond-case, bool-case, or-true, or-left, or-right, true-T, T-true, not-T-false, false-not-T}
+use Rattle.elements.specs.rules.Bytes.{among}
+use Rattle.elements.specs.rules.Class.{significance}
+use Rattle.elements.specs.rules.Rules.{Content, alternatives, exactly-one, alternativesOf, ruleOf}
+use Rattle.elements.specs.rules.Inside.{holding, Step, go, bad, isInclude, allows, firstChild, nextChild, mayBeEmpty}
 use Rattle.elements.proofs.Alternatives.{chosen-case, one-has, some-has}
 use Rattle.elements.proofs.Significance.{one-alternative, one-significance}
 use Rattle.kind.specs.Machine.{hasSignificance, alternativeOf, stateOf, withChild, InNumbers}

@@ -1,4 +1,4 @@
--- A name's class is found among the names that share a key with it: its length, or the byte at a place. Assumes nothing.
+-- A name's class is found among the names that share a key with it: its length, or the byte at a place.
 use Prim.Native.Nat.{ℕ}
 use mathlib.Core.Path.{_≡_, _∙_, refl, sym, ap}
 use mathlib.Core.Bool.{Bool, true, false, not, cond, true≢false}
@@ -6,9 +6,9 @@ use mathlib.Core.List.{List, [], _∷_}
 use lib.Dec.{eqb}
 use lib.ListN.{length, getD}
 use borrow.Author.Tests.{eq-eqb, ne-eqb}
-use Rattle.laws.proofs.Booleans.{not-T-false}
-use Rattle.elements.specs.Bytes.{same}
-use Rattle.elements.specs.Class.{Named, names, classIn, classOf}
+use Rattle.base.proofs.Booleans.{not-T-false}
+use Rattle.elements.specs.rules.Bytes.{same}
+use Rattle.elements.specs.rules.Class.{Named, names, classIn, classOf}
 use Rattle.elements.proofs.Same.{same-equal}
 use Rattle.kind.proofs.Arms.{Missed}
 

@@ -1,4 +1,4 @@
--- The steps of `Inside` by what the code tests on each way, with the states as numbers. Assumes nothing.
+-- The steps of `Inside` by what the code tests on each way, with the states as numbers.
 use Prim.Native.Nat.{ℕ, _+_, _-_, _<_, _≤_}
 use mathlib.Core.Path.{_≡_, _∙_, refl, sym, ap}
 use mathlib.Core.Logic.{⊎-elim}
@@ -10,11 +10,11 @@ use lib.Dec.{eqb}
 use lib.ListN.{drop}
 use lib.Seq.{drop-drop}
 use borrow.Author.Tests.{lt-ltb, le-ltb, eq-eqb, ne-eqb, eqb-true, eqb-false}
-use Rattle.elements.specs.Class as Class
-use Rattle.elements.specs.Rules.{Slot, must, may, id-type, Content, alternativesOf, ruleOf}
-use Rattle.elements.specs.Inside.{expecting, holding, Step, go, bad, firstChild, nextParameter, start, noneRequired, mayBeEmpty, ended}
+use Rattle.elements.specs.rules.Class as Class
+use Rattle.elements.specs.rules.Rules.{Slot, must, may, id-type, Content, alternativesOf, ruleOf}
+use Rattle.elements.specs.rules.Inside.{expecting, holding, Step, go, bad, firstChild, nextParameter, start, noneRequired, mayBeEmpty, ended}
 use Rattle.kind.specs.Machine.{alternativeOf, stateOf, stepOf, faultOf, withChild, afterPlace, nextState, InNumbers}
-use Rattle.kind.specs.Table.{led}
+use Rattle.kind.specs.internal.Table.{led}
 use Rattle.kind.proofs.Table.{past-four}
 
 -- An element begins in the state 0.

@@ -1,5 +1,4 @@
 -- The code's rows against the rules, by tests that antt computes: each row, and of `rules` itself what the code leaves out.
--- Assumes nothing.
 use Prim.Native.Nat.{ℕ, _+_, _-_, _*_, _/_, _%_, _^_, _<_, _≤_}
 use mathlib.Core.Path.{_≡_, _∙_, refl, sym, ap}
 use mathlib.Core.Bool.{Bool, true, false, not, _&&_, true≢false}
@@ -9,13 +8,13 @@ use lib.Dec.{T, eqb, leb, ltb, eqb→eq, leb→le, ltb→lt}
 use lib.ListN.{length, drop, drop-of-length-le}
 use lib.Seq.{drop-drop}
 use borrow.Author.Tests.{ne-eqb, leb-true, leb-false, lt-ltb, le-ltb}
-use Rattle.laws.proofs.Booleans.{both, not-T-false}
-use Rattle.laws.proofs.Tables.{every, each, below, each-below, alike, alike-eq}
-use Rattle.elements.specs.Bytes.{among}
-use Rattle.elements.specs.Class as Class
-use Rattle.elements.specs.Rules.{Slot, must, may, id-type, alternativesOf, Rule, rules, ruleIn, ruleOf}
-use Rattle.elements.specs.Inside.{someHas, allows, isInclude, mayBeEmpty}
-use Rattle.kind.specs.Table.{led, packed, code, bits}
+use Rattle.base.proofs.Booleans.{both, not-T-false}
+use Rattle.base.proofs.Tables.{every, each, below, each-below, alike, alike-eq}
+use Rattle.elements.specs.rules.Bytes.{among}
+use Rattle.elements.specs.rules.Class as Class
+use Rattle.elements.specs.rules.Rules.{Slot, must, may, id-type, alternativesOf, Rule, rules, ruleIn, ruleOf}
+use Rattle.elements.specs.rules.Inside.{someHas, allows, isInclude, mayBeEmpty}
+use Rattle.kind.specs.internal.Table.{led, packed, code, bits}
 use Rattle.elements.proofs.Same.{each-among}
 use Rattle.elements.proofs.EachRow.{empty, each-kind}
 use Rattle.elements.proofs.Alternatives.{one-has}

@@ -6,9 +6,9 @@ use mathlib.Core.Bool.{Bool, false, cond, _||_}
 use mathlib.Core.List.{List, [], _∷_}
 use lib.Dec.{eqb, ltb}
 use lib.ListN.{drop}
-use Rattle.elements.specs.Class as Class
-use Rattle.elements.specs.Rules.{Slot, must, may, id-type, alternativesOf, ruleOf}
-use Rattle.elements.specs.Inside.{State, expecting, holding, Step, go, bad}
+use Rattle.elements.specs.rules.Class as Class
+use Rattle.elements.specs.rules.Rules.{Slot, must, may, id-type, alternativesOf, ruleOf}
+use Rattle.elements.specs.rules.Inside.{State, expecting, holding, Step, go, bad}
 
 -- A kind of this alternative has the significance n; then all its kinds have it (`one-significance` of `elements/proofs/Significance.antt`).
 unfoldable pub hasSignificance : ℕ → List ℕ → Bool

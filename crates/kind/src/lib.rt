@@ -10,7 +10,7 @@ pub use machine::may_end;
 pub use machine::step;
 pub use values::character;
 ghost use mathlib.Core.Path.{_≡_};
-ghost use Rattle.elements.specs.Class.{classOf, kindOf, significance};
+ghost use Rattle.elements.specs.rules.Class.{classOf, kindOf, significance};
 
 // An element's kind: "Kinds are numbered 1 to 25". Number 0 is no kind.
 pub struct Kind {

@@ -13,9 +13,9 @@ ghost use mathlib.Core.Bool.{cond};
 ghost use mathlib.Core.List.{[], _∷_};
 ghost use lib.Dec.{eqb};
 ghost use lib.ListN.{drop};
-ghost use Rattle.elements.specs.Class as Class;
-ghost use Rattle.elements.specs.Rules.{may, alternativesOf, ruleOf};
-ghost use Rattle.elements.specs.Inside.{ended, firstChild, isInclude, nextChild, nextParameter, noneRequired, step as stepped};
+ghost use Rattle.elements.specs.rules.Class as Class;
+ghost use Rattle.elements.specs.rules.Rules.{may, alternativesOf, ruleOf};
+ghost use Rattle.elements.specs.rules.Inside.{ended, firstChild, isInclude, nextChild, nextParameter, noneRequired, step as stepped};
 ghost use Rattle.kind.specs.Machine.{alternativeOf, stateOf, withChild, afterPlace, afterLast, nextState, InNumbers};
 
 // A step in numbers: fault 0 and the next state, or the number of the fault and state 0.

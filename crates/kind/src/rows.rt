@@ -5,9 +5,9 @@ use super::number;
 ghost use Prim.Native.Nat.{_+_};
 ghost use mathlib.Core.Path.{_≡_};
 ghost use lib.ListN.{drop};
-ghost use Rattle.elements.specs.Rules.{ruleOf};
-ghost use Rattle.elements.specs.Inside.{allows};
-ghost use Rattle.kind.specs.Table.{led, packed, bits};
+ghost use Rattle.elements.specs.rules.Rules.{ruleOf};
+ghost use Rattle.elements.specs.rules.Inside.{allows};
+ghost use Rattle.kind.specs.internal.Table.{led, packed, bits};
 
 // A required parameter is its class, and an optional one this and its class.
 pub const MAY: u8 = 64;

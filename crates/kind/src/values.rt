@@ -1,6 +1,6 @@
 // The characters of ids, types and targets (document 01, "Elements" and its settlements).
 ghost use mathlib.Core.Path.{_≡_};
-ghost use Rattle.elements.specs.Characters.{typeCharacter, idCharacter, uriCharacter, characterOf};
+ghost use Rattle.elements.specs.rules.Characters.{typeCharacter, idCharacter, uriCharacter, characterOf};
 
 fn type_character(b: u8) -> bool
     ensures { λ r. ⌜ r ≡ typeCharacter b ⌝ }

@@ -4,8 +4,8 @@ use super::Kind;
 ghost use mathlib.Core.Path.{_≡_};
 ghost use mathlib.Core.Bool.{cond};
 ghost use lib.ListN.{length};
-ghost use Rattle.elements.specs.Bytes.{same};
-ghost use Rattle.elements.specs.Class.{classOf};
+ghost use Rattle.elements.specs.rules.Bytes.{same};
+ghost use Rattle.elements.specs.rules.Class.{classOf};
 
 fn is(name: &[u8], word: &[u8]) -> bool
     ensures { λ r. ⌜ r ≡ same (now (name .entry)) (now (word .entry)) ⌝ }

@@ -1,4 +1,4 @@
--- White space and symbols, one byte at a time. Assumes nothing.
+-- White space and symbols, one byte at a time.
 use mathlib.Core.Path.{_≡_, refl, ap, _∙_}
 use mathlib.Core.Bool.{Bool, true, false, cond, _&&_, _||_}
 use mathlib.Core.List.{List, [], _∷_}
@@ -9,8 +9,8 @@ use lib.Dec.{eqb}
 use borrow.Author.Tests.{eq-eqb, ne-eqb}
 use lib.ListN.{length, take, drop, getD, drop-of-length-le}
 use lib.Seq.{drop-cons, getD-drop}
-use Rattle.syntax.specs.Byte.{byteClass, isBlank, isOrdinary}
-use Rattle.syntax.specs.Scan.{ordinaryRun}
+use Rattle.syntax.specs.rules.Byte.{byteClass, isBlank, isOrdinary}
+use Rattle.syntax.specs.reference.Scan.{ordinaryRun}
 use Rattle.lexer.specs.Token.{blanks, codeOf}
 use Rattle.lexer.proofs.Codes.{blank-code}
 

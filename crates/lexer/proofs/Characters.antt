@@ -1,4 +1,4 @@
--- Whether what a symbol or string stands for are characters of a sort. Assumes nothing.
+-- Whether what a symbol or string stands for are characters of a sort.
 use mathlib.Core.Path.{_≡_, refl, sym, ap, _∙_}
 use mathlib.Core.Bool.{Bool, true, false, not, _&&_}
 use mathlib.Core.List.{List, [], _∷_, _++_}
@@ -7,12 +7,12 @@ use native.Mathlib.Omega.{arith}
 use lib.Dec.{eqb, leb}
 use lib.ListN.{length, drop, getD, drop-of-length-le}
 use borrow.Author.Tests.{eqb-true, eqb-false}
-use Rattle.laws.proofs.Booleans.{bool-case, cond-case, and-true}
-use Rattle.utf8.specs.Scalar.{encode}
-use Rattle.elements.specs.Characters.{characterOf}
-use Rattle.syntax.specs.Syntax.{Piece, raw, letter, number, hexValue, isPiece, pieceValue, piecesValue}
-use Rattle.syntax.specs.Scan.{Quoted, closed, unclosed, bad-escape, piece, ordinaryRun, quotedFrom}
-use Rattle.syntax.specs.Byte.{byteClass}
+use Rattle.base.proofs.Booleans.{bool-case, cond-case, and-true}
+use Rattle.utf8.specs.rules.Scalar.{encode}
+use Rattle.elements.specs.rules.Characters.{characterOf}
+use Rattle.syntax.specs.rules.Syntax.{Piece, raw, letter, number, hexValue, isPiece, pieceValue, piecesValue}
+use Rattle.syntax.specs.reference.Scan.{Quoted, closed, unclosed, bad-escape, piece, ordinaryRun, quotedFrom}
+use Rattle.syntax.specs.rules.Byte.{byteClass}
 use Rattle.lexer.specs.Token.{codeOf, stringAt, contentOf, pieceAt, fits}
 use Rattle.elements.proofs.Characters.{none-high}
 use Rattle.lexer.proofs.Blanks.{run-turn, run-stop}

@@ -1,12 +1,12 @@
--- The numbers of the classes of bytes, and what a class's number tells of the class. Assumes nothing.
+-- The numbers of the classes of bytes, and what a class's number tells of the class.
 use mathlib.Core.Path.{_≡_, refl, sym, _∙_, ap}
 use mathlib.Core.Bool.{true, false, cond}
 use Prim.Native.Nat.{ℕ, _≤_, _<_}
 use native.Mathlib.Omega.{arith}
 use lib.Dec.{eqb}
 use borrow.Author.Tests.{eq-eqb, ne-eqb, eqb-false, lt-ltb, le-ltb}
-use Rattle.laws.proofs.Booleans.{bool-case, cond-case}
-use Rattle.syntax.specs.Byte.{round, square, ByteClass, blank, return, quote, forbidden, ordinary, opening, closing, byteClass, blankClass, ordinaryClass, isBlank, isOrdinary}
+use Rattle.base.proofs.Booleans.{bool-case, cond-case}
+use Rattle.syntax.specs.rules.Byte.{round, square, ByteClass, blank, return, quote, forbidden, ordinary, opening, closing, byteClass, blankClass, ordinaryClass, isBlank, isOrdinary}
 use Rattle.lexer.specs.Token.{codeOf}
 
 -- The class's number of a byte that is none of those which have a class of their own.

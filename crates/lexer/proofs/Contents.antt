@@ -1,4 +1,4 @@
--- What a string stands for, piece by piece. Assumes nothing.
+-- What a string stands for, piece by piece.
 use mathlib.Core.Path.{_≡_, refl, ap, sym, _∙_}
 use mathlib.Core.Bool.{Bool, true, false, cond}
 use mathlib.Core.List.{List, [], _∷_, _++_}
@@ -9,14 +9,14 @@ use lib.Dec.{eqb, leb}
 use borrow.Author.Tests.{eq-eqb, ne-eqb, leb-true, leb-false}
 use lib.ListN.{length, take, drop, getD, length-append, drop-of-length-le}
 use lib.Seq.{sets, drop-cons, drop-drop}
-use Rattle.laws.proofs.Booleans.{bool-case, true-T}
-use Rattle.syntax.specs.Syntax.{Piece, raw, isPiece, pieceBefore, pieceValue, piecesValue}
-use Rattle.syntax.specs.Scan.{Quoted, closed, unclosed, bad-escape, piece, escapeAt, quotedFrom, ordinaryRun}
+use Rattle.base.proofs.Booleans.{bool-case, true-T}
+use Rattle.syntax.specs.rules.Syntax.{Piece, raw, isPiece, pieceBefore, pieceValue, piecesValue}
+use Rattle.syntax.specs.reference.Scan.{Quoted, closed, unclosed, bad-escape, piece, escapeAt, quotedFrom, ordinaryRun}
 use Rattle.lexer.specs.Token.{stringEnd, stringAt, contentOf, pieceAt, atomValue}
 use Rattle.syntax.proofs.Escapes.{first-of}
 use Rattle.lexer.proofs.PieceAt.{piece-few, piece-short, Told, Stands, stands-told, raw-piece, read-on}
-use Rattle.lexer.specs.Run.{plainRun}
-use Rattle.laws.proofs.Stores.{sets-append}
+use Rattle.lexer.specs.internal.Run.{plainRun}
+use Rattle.base.proofs.Stores.{sets-append}
 use Rattle.lexer.proofs.Written.{bytes-of}
 use Rattle.lexer.proofs.Runs.{plains, raws, quoted-passed, plain-part}
 

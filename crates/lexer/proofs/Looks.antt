@@ -1,4 +1,4 @@
--- What is seen at a place, by the class of its byte and the names that lead lists. Assumes nothing.
+-- What is seen at a place, by the class of its byte and the names that lead lists.
 use mathlib.Core.Path.{_≡_, refl, sym, _∙_}
 use mathlib.Core.Logic.{_⊎_, inr, ⊎-elim}
 use mathlib.Core.List.{List, _∷_}
@@ -7,9 +7,9 @@ use native.Mathlib.Omega.{arith}
 use native.Mathlib.Numerals.{add-one}
 use lib.ListN.{length, take, drop, getD, length-drop, drop-of-length-le}
 use lib.Seq.{drop-cons, drop-drop}
-use Rattle.elements.specs.Class.{classOf}
-use Rattle.syntax.specs.Byte.{round, square, ByteClass, blank, return, quote, forbidden, ordinary, opening, closing, byteClass}
-use Rattle.syntax.specs.Scan.{ordinaryRun}
+use Rattle.elements.specs.rules.Class.{classOf}
+use Rattle.syntax.specs.rules.Byte.{round, square, ByteClass, blank, return, quote, forbidden, ordinary, opening, closing, byteClass}
+use Rattle.syntax.specs.reference.Scan.{ordinaryRun}
 use Rattle.lexer.specs.Token.{codeOf, blanks, stringAt, leadClassAt, leadLength, Seen, seenEnd, seenBy, seenFirst, seen}
 use Rattle.lexer.proofs.Blanks.{blank-stop, blanks-fit, run-fits, run-part}
 use Rattle.lexer.proofs.Codes.{classBy, code-class}

@@ -1,4 +1,4 @@
--- The piece of a string that stands at a place: what the code has of it, how long it is, and how the string goes on after it. Assumes nothing.
+-- The piece of a string that stands at a place: what the code has of it, how long it is, and how the string goes on after it.
 use Prim.Native.Nat.{ℕ, suc, _+_, _≤_, _<_}
 use mathlib.Core.Path.{_≡_, refl, ap, sym, _∙_}
 use mathlib.Core.Bool.{Bool, true, false, cond}
@@ -9,13 +9,13 @@ use lib.Dec.{T, eqb, leb}
 use lib.ListN.{length, drop, getD}
 use lib.Seq.{drop-cons, drop-drop, drop-at}
 use borrow.Author.Tests.{eqb-true, ne-eqb, le-leb}
-use Rattle.laws.proofs.Booleans.{bool-case, cond-case, true-T}
-use Rattle.utf8.specs.Scalar.{encode}
-use Rattle.syntax.specs.Byte.{isRaw}
-use Rattle.syntax.specs.Syntax.{Piece, raw, letter, number, isPiece, pieceBefore, pieceValue, letterValue, hexValue}
-use Rattle.syntax.specs.Scan.{piece, escapeAt, quotedFrom}
+use Rattle.base.proofs.Booleans.{bool-case, cond-case, true-T}
+use Rattle.utf8.specs.rules.Scalar.{encode}
+use Rattle.syntax.specs.rules.Byte.{isRaw}
+use Rattle.syntax.specs.rules.Syntax.{Piece, raw, letter, number, isPiece, pieceBefore, pieceValue, letterValue, hexValue}
+use Rattle.syntax.specs.reference.Scan.{piece, escapeAt, quotedFrom}
 use Rattle.lexer.specs.Token.{pieceAt}
-use Rattle.lexer.specs.Step.{pieceLength, pieceBytes}
+use Rattle.lexer.specs.internal.Step.{pieceLength, pieceBytes}
 use Rattle.syntax.proofs.Strings.{Digits, digits-of, piece-append, quoted-piece, escape-spelled}
 use Rattle.syntax.proofs.Escapes.{hex-small, first-of}
 

@@ -1,4 +1,4 @@
--- Runs of the bytes of a string that stand for themselves. Assumes nothing.
+-- Runs of the bytes of a string that stand for themselves.
 use mathlib.Core.Path.{_≡_, refl, sym, ap, _∙_}
 use mathlib.Core.Bool.{Bool, true, false, cond, _&&_}
 use mathlib.Core.List.{List, [], _∷_}
@@ -9,11 +9,11 @@ use lib.Dec.{leb, leb·suc-suc}
 use borrow.Author.Tests.{leb-true, le-leb, lt-leb}
 use lib.ListN.{length, take, drop, getD, drop-of-length-le}
 use lib.Seq.{drop-cons, drop-drop}
-use Rattle.syntax.specs.Byte.{isRaw}
-use Rattle.syntax.specs.Syntax.{raw, isPiece}
-use Rattle.syntax.specs.Scan.{Quoted, piece, quotedFrom}
+use Rattle.syntax.specs.rules.Byte.{isRaw}
+use Rattle.syntax.specs.rules.Syntax.{raw, isPiece}
+use Rattle.syntax.specs.reference.Scan.{Quoted, piece, quotedFrom}
 use Rattle.syntax.proofs.Strings.{raw-tests}
-use Rattle.lexer.specs.Run.{plainRun}
+use Rattle.lexer.specs.internal.Run.{plainRun}
 
 -- So many plain bytes stand at the front, and so many more after them.
 front : (m n : ℕ) (s : List ℕ) → leb m (length (plainRun s)) && leb n (length (plainRun (drop m s))) ≡ leb (m + n) (length (plainRun s))

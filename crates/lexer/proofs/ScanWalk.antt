@@ -1,4 +1,4 @@
--- The scan byte by byte: what is left to scan gives the same answer at each step. The open brackets stand in two arrays. Assumes nothing.
+-- The scan byte by byte: what is left to scan gives the same answer at each step. The open brackets stand in two arrays.
 use Prim.Native.Nat.{ℕ, zero, suc, _+_, _-_, _≤_, _<_}
 use mathlib.Core.Path.{_≡_, refl, ap, sym, _∙_}
 use mathlib.Core.Bool.{Bool, true, false, cond}
@@ -10,12 +10,12 @@ use lib.Dec.{eqb}
 use lib.ListN.{length, drop, getD, set, drop-of-length-le}
 use lib.Seq.{drop-cons, drop-drop, getD-set-same, getD-set-other}
 use borrow.Author.Tests.{eqb-true}
-use Rattle.laws.proofs.Booleans.{bool-case, cond-case, true-T}
-use Rattle.syntax.specs.Byte.{Bracket, round, square, ByteClass, blank, return, quote, forbidden, ordinary, opening, closing, byteClass, isOrdinary, sameBracket}
-use Rattle.syntax.specs.Syntax.{Leaf, space, line-end, word, string, piecesBefore}
-use Rattle.syntax.specs.Scan.{Quoted, closed, unclosed, bad-escape, quotedFrom, quotedItem, ordinaryRun, Items, a-leaf, itemAt, itemsFrom, Open, Levels, fault, level, addLeaf, wrap, endLevel, atEnd, oneMore, oneLess, build, outermost}
+use Rattle.base.proofs.Booleans.{bool-case, cond-case, true-T}
+use Rattle.syntax.specs.rules.Byte.{Bracket, round, square, ByteClass, blank, return, quote, forbidden, ordinary, opening, closing, byteClass, isOrdinary, sameBracket}
+use Rattle.syntax.specs.rules.Syntax.{Leaf, space, line-end, word, string, piecesBefore}
+use Rattle.syntax.specs.reference.Scan.{Quoted, closed, unclosed, bad-escape, quotedFrom, quotedItem, ordinaryRun, Items, a-leaf, itemAt, itemsFrom, Open, Levels, fault, level, addLeaf, wrap, endLevel, atEnd, oneMore, oneLess, build, outermost}
 use Rattle.lexer.specs.Token.{codeOf, stringEnd, stringAt, scanNumber, scanPlace}
-use Rattle.lexer.specs.Step.{Passed, goesOn, stops, pastString, passedAt, bracketOf, closesIt}
+use Rattle.lexer.specs.internal.Step.{Passed, goesOn, stops, pastString, passedAt, bracketOf, closesIt}
 use Rattle.lexer.proofs.Codes.{classBy, code-class}
 use Rattle.syntax.proofs.Classes.{ordinary-class}
 use Rattle.syntax.proofs.Items.{item-of}

@@ -1,4 +1,4 @@
--- A string read piece by piece: what is left to read gives the same answer at each piece. Assumes nothing.
+-- A string read piece by piece: what is left to read gives the same answer at each piece.
 use Prim.Native.Nat.{ℕ, suc, _+_, _-_, _≤_, _<_}
 use mathlib.Core.Path.{_≡_, refl, ap, sym, _∙_}
 use mathlib.Core.Bool.{Bool, true, false, cond}
@@ -9,13 +9,13 @@ use lib.Dec.{eqb, leb}
 use lib.ListN.{length, drop, getD, length-append, drop-of-length-le, List·getD-eq-default}
 use lib.Seq.{drop-cons, drop-drop}
 use borrow.Author.Tests.{ne-eqb, leb-true, leb-false}
-use Rattle.laws.proofs.Booleans.{bool-case}
-use Rattle.syntax.specs.Byte.{isRaw}
-use Rattle.syntax.specs.Syntax.{Piece, raw, isPiece, pieceBefore, piecesBefore, pieceValue, piecesValue}
-use Rattle.syntax.specs.Scan.{Quoted, closed, unclosed, bad-escape, piece, escapeAt, quotedFrom}
+use Rattle.base.proofs.Booleans.{bool-case}
+use Rattle.syntax.specs.rules.Byte.{isRaw}
+use Rattle.syntax.specs.rules.Syntax.{Piece, raw, isPiece, pieceBefore, piecesBefore, pieceValue, piecesValue}
+use Rattle.syntax.specs.reference.Scan.{Quoted, closed, unclosed, bad-escape, piece, escapeAt, quotedFrom}
 use Rattle.lexer.specs.Token.{StringEnd, stringEnd, stringAt, pieceAt}
-use Rattle.lexer.specs.Step.{badString, stoppedAt, pieceLength}
-use Rattle.lexer.specs.Run.{plainRun}
+use Rattle.lexer.specs.internal.Step.{badString, stoppedAt, pieceLength}
+use Rattle.lexer.specs.internal.Run.{plainRun}
 use Rattle.syntax.proofs.Strings.{piece-append}
 use Rattle.lexer.proofs.PieceAt.{piece-few, Told, moves, stays, stands-told, read-on, piece-raw, raw-piece}
 use Rattle.lexer.proofs.Runs.{plains, raws, quoted-passed, plain-ended}

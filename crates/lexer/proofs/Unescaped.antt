@@ -1,4 +1,4 @@
--- A string that stands for as many bytes as are between its quotes is those bytes. Assumes nothing.
+-- A string that stands for as many bytes as are between its quotes is those bytes.
 use mathlib.Core.Path.{_≡_, refl, ap, sym, _∙_}
 use mathlib.Core.Bool.{true, false}
 use mathlib.Core.List.{List, [], _∷_, _++_, append-nil}
@@ -8,14 +8,14 @@ use lib.Dec.{T, eqb}
 use borrow.Author.Tests.{eqb-true, eqb-false}
 use lib.ListN.{length, take, drop, getD, length-append}
 use lib.Seq.{drop-cons}
-use Rattle.laws.proofs.Booleans.{bool-case, cond-case, true-T}
-use Rattle.syntax.specs.Byte.{isRaw}
-use Rattle.syntax.specs.Syntax.{Piece, number, isPiece, pieceBefore, piecesBefore, pieceValue, piecesValue}
-use Rattle.syntax.specs.Scan.{Quoted, closed, unclosed, bad-escape, escapeAt, quotedFrom}
+use Rattle.base.proofs.Booleans.{bool-case, cond-case, true-T}
+use Rattle.syntax.specs.rules.Byte.{isRaw}
+use Rattle.syntax.specs.rules.Syntax.{Piece, number, isPiece, pieceBefore, piecesBefore, pieceValue, piecesValue}
+use Rattle.syntax.specs.reference.Scan.{Quoted, closed, unclosed, bad-escape, escapeAt, quotedFrom}
 use Rattle.syntax.proofs.Strings.{piece-append}
 use Rattle.lexer.specs.Token.{StringEnd, stringAt, contentOf, pieceAt}
-use Rattle.lexer.specs.Step.{badString}
-use Rattle.lexer.specs.Run.{plainRun}
+use Rattle.lexer.specs.internal.Step.{badString}
+use Rattle.lexer.specs.internal.Run.{plainRun}
 use Rattle.lexer.proofs.PieceAt.{piece-few, piece-short, piece-escape}
 use Rattle.lexer.proofs.Runs.{plains, plain-part}
 use Rattle.lexer.proofs.StringWalk.{finish, turn, at-start, RunEnd, run-end}

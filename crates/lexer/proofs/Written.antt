@@ -1,4 +1,4 @@
--- Bytes that are written one after another. A store past the end writes nothing, so no bound is asked. Assumes nothing.
+-- Bytes that are written one after another. A store past the end writes nothing, so no bound is asked.
 use mathlib.Core.Path.{_≡_, refl}
 use mathlib.Core.List.{List, [], _∷_}
 use Prim.Native.Nat.{ℕ, suc, _+_, _-_, _≤_, _<_}

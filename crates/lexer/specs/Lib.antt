@@ -1,3 +1,2 @@
 pub mod Token
-pub mod Step
-pub mod Run
+pub mod internal

@@ -5,11 +5,11 @@ use mathlib.Core.Bool.{Bool, true, cond, _&&_, _||_}
 use mathlib.Core.List.{List, [], _∷_}
 use lib.Dec.{eqb}
 use lib.ListN.{length, getD, drop}
-use Rattle.elements.specs.Class as Class
-use Rattle.elements.specs.Characters.{characterOf}
-use Rattle.syntax.specs.Byte.{round, square, ByteClass, blank, return, quote, forbidden, ordinary, opening, closing, byteClass, isBlank}
-use Rattle.syntax.specs.Syntax.{Piece, raw, piecesBefore, piecesValue}
-use Rattle.syntax.specs.Scan.{Quoted, closed, unclosed, bad-escape, quotedFrom, escapeAt, ordinaryRun, Scanned, refused, scanned}
+use Rattle.elements.specs.rules.Class as Class
+use Rattle.elements.specs.rules.Characters.{characterOf}
+use Rattle.syntax.specs.rules.Byte.{round, square, ByteClass, blank, return, quote, forbidden, ordinary, opening, closing, byteClass, isBlank}
+use Rattle.syntax.specs.rules.Syntax.{Piece, raw, piecesBefore, piecesValue}
+use Rattle.syntax.specs.reference.Scan.{Quoted, closed, unclosed, bad-escape, quotedFrom, escapeAt, ordinaryRun, Scanned, refused, scanned}
 
 -- A number for each class of bytes.
 unfoldable pub codeOf : ByteClass → ℕ

@@ -1,7 +1,7 @@
 // The classes of bytes, and the bytes of a text (document 01, "Characters and brackets").
 ghost use mathlib.Core.Path.{_≡_};
 ghost use lib.ListN.{getD};
-ghost use Rattle.syntax.specs.Byte.{byteClass};
+ghost use Rattle.syntax.specs.rules.Byte.{byteClass};
 ghost use Rattle.lexer.specs.Token.{codeOf};
 
 pub const BLANK: u8 = 0;

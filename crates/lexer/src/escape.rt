@@ -3,7 +3,7 @@ ghost use mathlib.Core.Path.{_≡_};
 ghost use mathlib.Core.Bool.{cond, _&&_};
 ghost use Prim.Native.Nat.{_+_, _*_, _≤_};
 ghost use lib.ListN.{drop, getD};
-ghost use Rattle.syntax.specs.Syntax.{isHex, hexDigit, hexValue, isPiece, number};
+ghost use Rattle.syntax.specs.rules.Syntax.{isHex, hexDigit, hexValue, isPiece, number};
 
 // An escape by number: whether it is one, and its value, which is 0 where it is none.
 pub struct Escape {

@@ -7,7 +7,7 @@ use super::string::string_at;
 use kind::character;
 ghost use mathlib.Core.Path.{_≡_};
 ghost use lib.ListN.{drop};
-ghost use Rattle.syntax.specs.Scan.{ordinaryRun, quotedFrom};
+ghost use Rattle.syntax.specs.reference.Scan.{ordinaryRun, quotedFrom};
 ghost use Rattle.lexer.specs.Token.{atomValue, contentOf, fits};
 
 // The symbol ends at the first byte that is no part of one, which may be a character of a URI.

@@ -4,10 +4,10 @@ use super::escape::number_at;
 ghost use mathlib.Core.Path.{_≡_};
 ghost use Prim.Native.Nat.{_+_, _%_, _≤_, _<_};
 ghost use lib.ListN.{drop, getD, length};
-ghost use Rattle.utf8.specs.Scalar.{encode};
-ghost use Rattle.syntax.specs.Scan.{escapeAt};
+ghost use Rattle.utf8.specs.rules.Scalar.{encode};
+ghost use Rattle.syntax.specs.reference.Scan.{escapeAt};
 ghost use Rattle.lexer.specs.Token.{pieceAt};
-ghost use Rattle.lexer.specs.Step.{pieceLength, pieceBytes};
+ghost use Rattle.lexer.specs.internal.Step.{pieceLength, pieceBytes};
 
 // The piece at a place: the place after it, and the one to three bytes that it stands for. Where no piece
 // stands, which is at a quote and at a backslash that begins no escape, the place itself and no bytes.

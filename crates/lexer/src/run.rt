@@ -1,12 +1,12 @@
 // Runs of bytes: those of a string that stand for themselves, and bytes that are written as they stand.
-use store::store_all;
+use base::store_all;
 ghost use mathlib.Core.Path.{_≡_};
 ghost use Prim.Native.Nat.{_+_, _≤_};
 ghost use lib.Dec.{leb};
 ghost use lib.ListN.{drop, length};
 ghost use lib.Seq.{sets};
-ghost use Rattle.syntax.specs.Byte.{isRaw};
-ghost use Rattle.lexer.specs.Run.{plainRun};
+ghost use Rattle.syntax.specs.rules.Byte.{isRaw};
+ghost use Rattle.lexer.specs.internal.Run.{plainRun};
 
 // Neither a quote nor a backslash. Tests are joined by `&`, here and below, so that no branch parts them.
 fn plain(b: u8) -> bool

@@ -10,13 +10,13 @@ use super::class::SQUARE_END;
 use super::class::byte_at;
 use super::class::byte_class;
 use super::string::string_at;
-use store::lesser;
+use base::lesser;
 ghost use mathlib.Core.Path.{_≡_};
 ghost use Prim.Native.Nat.{_<_, min};
 ghost use lib.ListN.{length, drop};
-ghost use Rattle.syntax.specs.Scan.{scan};
+ghost use Rattle.syntax.specs.reference.Scan.{scan};
 ghost use Rattle.lexer.specs.Token.{scanNumber, scanPlace};
-ghost use Rattle.lexer.specs.Step.{passedAt, closesIt};
+ghost use Rattle.lexer.specs.internal.Step.{passedAt, closesIt};
 
 // The scan's answer: number 0, or a fault 3 to 6 and its place.
 pub struct Scanned {

@@ -11,7 +11,7 @@ ghost use mathlib.Core.List.{[], _∷_};
 ghost use Prim.Native.Nat.{_+_, _-_, _<_, _^_};
 ghost use lib.ListN.{drop, length, set, take};
 ghost use lib.Seq.{sets};
-ghost use Rattle.syntax.specs.Scan.{ordinaryRun, quotedFrom};
+ghost use Rattle.syntax.specs.reference.Scan.{ordinaryRun, quotedFrom};
 ghost use Rattle.lexer.specs.Token.{atomValue, contentOf, stringAt};
 
 // One byte, k bytes from an index on.

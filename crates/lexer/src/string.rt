@@ -5,7 +5,7 @@ use super::run::plain_end;
 ghost use mathlib.Core.Path.{_≡_};
 ghost use lib.ListN.{drop};
 ghost use Rattle.lexer.specs.Token.{stringAt};
-ghost use Rattle.lexer.specs.Step.{badString, stoppedAt};
+ghost use Rattle.lexer.specs.internal.Step.{badString, stoppedAt};
 
 // The string at a place: number 0, the place after its closing quote and the length of what it stands
 // for; or number 4 and the place of the fault.

@@ -4,8 +4,8 @@ use super::string::string_at;
 ghost use mathlib.Core.Path.{_≡_};
 ghost use lib.ListN.{drop, length};
 ghost use Prim.Native.Nat.{_+_, _<_};
-ghost use Rattle.elements.specs.Class as Class;
-ghost use Rattle.syntax.specs.Scan.{ordinaryRun};
+ghost use Rattle.elements.specs.rules.Class as Class;
+ghost use Rattle.syntax.specs.reference.Scan.{ordinaryRun};
 ghost use Rattle.lexer.specs.Token.{a-list, a-string, a-symbol, blanks, leadClassAt, leadLength, seen, seenFirst, stringAt, the-end};
 
 // What is seen at a place after white space: sort 0 the end of the run, 1 a symbol, 2 a string, 3 a list.

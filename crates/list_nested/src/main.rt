@@ -2,7 +2,7 @@
 use libc::STDIN_FILENO;
 use libc::STDOUT_FILENO;
 ghost use Rattle.io.specs.Counts.{Counts};
-ghost use Rattle.document.specs.Spelling.{nested};
+ghost use Rattle.document.specs.rules.Spelling.{nested};
 ghost use Rattle.listing.specs.Listing.{Lists, printed};
 
 // All that is printed for a text, with the memory lent that `printed` names. A line has at most 44 bytes, so the output holds those of 1,024 nodes.

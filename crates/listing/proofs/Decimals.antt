@@ -1,4 +1,4 @@
--- A number's decimal digits are those of its tenth and the last one. Assumes nothing.
+-- A number's decimal digits are those of its tenth and the last one.
 use mathlib.Core.Path.{_≡_, refl, sym, ap, _∙_}
 use mathlib.Core.List.{List, [], _∷_, _++_}
 use Prim.Native.Nat.{ℕ, zero, suc, _+_, _/_, _%_, _≤_, _<_}
@@ -6,10 +6,10 @@ use native.Mathlib.Nat.{mod-eq-of-lt}
 use native.Mathlib.Omega.{arith}
 use lib.Dec.{ltb}
 use borrow.Author.Tests.{ltb-true, ltb-false, lt-ltb, le-ltb}
-use Rattle.laws.proofs.Booleans.{bool-case}
-use Rattle.document.specs.Canonical.{digit}
+use Rattle.base.proofs.Booleans.{bool-case}
+use Rattle.document.specs.rules.Canonical.{digit}
 use Rattle.listing.specs.Listing.{decimalWithin, decimal}
-use Rattle.listing.specs.Puts.{Puts}
+use Rattle.listing.specs.internal.Puts.{Puts}
 use Rattle.listing.proofs.Puts.{puts-on}
 
 within-one : (k n : ℕ) → n < 10 → decimalWithin k n ≡ digit n ∷ []

@@ -1,9 +1,9 @@
--- Each example of `specs/Examples.antt` is listed as it says, by computation.
+-- Each example of `specs/examples/Listings.antt` is listed as it says, by computation.
 use mathlib.Core.Path.{_≡_, refl}
 use mathlib.Core.List.{map}
 use Rattle.document.proofs.Compute.{computes}
 use Rattle.listing.specs.Listing.{decimalWithin, decimal, refusedLine, headerLine, parentWord, nodeLine, lineOfNode, nodeLines, documentLines, listingOf, afterRead, lentMemory, answered, tooLong}
-use Rattle.listing.specs.Examples.{Example, listed, letters, crowd, examples}
+use Rattle.listing.specs.examples.Listings.{Example, listed, letters, crowd, examples}
 
 pub judged : map listed examples ≡ map (λ (e : Example). e .lines) examples
 unfolding computes lentMemory decimalWithin decimal refusedLine headerLine parentWord nodeLine lineOfNode nodeLines documentLines listingOf afterRead answered tooLong letters crowd examples listed

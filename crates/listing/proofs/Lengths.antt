@@ -1,4 +1,4 @@
--- How long the lines are at most: a number below 2^32 has at most ten digits. Assumes nothing.
+-- How long the lines are at most: a number below 2^32 has at most ten digits.
 use mathlib.Core.List.{List}
 use Prim.Native.Nat.{ℕ, zero, suc, _+_, _*_, _/_, _^_, _≤_, _<_}
 use native.Mathlib.Nat.{pow-suc}
@@ -6,9 +6,9 @@ use native.Mathlib.Omega.{arith}
 use lib.Dec.{eqb, ltb}
 use lib.ListN.{length, getD, length-append}
 use borrow.Author.Tests.{ltb-true, ltb-false}
-use Rattle.laws.proofs.Booleans.{bool-case, cond-case}
-use Rattle.elements.specs.Bytes.{codes}
-use Rattle.document.specs.Document.{missing}
+use Rattle.base.proofs.Booleans.{bool-case, cond-case}
+use Rattle.elements.specs.rules.Bytes.{codes}
+use Rattle.base.specs.rules.Limits.{missing}
 use Rattle.listing.specs.Listing.{decimal, parentWord, nodeLine, lineOfNode, nodeLines, headerLine, documentLines, refusedLine}
 use Rattle.listing.proofs.Decimals.{decimal-one, decimal-more}
 

@@ -1,4 +1,4 @@
--- The lines of a table's nodes, put one after another. Assumes nothing.
+-- The lines of a table's nodes, put one after another.
 use mathlib.Core.Path.{_≡_}
 use mathlib.Core.List.{List}
 use Prim.Native.Nat.{ℕ, _+_, _*_, _≤_}
@@ -6,7 +6,7 @@ use native.Mathlib.Numerals.{add-one}
 use native.Mathlib.Omega.{arith}
 use lib.ListN.{getD}
 use Rattle.listing.specs.Listing.{nodeLine, lineOfNode, nodeLines}
-use Rattle.listing.specs.Puts.{Puts}
+use Rattle.listing.specs.internal.Puts.{Puts}
 use Rattle.listing.proofs.Puts.{puts-none, puts-on}
 
 pub lines-none : (l : List ℕ) (at : ℕ) (table : List ℕ) → Puts l at (nodeLines table 0) l at

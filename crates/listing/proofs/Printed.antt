@@ -1,4 +1,4 @@
--- What a program has put into its output is what is printed: an output of 44 bytes a node and 33 more holds it whole. Assumes nothing.
+-- What a program has put into its output is what is printed: an output of 44 bytes a node and 33 more holds it whole.
 use mathlib.Core.Path.{_≡_, sym, _∙_}
 use mathlib.Core.List.{List}
 use Prim.Native.Nat.{ℕ, _+_, _*_, _^_, _≤_, _<_}
@@ -7,15 +7,16 @@ use lib.Dec.{ltb}
 use lib.ListN.{length, take, length-append, length-replicate}
 use lib.Seq.{take-all, length-take-le}
 use borrow.Author.Tests.{lt-ltb, le-ltb, ltb-false, eq-eqb, ne-eqb}
-use Rattle.laws.proofs.Booleans.{cond-case}
-use Rattle.utf8.specs.Sequence.{validUpTo}
-use Rattle.elements.specs.Bytes.{codes}
-use Rattle.document.specs.Document.{Node, says}
-use Rattle.document.specs.Table.{count, pool}
-use Rattle.document.specs.Check.{Check, sound, unsound, check}
-use Rattle.document.specs.Meaning.{treeOf, places}
-use Rattle.document.specs.Spelling.{Spelling}
-use Rattle.document.specs.Answer.{Memory, Outcome, Reading, refused, read, answerAt, refusal, noRoom, filled, checked, stored, nodeRoom, reading, afterReading, outcome, over}
+use Rattle.base.proofs.Booleans.{cond-case}
+use Rattle.utf8.specs.reference.Sequence.{validUpTo}
+use Rattle.elements.specs.rules.Bytes.{codes}
+use Rattle.document.specs.rules.Document.{Node, says}
+use Rattle.document.specs.rules.Table.{count, pool}
+use Rattle.document.specs.reference.Check.{Check, sound, unsound, check}
+use Rattle.document.specs.reference.Meaning.{treeOf, places}
+use Rattle.document.specs.rules.Spelling.{Spelling}
+use Rattle.document.specs.reference.Outcome.{Reading, refused, read, checked, stored, reading, afterReading, outcome}
+use Rattle.document.specs.rules.Memory.{Memory, Outcome, answerAt, refusal, noRoom, filled, nodeRoom, over}
 use Rattle.listing.specs.Listing.{longestText, lentNodes, lentPool, lentMemory, tooLong, refusedLine, documentLines, within, listingOf, afterRead, answered, printed, Lists}
 use Rattle.listing.proofs.Lengths.{refused-length}
 

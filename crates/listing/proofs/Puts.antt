@@ -1,4 +1,4 @@
--- Bytes that are put one after another into an output. Assumes nothing.
+-- Bytes that are put one after another into an output.
 use mathlib.Core.Path.{_≡_, refl, sym, ap, _∙_}
 use mathlib.Core.List.{List, [], _∷_, _++_}
 use Prim.Native.Nat.{ℕ, suc, _+_, _≤_, _<_, max}
@@ -9,11 +9,11 @@ use lib.Dec.{leb}
 use lib.ListN.{length, take, drop, getD, length-append, length-take, take-append-drop, drop-of-length-le}
 use lib.Seq.{take-all, take-suc, sets, set-out, length-sets, sets-eq}
 use borrow.Author.Tests.{leb-true, leb-false}
-use Rattle.laws.proofs.Booleans.{bool-case}
-use Rattle.laws.proofs.Stores.{sets-append}
-use Rattle.document.specs.Answer.{over}
+use Rattle.base.proofs.Booleans.{bool-case}
+use Rattle.base.proofs.Stores.{sets-append}
+use Rattle.document.specs.rules.Memory.{over}
 use Rattle.listing.specs.Listing.{within}
-use Rattle.listing.specs.Puts.{Puts}
+use Rattle.listing.specs.internal.Puts.{Puts}
 
 -- Stores past the end write nothing.
 pub sets-out : (l vs : List ℕ) (i : ℕ) → length l ≤ i → sets l i vs ≡ l

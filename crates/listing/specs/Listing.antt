@@ -5,12 +5,13 @@ use mathlib.Core.Bool.{cond}
 use mathlib.Core.List.{List, [], _∷_, _++_}
 use lib.Dec.{eqb, ltb}
 use lib.ListN.{length, getD, take, replicate}
-use Rattle.elements.specs.Bytes.{codes}
-use Rattle.document.specs.Document.{missing}
-use Rattle.document.specs.Table.{recordLength}
-use Rattle.document.specs.Canonical.{digit}
-use Rattle.document.specs.Spelling.{Spelling}
-use Rattle.document.specs.Answer.{Memory, Outcome, outcome, over}
+use Rattle.elements.specs.rules.Bytes.{codes}
+use Rattle.base.specs.rules.Limits.{missing}
+use Rattle.document.specs.rules.Record.{recordLength}
+use Rattle.document.specs.rules.Canonical.{digit}
+use Rattle.document.specs.rules.Spelling.{Spelling}
+use Rattle.document.specs.reference.Outcome.{outcome}
+use Rattle.document.specs.rules.Memory.{Memory, Outcome, over}
 
 -- "over 32,768 bytes prints `too long`": the longest text that is read.
 abbrev pub longestText : ℕ

@@ -3,9 +3,9 @@ ghost use mathlib.Core.Path.{_≡_};
 ghost use mathlib.Core.List.{[], _∷_, _++_};
 ghost use Prim.Native.Nat.{_+_, _*_, _≤_};
 ghost use lib.ListN.{getD, length};
-ghost use Rattle.document.specs.Answer.{over};
+ghost use Rattle.document.specs.rules.Memory.{over};
 ghost use Rattle.listing.specs.Listing.{decimal, parentWord, nodeLine, nodeLines, headerLine, refusedLine, documentLines, tooLong, within};
-ghost use Rattle.listing.specs.Puts.{Puts};
+ghost use Rattle.listing.specs.internal.Puts.{Puts};
 
 // One byte, where the output has room for it; the place after it.
 fn put_byte(out: &mut [u8], at: usize, b: u8) -> usize

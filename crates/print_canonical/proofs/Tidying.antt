@@ -1,4 +1,4 @@
--- The table that a read leaves is printed, and its spelling and a line end fit an output of 6 bytes for each of the pool and 100 a node. Assumes nothing.
+-- The table that a read leaves is printed, and its spelling and a line end fit an output of 6 bytes for each of the pool and 100 a node.
 use Prim.Native.Nat.{ℕ, _+_, _*_, _≤_, _<_}
 use mathlib.Core.Path.{_≡_, refl, sym, ap, _∙_}
 use mathlib.Core.List.{List, [], _∷_, _++_, append-assoc}
@@ -7,14 +7,17 @@ use native.Mathlib.Omega.{arith}
 use lib.ListN.{length, take, set, length-append}
 use lib.Seq.{take-at, drop-cons, set-at}
 use borrow.Author.Tests.{le-ltb}
-use Rattle.document.specs.Document.{Node}
-use Rattle.document.specs.Table.{recordLength, count, pool, tableOf}
-use Rattle.document.specs.Spelling.{nested}
-use Rattle.document.specs.Answer.{Memory, Outcome, outcome, over}
-use Rattle.document.specs.Canonical.{canonical}
-use Rattle.document.specs.Printing as Defined
-use Rattle.document.specs.Printing.{IsTableOf, treeOfTable, written, printing}
-use Rattle.document.specs.Demand.{Readable, Read}
+use Rattle.document.specs.rules.Document.{Node}
+use Rattle.document.specs.rules.Record.{recordLength}
+use Rattle.document.specs.rules.Table.{count, pool, tableOf}
+use Rattle.document.specs.rules.Spelling.{nested}
+use Rattle.document.specs.reference.Outcome.{outcome}
+use Rattle.document.specs.rules.Memory.{Memory, Outcome, over}
+use Rattle.document.specs.rules.Canonical.{canonical}
+use Rattle.document.specs.rules.Draft as Defined
+use Rattle.document.specs.reference.Printing.{treeOfTable, written, printing}
+use Rattle.document.specs.rules.Draft.{IsTableOf}
+use Rattle.document.specs.rules.Demand.{Readable, Read}
 use Rattle.document.proofs.Records.{table-length}
 use Rattle.document.proofs.LaidOut.{laid-out}
 use Rattle.document.proofs.Rebuild.{rebuilt}
@@ -76,7 +79,7 @@ module _ (text : List ℕ) where
 
       -- Printing what the read left has number 0, and the output holds the spelling.
       reprints : printing (reading .memory .nodes) (reading .answer .nodes) (reading .memory .pool) (reading .answer .pool) out
-          ≡ record { number = 0; length = length (canonical d); out = over (canonical d) out }
+          ≡ record { number = 0; size = length (canonical d); out = over (canonical d) out }
       unfolding written
       reprints =
           let words : recordLength * reading .answer .nodes ≤ length (reading .memory .nodes)
@@ -102,7 +105,7 @@ module _ (text : List ℕ) where
           let again : Prints (printing (reading .memory .nodes) (reading .answer .nodes) (reading .memory .pool) (reading .answer .pool) out) p later
           = rw (lent .answers .nodes, lent .answers .pool, lent .leaves) at printed in
           let e = reprints (found .0) (found .1) out room in
-          (again .length ∙ ap (λ (x : Defined.Printed). x .length) e, again .out ∙ ap (λ (x : Defined.Printed). x .out) e)
+          (again .size ∙ ap (λ (x : Defined.Printed). x .size) e, again .out ∙ ap (λ (x : Defined.Printed). x .out) e)
 
       pub line-end-fits : p .length < length out
       line-end-fits = omega (arith, short (found .0) (found .1) out room, spelled .0)

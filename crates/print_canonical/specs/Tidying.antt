@@ -2,12 +2,12 @@
 use Prim.Native.Nat.{ℕ, _*_}
 use mathlib.Core.List.{List, [], _∷_, _++_}
 use lib.ListN.{take}
-use Rattle.document.specs.Document.{says}
-use Rattle.document.specs.Table.{recordLength}
-use Rattle.document.specs.Spelling.{nested}
-use Rattle.document.specs.Answer.{Outcome}
-use Rattle.document.specs.Canonical.{canonical}
-use Rattle.document.specs.Printing.{treeOfTable}
+use Rattle.document.specs.rules.Document.{says}
+use Rattle.document.specs.rules.Record.{recordLength}
+use Rattle.document.specs.rules.Spelling.{nested}
+use Rattle.document.specs.rules.Memory.{Outcome}
+use Rattle.document.specs.rules.Canonical.{canonical}
+use Rattle.document.specs.reference.Printing.{treeOfTable}
 use Rattle.listing.specs.Listing.{newline, answered}
 
 -- The canonical spelling of the document whose table a read left. The line end after it is the program's, as the spelling has "No final newline".

@@ -1,4 +1,4 @@
--- Pieces written one after another. Assumes nothing.
+-- Pieces written one after another.
 use Prim.Native.Nat.{ℕ, zero, suc, _+_, _-_, _≤_, min}
 use mathlib.Core.Path.{_≡_, refl, sym, _∙_}
 use mathlib.Core.List.{List, [], _∷_, _++_}
@@ -6,9 +6,9 @@ use native.Mathlib.Nat.{add-zero, zero-add}
 use native.Mathlib.Omega.{arith}
 use lib.ListN.{length, take, drop, set, length-append, take-append-drop, drop-of-length-le}
 use lib.Seq.{sets, sets-eq, drop-set-add, take-set-le}
-use Rattle.laws.proofs.Stores.{sets-append}
-use Rattle.document.specs.Answer.{over}
-use Rattle.printer.specs.Adds.{Adds}
+use Rattle.base.proofs.Stores.{sets-append}
+use Rattle.document.specs.rules.Memory.{over}
+use Rattle.printer.specs.internal.Adds.{Adds}
 
 -- The same piece under another name.
 pub adds-as : {s t : List ℕ} {at : ℕ} {out : List ℕ} {r : ℕ} {later : List ℕ} → s ≡ t → Adds s at out r later → Adds t at out r later

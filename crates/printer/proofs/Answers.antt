@@ -1,4 +1,4 @@
--- The ways through printing. Assumes nothing.
+-- The ways through printing.
 use Prim.Native.Nat.{ℕ, _*_, _≤_, _<_}
 use mathlib.Core.Path.{_≡_, refl, sym, _∙_}
 use mathlib.Core.List.{List}
@@ -7,10 +7,12 @@ use borrow.Author.Tests.{lt-ltb, le-ltb}
 use lib.Dec.{ltb, leb→le}
 use lib.ListN.{length, take}
 use lib.Seq.{sets}
-use Rattle.document.specs.Document.{Node, missing}
-use Rattle.document.specs.Table.{recordLength}
-use Rattle.document.specs.Canonical.{canonical}
-use Rattle.document.specs.Printing.{IsTableOf, checking, written, printing}
+use Rattle.base.specs.rules.Limits.{missing}
+use Rattle.document.specs.rules.Document.{Node}
+use Rattle.document.specs.rules.Record.{recordLength}
+use Rattle.document.specs.rules.Canonical.{canonical}
+use Rattle.document.specs.reference.Printing.{checking, written, printing}
+use Rattle.document.specs.rules.Draft.{IsTableOf}
 use Rattle.document.proofs.PrintingDecided.{sound-table, prints, refuses}
 use Rattle.table.specs.Stored.{Stored}
 use Rattle.table.proofs.Stored.{table-stored}
@@ -25,7 +27,7 @@ module _ (words : List ℕ) (n : ℕ) (bytes : List ℕ) (m : ℕ) (out : List �
   pub refused : (c .number ≡ 0 → ⊥) → Prints (printing words n bytes m out) (record { number = 20; length = 0 }) out
   refused h =
       let e = refuses words n bytes m out (λ z. h (checks .number ∙ z)) in
-      record { number = rw e; length = rw e; out = rw e }
+      record { number = rw e; size = rw e; out = rw e }
 
   module _ (z : c .number ≡ 0) where
     abbrev found : (recordLength * n ≤ length words) × (m ≤ length bytes) × (d : Node) × IsTableOf d (take (recordLength * n) words) (take m bytes)
@@ -60,7 +62,7 @@ module _ (words : List ℕ) (n : ℕ) (bytes : List ℕ) (m : ℕ) (out : List �
           let (a, b) = of-document start exit r measured in
           let e = prints words n bytes m out d (found .0) (found .1) (found .3) in
           let l : ltb (length out) (length (canonical d)) ≡ _ = lt-ltb (length out) (length (canonical d)) (omega (arith, a)) in
-          rw (e, l) (record { number = refl; length = a; out = refl })
+          rw (e, l) (record { number = refl; size = a; out = refl })
 
       -- 0: the spelling is written.
       pub whole : r ≤ length out → (later : List ℕ) (k : ℕ) → Spelled out k later → Prints (printing words n bytes m out) (record { number = 0; length = r }) later
@@ -70,4 +72,4 @@ module _ (words : List ℕ) (n : ℕ) (bytes : List ℕ) (m : ℕ) (out : List �
           let (a′, b′) = of-document out later k s in
           let e = prints words n bytes m out d (found .0) (found .1) (found .3) in
           let l : ltb (length out) (length (canonical d)) ≡ _ = le-ltb (length out) (length (canonical d)) (omega (arith, a)) in
-          rw (e, l) (record { number = refl; length = a; out = b′ ∙ sets-over out (canonical d) (omega (arith, a)) })
+          rw (e, l) (record { number = refl; size = a; out = b′ ∙ sets-over out (canonical d) (omega (arith, a)) })

@@ -1,12 +1,12 @@
--- A spelling in front of bytes is the spelling and then those bytes. Assumes nothing.
+-- A spelling in front of bytes is the spelling and then those bytes.
 use Prim.Native.Nat.{ℕ}
 use mathlib.Core.Path.{_≡_, refl, sym, ap, _∙_}
 use mathlib.Core.Bool.{Bool, cond}
 use mathlib.Core.List.{List, [], _∷_, _++_, append-assoc}
-use Rattle.elements.specs.Class as Class
-use Rattle.laws.proofs.Booleans.{cond-under}
-use Rattle.document.specs.Document.{Tree, text, value, size, element, Trees, empty, holds}
-use Rattle.document.specs.Canonical.{unicodeBefore, byteBefore, bytesBefore, quotedBefore, bracketsBefore, stringBefore, spelledBefore, insideBefore, digits}
+use Rattle.elements.specs.rules.Class as Class
+use Rattle.base.proofs.Booleans.{cond-under}
+use Rattle.document.specs.rules.Document.{Tree, text, value, size, element, Trees, empty, holds}
+use Rattle.document.specs.rules.Canonical.{unicodeBefore, byteBefore, bytesBefore, quotedBefore, bracketsBefore, stringBefore, spelledBefore, insideBefore, digits}
 
 cond-append : (k : List ℕ) (b : Bool) (x y : List ℕ) → cond b x y ++ k ≡ cond b (x ++ k) (y ++ k)
 cond-append k b x y = cond-under (λ (l : List ℕ). l ++ k) b x y

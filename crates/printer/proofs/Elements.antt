@@ -1,15 +1,16 @@
--- The spelling of a node and of nodes side by side, in the order in which the code writes it. Assumes nothing.
+-- The spelling of a node and of nodes side by side, in the order in which the code writes it.
 use Prim.Native.Nat.{ℕ, _+_}
 use mathlib.Core.Path.{_≡_, refl, sym, ap, _∙_}
 use mathlib.Core.Bool.{Bool, true, false, cond}
 use mathlib.Core.List.{List, [], _∷_, _++_, append-assoc}
 use lib.Dec.{eqb}
 use borrow.Author.Tests.{ne-eqb}
-use Rattle.elements.specs.Class as Class
-use Rattle.elements.specs.Rules.{ruleOf}
-use Rattle.document.specs.Document.{Tree, text, value, size, element, Trees, empty, holds, Node, node, Nodes, childless, child, missing}
-use Rattle.document.specs.Canonical.{layout, layoutAll, placeValues, nodeFirst, keyClass, valueBefore, sizeBefore, quotedBefore, bracketsBefore, spelledBefore, insideBefore, canonical}
-use Rattle.printer.specs.Inside.{inside, insideAll, valueInside, sizeInside, valuesInside, firstOf, restOf}
+use Rattle.elements.specs.rules.Class as Class
+use Rattle.elements.specs.rules.Rules.{ruleOf}
+use Rattle.base.specs.rules.Limits.{missing}
+use Rattle.document.specs.rules.Document.{Tree, text, value, size, element, Trees, empty, holds, Node, node, Nodes, childless, child}
+use Rattle.document.specs.rules.Canonical.{layout, layoutAll, placeValues, nodeFirst, keyClass, valueBefore, sizeBefore, quotedBefore, bracketsBefore, spelledBefore, insideBefore, canonical}
+use Rattle.printer.specs.internal.Inside.{inside, insideAll, valueInside, sizeInside, valuesInside, firstOf, restOf}
 use Rattle.printer.proofs.Concat.{spelled-append, inside-append}
 
 -- A tree, and a value, in front of trees.

@@ -1,10 +1,10 @@
--- The names of the classes, as the code picks them. Assumes nothing.
+-- The names of the classes, as the code picks them.
 use Prim.Native.Nat.{ℕ}
 use mathlib.Core.Path.{_≡_, refl, sym}
 use mathlib.Core.List.{List, [], _∷_}
 use borrow.Author.Tests.{ne-eqb}
-use Rattle.elements.specs.Class.{Named, names, nameIn, nameOf}
-use Rattle.printer.specs.Adds.{Adds}
+use Rattle.elements.specs.rules.Class.{Named, names, nameIn, nameOf}
+use Rattle.printer.specs.internal.Adds.{Adds}
 use Rattle.printer.proofs.Adding.{adds-as, adds-none}
 
 -- A class that is k has the name of k.

@@ -1,4 +1,4 @@
--- The pieces of a spelling as the code puts them together. Assumes nothing.
+-- The pieces of a spelling as the code puts them together.
 use Prim.Native.Nat.{ℕ, _+_, _-_, _/_, _%_, _<_, _≤_}
 use mathlib.Core.Path.{_≡_, refl, sym, ap, _∙_}
 use mathlib.Core.Bool.{Bool, true, false, cond, _||_}
@@ -9,12 +9,12 @@ use lib.Dec.{eqb, ltb}
 use lib.ListN.{length, getD, take, drop}
 use lib.Seq.{take-suc, take-all}
 use borrow.Author.Tests.{eq-eqb, ne-eqb}
-use Rattle.elements.specs.Bytes.{codes}
-use Rattle.elements.specs.Class as Class
-use Rattle.document.specs.Document.{missing}
-use Rattle.document.specs.Canonical.{valueBefore, sizeBefore, hexByte, unicodeBefore, byteBefore, bytesBefore, quotedBefore, digit, digits, bracketsBefore, stringBefore, insideBefore}
-use Rattle.printer.specs.Inside.{inside, valueInside, sizeInside}
-use Rattle.printer.specs.Pieces.{letterOf, leadingOf}
+use Rattle.elements.specs.rules.Bytes.{codes}
+use Rattle.elements.specs.rules.Class as Class
+use Rattle.base.specs.rules.Limits.{missing}
+use Rattle.document.specs.rules.Canonical.{valueBefore, sizeBefore, hexByte, unicodeBefore, byteBefore, bytesBefore, quotedBefore, digit, digits, bracketsBefore, stringBefore, insideBefore}
+use Rattle.printer.specs.internal.Inside.{inside, valueInside, sizeInside}
+use Rattle.printer.specs.internal.Pieces.{letterOf, leadingOf}
 use Rattle.printer.proofs.Concat.{bytes-append, string-append}
 
 abbrev pick : {A : Type 0} → Bool → Bool → Bool → Bool → A → A → A → A → A → A

@@ -1,4 +1,4 @@
--- Bytes of a string that stand for themselves. Assumes nothing.
+-- Bytes of a string that stand for themselves.
 use Prim.Native.Nat.{ℕ, suc, _+_, _-_, _<_, _≤_}
 use mathlib.Core.Path.{_≡_, refl, sym, ap, _∙_}
 use mathlib.Core.Bool.{Bool, true, false, not, _&&_}
@@ -8,10 +8,10 @@ use lib.Dec.{eqb, ltb}
 use lib.ListN.{length, getD, take, drop, length-drop}
 use lib.Seq.{take-suc, take-add, drop-cons, drop-drop, getD-drop}
 use borrow.Author.Tests.{ltb-true, le-ltb, ne-eqb}
-use Rattle.laws.proofs.Booleans.{both, true-T, T-true, not-true}
-use Rattle.document.specs.Canonical.{byteBefore, bytesBefore}
-use Rattle.printer.specs.Adds.{Adds}
-use Rattle.printer.specs.Raw.{Raw, RawTo}
+use Rattle.base.proofs.Booleans.{both, true-T, T-true, not-true}
+use Rattle.document.specs.rules.Canonical.{byteBefore, bytesBefore}
+use Rattle.printer.specs.internal.Adds.{Adds}
+use Rattle.printer.specs.internal.Raw.{Raw, RawTo}
 use Rattle.printer.proofs.Adding.{adds-as, adds-join}
 use Rattle.printer.proofs.Pieces.{bytes-both}
 

@@ -1,4 +1,4 @@
--- The tail of bytes that stand for themselves does so too. Assumes nothing.
+-- The tail of bytes that stand for themselves does so too.
 use Prim.Native.Nat.{ℕ, zero, suc, _+_, _-_, _<_, _≤_, min}
 use mathlib.Core.Path.{_≡_, refl, sym, ap, _∙_}
 use mathlib.Core.Bool.{Bool, true, false, cond, _&&_, _||_}
@@ -7,9 +7,9 @@ use native.Mathlib.Omega.{arith}
 use lib.Dec.{eqb, ltb}
 use lib.ListN.{length, take, drop, length-append, length-drop, take-append-drop}
 use lib.Seq.{take-all, drop-at, drop-append-seam, drop-drop}
-use Rattle.laws.proofs.Booleans.{both, true-T, T-true}
-use Rattle.document.specs.Canonical.{unicodeBefore, byteBefore, bytesBefore}
-use Rattle.printer.specs.Raw.{Raw, RawTo}
+use Rattle.base.proofs.Booleans.{both, true-T, T-true}
+use Rattle.document.specs.rules.Canonical.{unicodeBefore, byteBefore, bytesBefore}
+use Rattle.printer.specs.internal.Raw.{Raw, RawTo}
 use Rattle.printer.proofs.Pieces.{bytes-both}
 use Rattle.printer.proofs.Raw.{raw-start, raw-on}
 

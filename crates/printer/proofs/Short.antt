@@ -1,4 +1,4 @@
--- The spelling of a document within the limits is short: six bytes for each byte of the pool, and a hundred for each node. Assumes nothing.
+-- The spelling of a document within the limits is short: six bytes for each byte of the pool, and a hundred for each node.
 use Prim.Native.Nat.{ℕ, _+_, _*_, _≤_}
 use mathlib.Core.Path.{_≡_, ap}
 use mathlib.Core.Bool.{Bool, true, false, _||_}
@@ -7,16 +7,17 @@ use native.Mathlib.Omega.{arith}
 use lib.Dec.{T, eqb, leb, ltb, leb→le}
 use lib.ListN.{length, length-append}
 use borrow.Author.Tests.{eqb-true, eqb-false}
-use Rattle.laws.proofs.Booleans.{cond-case, bool-case, both}
-use Rattle.laws.proofs.Tables.{every}
-use Rattle.elements.specs.Bytes.{codes}
-use Rattle.elements.specs.Class.{Named, nameOf, nameIn, names, as-name}
-use Rattle.elements.specs.Class as Class
-use Rattle.elements.specs.Rules.{ruleOf}
-use Rattle.document.specs.Document.{Node, node, Nodes, childless, child, missing}
-use Rattle.document.specs.Table.{count, countAll, pool, poolAll}
-use Rattle.document.specs.Canonical.{nodeFirst, keyClass, unicodeBefore, byteBefore, bytesBefore, quotedBefore, digits, stringBefore, canonical}
-use Rattle.printer.specs.Inside.{insideAll, valueInside, sizeInside, valuesInside, firstOf, restOf}
+use Rattle.base.proofs.Booleans.{cond-case, bool-case, both}
+use Rattle.base.proofs.Tables.{every}
+use Rattle.elements.specs.rules.Bytes.{codes}
+use Rattle.elements.specs.rules.Class.{Named, nameOf, nameIn, names, as-name}
+use Rattle.elements.specs.rules.Class as Class
+use Rattle.elements.specs.rules.Rules.{ruleOf}
+use Rattle.base.specs.rules.Limits.{missing}
+use Rattle.document.specs.rules.Document.{Node, node, Nodes, childless, child}
+use Rattle.document.specs.rules.Table.{count, countAll, pool, poolAll}
+use Rattle.document.specs.rules.Canonical.{nodeFirst, keyClass, unicodeBefore, byteBefore, bytesBefore, quotedBefore, digits, stringBefore, canonical}
+use Rattle.printer.specs.internal.Inside.{insideAll, valueInside, sizeInside, valuesInside, firstOf, restOf}
 use Rattle.printer.proofs.Concat.{byte-append}
 use Rattle.printer.proofs.Pieces.{quoted-parts, value-none, value-parts, size-none, size-parts}
 use Rattle.printer.proofs.Elements.{canonical-text, canonical-parts, inside-child, inside-none}

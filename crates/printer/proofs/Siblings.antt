@@ -1,4 +1,4 @@
--- The loop over nodes that stand side by side: what is written of those that are left completes the spelling of all. Assumes nothing.
+-- The loop over nodes that stand side by side: what is written of those that are left completes the spelling of all.
 use Prim.Native.Nat.{ℕ, _+_, _-_, _<_, _≤_, min}
 use mathlib.Core.Path.{_≡_, sym, _∙_}
 use mathlib.Core.List.{List, [], _∷_, _++_, append-nil}
@@ -6,12 +6,12 @@ use native.Mathlib.Nat.{zero-add}
 use native.Mathlib.Omega.{arith}
 use lib.ListN.{length, take, drop, length-drop, drop-of-length-le}
 use lib.Seq.{sets, take-all}
-use Rattle.document.specs.Document.{Node, Nodes, childless, child}
-use Rattle.document.specs.Table.{count, countAll, pool}
-use Rattle.document.specs.Canonical.{canonical}
+use Rattle.document.specs.rules.Document.{Node, Nodes, childless, child}
+use Rattle.document.specs.rules.Table.{count, countAll, pool}
+use Rattle.document.specs.rules.Canonical.{canonical}
 use Rattle.table.specs.Stored.{wordAt, Stored, StoredAll}
-use Rattle.printer.specs.Adds.{Adds}
-use Rattle.printer.specs.Inside.{insideAll}
+use Rattle.printer.specs.internal.Adds.{Adds}
+use Rattle.printer.specs.internal.Inside.{insideAll}
 use Rattle.printer.proofs.Adding.{adds-as, adds-none, adds-join, adds-tail}
 use Rattle.document.proofs.Determined.{count-positive}
 use Rattle.printer.proofs.Standing.{end-word, no-nodes}

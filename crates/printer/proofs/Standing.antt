@@ -1,4 +1,4 @@
--- Laws of the nodes that stand in a table, as the spelling takes them: their words and strings, and which of their children come first. Assumes nothing.
+-- Laws of the nodes that stand in a table, as the spelling takes them: their words and strings, and which of their children come first.
 use Prim.Native.Nat.{ℕ, suc, _+_, _<_, _≤_}
 use mathlib.Core.Path.{_≡_, refl, _∙_}
 use mathlib.Core.Bool.{Bool, true, false}
@@ -7,16 +7,16 @@ use native.Mathlib.Nat.{add-zero}
 use native.Mathlib.Omega.{arith}
 use lib.Dec.{lit<}
 use lib.ListN.{length}
-use Rattle.elements.specs.Rules.{ruleOf}
-use Rattle.document.specs.Document.{Node, node, Nodes, childless, child}
-use Rattle.document.specs.Table.{count, countAll, offset}
-use Rattle.document.specs.Printing.{part}
-use Rattle.document.specs.Canonical.{nodeFirst}
+use Rattle.elements.specs.rules.Rules.{ruleOf}
+use Rattle.document.specs.rules.Document.{Node, node, Nodes, childless, child}
+use Rattle.document.specs.rules.Table.{count, countAll, offset}
+use Rattle.document.specs.reference.Printing.{part}
+use Rattle.document.specs.rules.Canonical.{nodeFirst}
 use Rattle.document.proofs.Determined.{count-positive}
 use Rattle.table.specs.Stored.{wordAt, Stored, StoredAll}
 use Rattle.table.proofs.Stored.{recorded-word}
 use Rattle.table.specs.Stored.{stringAt}
-use Rattle.printer.specs.Inside.{firstOf}
+use Rattle.printer.specs.internal.Inside.{firstOf}
 
 -- A string stands where its offset and length words say.
 part-offset : (bytes s : List ℕ) (p : ℕ) → part bytes p (length s) ≡ s → part bytes (offset p s) (length s) ≡ s

@@ -1,17 +1,17 @@
--- A node without values, by three tests of its record's words: nothing of them is spelled. Assumes nothing.
+-- A node without values, by three tests of its record's words: nothing of them is spelled.
 use Prim.Native.Nat.{ℕ, _+_}
 use mathlib.Core.Path.{_≡_, refl, sym, _∙_}
 use mathlib.Core.Bool.{true, _&&_}
 use mathlib.Core.List.{List, []}
 use lib.Dec.{eqb}
 use borrow.Author.Tests.{eqb-true}
-use Rattle.laws.proofs.Booleans.{both, true-T, T-true}
-use Rattle.elements.specs.Class as Class
-use Rattle.document.specs.Document.{missing}
-use Rattle.document.specs.Canonical.{keyClass}
-use Rattle.document.specs.Printing.{part}
+use Rattle.base.proofs.Booleans.{both, true-T, T-true}
+use Rattle.elements.specs.rules.Class as Class
+use Rattle.base.specs.rules.Limits.{missing}
+use Rattle.document.specs.rules.Canonical.{keyClass}
+use Rattle.document.specs.reference.Printing.{part}
 use Rattle.table.specs.Stored.{wordAt, stringAt}
-use Rattle.printer.specs.Inside.{Valueless, valuesInside}
+use Rattle.printer.specs.internal.Inside.{Valueless, valuesInside}
 use Rattle.printer.proofs.Pieces.{value-none, size-none}
 
 module _ (words : List ℕ) (i : ℕ) where

@@ -1,4 +1,4 @@
--- The spelling of a node that stands in the table, from the pieces that the code wrote of it. Assumes nothing.
+-- The spelling of a node that stands in the table, from the pieces that the code wrote of it.
 use Prim.Native.Nat.{ℕ, _+_, _≤_}
 use mathlib.Core.Path.{_≡_, refl, sym, _∙_}
 use mathlib.Core.Bool.{Bool, true, false}
@@ -6,15 +6,15 @@ use mathlib.Core.List.{List, [], _∷_}
 use native.Mathlib.Nat.{add-zero}
 use native.Mathlib.Omega.{arith}
 use lib.ListN.{length}
-use Rattle.elements.specs.Class as Class
-use Rattle.elements.specs.Rules.{ruleOf}
-use Rattle.document.specs.Document.{node, Nodes, childless, child}
-use Rattle.document.specs.Table.{count, countAll, pool}
-use Rattle.document.specs.Canonical.{quotedBefore, nodeFirst, canonical}
+use Rattle.elements.specs.rules.Class as Class
+use Rattle.elements.specs.rules.Rules.{ruleOf}
+use Rattle.document.specs.rules.Document.{node, Nodes, childless, child}
+use Rattle.document.specs.rules.Table.{count, countAll, pool}
+use Rattle.document.specs.rules.Canonical.{quotedBefore, nodeFirst, canonical}
 use Rattle.table.specs.Stored.{wordAt, Stored, StoredAll}
-use Rattle.printer.specs.Adds.{Adds}
+use Rattle.printer.specs.internal.Adds.{Adds}
 use Rattle.table.specs.Stored.{stringAt}
-use Rattle.printer.specs.Inside.{valuesInside, firstOf, restOf}
+use Rattle.printer.specs.internal.Inside.{valuesInside, firstOf, restOf}
 use Rattle.printer.proofs.Adding.{adds-as, adds-join}
 use Rattle.document.proofs.Determined.{count-positive}
 use Rattle.printer.proofs.Standing.{holds-all, FirstEnd}

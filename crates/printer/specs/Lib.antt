@@ -1,5 +1,2 @@
-pub mod Adds
-pub mod Inside
-pub mod Pieces
 pub mod Prints
-pub mod Raw
+pub mod internal

@@ -5,7 +5,7 @@ mod spell; // spell.rt: the spelling of a table's nodes
 use spell::spelled;
 use table::RECORD;
 ghost use mathlib.Core.Path.{_≡_};
-ghost use Rattle.document.specs.Printing.{printing};
+ghost use Rattle.document.specs.reference.Printing.{printing};
 ghost use Rattle.printer.specs.Prints.{Prints};
 
 // "Printing returns number and length."

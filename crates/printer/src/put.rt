@@ -1,8 +1,8 @@
 // Writes the pieces of a spelling, as far as the output reaches: each function takes the index to write at and answers the next.
 // An index that would pass 4,294,967,295 is answered as 0: no document within the limits has so long a spelling.
+use base::lesser;
+use base::store_all;
 use kind::Keyword;
-use store::lesser;
-use store::store_all;
 ghost use mathlib.Core.Path.{_≡_};
 ghost use mathlib.Core.Bool.{true, _||_};
 ghost use mathlib.Core.List.{[], _∷_};
@@ -10,13 +10,13 @@ ghost use Prim.Native.Nat.{_+_, _<_, _≤_};
 ghost use lib.Dec.{eqb, ltb};
 ghost use lib.ListN.{length, take, drop, set};
 ghost use lib.Seq.{sets};
-ghost use Rattle.elements.specs.Class.{nameOf};
-ghost use Rattle.document.specs.Canonical.{hexByte, byteBefore, bytesBefore, quotedBefore, digits, stringBefore};
-ghost use Rattle.document.specs.Canonical as Canonical;
-ghost use Rattle.printer.specs.Adds.{Adds};
-ghost use Rattle.printer.specs.Pieces.{letterOf, leadingOf};
-ghost use Rattle.printer.specs.Raw.{Raw, RawTo};
-ghost use Rattle.printer.specs.Inside.{valueInside, sizeInside};
+ghost use Rattle.elements.specs.rules.Class.{nameOf};
+ghost use Rattle.document.specs.rules.Canonical.{hexByte, byteBefore, bytesBefore, quotedBefore, digits, stringBefore};
+ghost use Rattle.document.specs.rules.Canonical as Canonical;
+ghost use Rattle.printer.specs.internal.Adds.{Adds};
+ghost use Rattle.printer.specs.internal.Pieces.{letterOf, leadingOf};
+ghost use Rattle.printer.specs.internal.Raw.{Raw, RawTo};
+ghost use Rattle.printer.specs.internal.Inside.{valueInside, sizeInside};
 
 const TARGET: usize = Keyword::TARGET.number as usize;
 

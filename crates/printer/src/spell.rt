@@ -6,9 +6,9 @@ use super::put::put_name;
 use super::put::put_quoted;
 use super::put::put_size;
 use super::put::put_value;
+use base::lesser;
 use kind::Keyword;
 use kind::Kind;
-use store::lesser;
 use table::END;
 use table::HEIGHT;
 use table::KEY;
@@ -29,14 +29,14 @@ ghost use mathlib.Core.List.{List};
 ghost use Prim.Native.Nat.{ℕ, _+_, _≤_, _<_};
 ghost use lib.ListN.{length};
 ghost use lib.Seq.{sets};
-ghost use Rattle.elements.specs.Rules.{ruleOf};
-ghost use Rattle.document.specs.Document.{Node, Nodes};
-ghost use Rattle.document.specs.Table.{count, countAll};
-ghost use Rattle.document.specs.Canonical.{nodeFirst, canonical};
+ghost use Rattle.elements.specs.rules.Rules.{ruleOf};
+ghost use Rattle.document.specs.rules.Document.{Node, Nodes};
+ghost use Rattle.document.specs.rules.Table.{count, countAll};
+ghost use Rattle.document.specs.rules.Canonical.{nodeFirst, canonical};
 ghost use Rattle.table.specs.Stored.{wordAt, Stored, StoredAll};
-ghost use Rattle.printer.specs.Adds.{Adds};
+ghost use Rattle.printer.specs.internal.Adds.{Adds};
 ghost use Rattle.table.specs.Stored.{stringAt};
-ghost use Rattle.printer.specs.Inside.{Valueless, insideAll, valuesInside, firstOf};
+ghost use Rattle.printer.specs.internal.Inside.{Valueless, insideAll, valuesInside, firstOf};
 
 // Whether node `i` has neither key nor size nor type, as most elements.
 fn lacks_values(nodes: &[u32], i: usize) -> bool

@@ -1,4 +1,4 @@
--- From what the parts of a read ensure to what the read promises, way by way. Assumes nothing.
+-- From what the parts of a read ensure to what the read promises, way by way.
 use Prim.Native.Nat.{ℕ, _*_, _/_, _≤_, _<_, min}
 use mathlib.Core.Path.{_≡_, refl, sym, ap, _∙_}
 use mathlib.Core.Bool.{Bool, true, false, cond}
@@ -6,41 +6,43 @@ use mathlib.Core.List.{List, []}
 use native.Mathlib.Nat.{zero-add}
 use native.Mathlib.Omega.{arith}
 use borrow.Author.Tests.{lt-ltb, le-ltb, ltb-false, le-leb}
-use Rattle.laws.proofs.Booleans.{true-T}
+use Rattle.base.proofs.Booleans.{true-T}
 use lib.Dec.{ltb}
 use lib.ListN.{length, length-append, take, drop, getD, replicate, length-replicate, List·getD-append, List·getD-eq-default}
 use lib.Seq.{sets, sets-eq, take-at}
-use Rattle.syntax.specs.Expression.{Expr, Exprs, none, and, depthAll}
-use Rattle.document.specs.Document.{Node, says, Document}
-use Rattle.document.specs.Spelling.{Spelling, nested, imperative, mostLevels}
-use Rattle.document.specs.Meaning.{fine, judgeRoot, treeOf, places}
-use Rattle.document.specs.Imperative.{regroup}
-use Rattle.document.specs.Table.{recordLength, count, pool, tableOf}
-use Rattle.document.specs.Check.{Check, sound, unsound, check}
-use Rattle.document.specs.Account.{NestedForm, as-it-stands, regrouped}
-use Rattle.document.specs.Answer as Defined
-use Rattle.document.specs.Answer.{Memory, answerAt, refusal, noRoom, over, filled, oneExpression, nodeRoom, checked, stored, outcome}
+use Rattle.syntax.specs.rules.Expression.{Expr, Exprs, none, and, depthAll}
+use Rattle.document.specs.rules.Document.{Node, says, Document}
+use Rattle.document.specs.rules.Spelling.{Spelling, nested, imperative, mostLevels}
+use Rattle.document.specs.reference.Meaning.{fine, judgeRoot, treeOf, places}
+use Rattle.document.specs.reference.Imperative.{regroup}
+use Rattle.document.specs.rules.Record.{recordLength}
+use Rattle.document.specs.rules.Table.{count, pool, tableOf}
+use Rattle.document.specs.reference.Check.{Check, sound, unsound, check}
+use Rattle.document.specs.rules.Account.{NestedForm, as-it-stands, regrouped}
+use Rattle.document.specs.rules.Memory as Defined
+use Rattle.document.specs.reference.Outcome.{oneExpression, checked, stored, outcome}
+use Rattle.document.specs.rules.Memory.{Memory, answerAt, refusal, noRoom, over, filled, nodeRoom}
 use Rattle.document.proofs.Places.{root-places}
 use Rattle.document.proofs.Records.{table-length}
 use Rattle.document.proofs.Numbers.{check-number}
 use Rattle.document.proofs.Takes.{takes-regroup}
 use Rattle.document.proofs.CheckedNode.{unsound-below}
-use Rattle.document.specs.Canonical.{layout, treeLevels}
-use Rattle.document.specs.Printing.{checkedAs, checking}
+use Rattle.document.specs.rules.Canonical.{layout, treeLevels}
+use Rattle.document.specs.reference.Printing.{checkedAs, checking}
 use Rattle.document.proofs.PrintingDecided.{checks}
 use Rattle.validate.specs.Checked.{checkNumber, checkNode}
 use Rattle.validate.specs.Checks.{Checks}
 use Rattle.validate.specs.declared.Checked.{Checked}
 use Rattle.reader.specs.declared.Answer.{Answer}
 use Rattle.reader.specs.declared.walk.Walked.{Walked}
-use Rattle.reader.specs.Stands.{Stands}
-use Rattle.reader.specs.Walked.{readWalked}
-use Rattle.reader.specs.Checked.{checkPlace, Held}
-use Rattle.reader.specs.Groups.{groupNumber, groupPlace, roomNumber}
+use Rattle.reader.specs.internal.Stands.{Stands}
+use Rattle.reader.specs.internal.Walked.{readWalked}
+use Rattle.reader.specs.internal.Checked.{checkPlace, Held}
+use Rattle.reader.specs.internal.Groups.{groupNumber, groupPlace, roomNumber}
 use Rattle.reader.specs.Read.{Answers, Reads}
-use Rattle.reader.specs.Sizes.{nodesOf}
-use Rattle.reader.specs.Tape.{taped, Located}
-use Rattle.reader.specs.Filling.{Fits32}
+use Rattle.reader.specs.internal.Sizes.{nodesOf}
+use Rattle.reader.specs.internal.Tape.{taped, Located}
+use Rattle.reader.specs.internal.Filling.{Fits32}
 use Rattle.reader.proofs.Counts.{nodes-places}
 use Rattle.reader.proofs.Fits.{read-fits}
 use Rattle.reader.proofs.Located.{form-located}

@@ -1,4 +1,4 @@
--- How the walk over the blocks of an imperative text goes on: the invariant of its loops, kept by each way through a loop's body. Assumes nothing.
+-- How the walk over the blocks of an imperative text goes on: the invariant of its loops, kept by each way through a loop's body.
 use Prim.Native.Nat.{ℕ, _+_, _-_, _≤_, _<_}
 use mathlib.Core.Path.{_≡_, refl, ap, sym, _∙_}
 use mathlib.Core.Bool.{true, false, cond}
@@ -9,28 +9,29 @@ use native.Mathlib.Numerals.{add-one}
 use lib.Dec.{eqb, leb}
 use lib.ListN.{length, drop}
 use borrow.Author.Tests.{eqb-true, eqb-false, leb-true}
-use Rattle.laws.proofs.Booleans.{cond-case, bool-case, both, true-T, T-true}
-use Rattle.elements.specs.Class as Class
-use Rattle.elements.specs.Inside.{ended}
+use Rattle.base.proofs.Booleans.{cond-case, bool-case, both, true-T, T-true}
+use Rattle.elements.specs.rules.Class as Class
+use Rattle.elements.specs.rules.Inside.{ended}
 use Rattle.kind.specs.Machine.{stateOf}
 use Rattle.kind.proofs.Steps.{start-state}
-use Rattle.syntax.specs.Byte.{Bracket, closing}
-use Rattle.syntax.specs.Expression.{Expr, list, Exprs, none, and, place}
+use Rattle.syntax.specs.rules.Byte.{Bracket, closing}
+use Rattle.syntax.specs.rules.Expression.{Expr, list, Exprs, none, and, place}
 use Rattle.lexer.specs.Token.{Seen, seen}
-use Rattle.document.specs.Spelling.{isBlockParameter}
-use Rattle.document.specs.Imperative.{join, inCommand, isCommand, block}
-use Rattle.document.specs.Lead.{leadClass, exprClass, listClass}
-use Rattle.document.specs.Meaning.{Verdict, fine, fault, finish, run, judge}
+use Rattle.document.specs.rules.Spelling.{isBlockParameter}
+use Rattle.document.specs.rules.Command.{join, inCommand}
+use Rattle.document.specs.rules.Command.{isCommand, block}
+use Rattle.document.specs.rules.Lead.{leadClass, exprClass, listClass}
+use Rattle.document.specs.reference.Meaning.{Verdict, fine, fault, finish, run, judge}
 use Rattle.document.proofs.Blocks.{block-element}
-use Rattle.reader.specs.Stands.{Has, Stands}
-use Rattle.reader.specs.Sizes.{nodesOf, nodesIn, bytesOf, bytesIn}
-use Rattle.reader.specs.Walked.{walkedTo, Bounded}
-use Rattle.reader.specs.Tape.{entered, left, taped, tapedAll}
-use Rattle.document.specs.Takes.{Takes, at-end, at-command, expression, a-block}
-use Rattle.reader.specs.Turn.{whole, Opened, Judges, verdictOf, pastBracket}
-use Rattle.reader.specs.Turn as Turn
-use Rattle.reader.specs.Blocks.{commandClass, looseClass, leadsCommand, endsAt, Refuses, by-step, stuck, TakenAs}
-use Rattle.reader.specs.Blocks.{Answered, InCommand, InContent, Belongs, Counted, Child}
+use Rattle.reader.specs.internal.Stands.{Has, Stands}
+use Rattle.reader.specs.internal.Sizes.{nodesOf, nodesIn, bytesOf, bytesIn}
+use Rattle.reader.specs.internal.Walked.{walkedTo, Bounded}
+use Rattle.reader.specs.internal.Tape.{entered, left, taped, tapedAll}
+use Rattle.document.specs.rules.Takes.{Takes, at-end, at-command, expression, a-block}
+use Rattle.reader.specs.internal.Turn.{whole, Opened, Judges, verdictOf, pastBracket}
+use Rattle.reader.specs.internal.Turn as Turn
+use Rattle.reader.specs.internal.Blocks.{commandClass, looseClass, leadsCommand, endsAt, Refuses, by-step, stuck, TakenAs}
+use Rattle.reader.specs.internal.Blocks.{Answered, InCommand, InContent, Belongs, Counted, Child}
 use Rattle.reader.specs.declared.walk.Walked.{Walked}
 use Rattle.reader.proofs.Looks.{SeenAs, saw-end, saw-symbol, saw-string, saw-list, look-stands, seen-bounds}
 use Rattle.reader.proofs.Turns.{Looked, none-taken, run-bad, run-fine, run-fault, seen-forward, open-list, seen-within}

@@ -1,4 +1,4 @@
--- What an expression counts as in a command and in a block's content. Assumes nothing.
+-- What an expression counts as in a command and in a block's content.
 use Prim.Native.Nat.{ℕ, _+_, _≤_, _<_}
 use mathlib.Core.Path.{_≡_, refl, sym, _∙_}
 use mathlib.Core.Bool.{true, false, not, cond, _&&_, _||_}
@@ -7,21 +7,22 @@ use native.Mathlib.Omega.{arith}
 use lib.Dec.{eqb, leb}
 use lib.ListN.{drop}
 use borrow.Author.Tests.{eqb-false, leb-false, le-leb, lt-leb, ne-eqb}
-use Rattle.laws.proofs.Booleans.{cond-case, cond-under, bool-case, both, or-false, and-true, and-false, true-T, T-true, not-true}
-use Rattle.elements.specs.Class as Class
-use Rattle.syntax.specs.Expression.{Expr, symbol, quoted, list, Exprs, none, and, place}
+use Rattle.base.proofs.Booleans.{cond-case, cond-under, bool-case, both, or-false, and-true, and-false, true-T, T-true, not-true}
+use Rattle.elements.specs.rules.Class as Class
+use Rattle.syntax.specs.rules.Expression.{Expr, symbol, quoted, list, Exprs, none, and, place}
 use Rattle.lexer.specs.Token.{Seen, atomValue}
-use Rattle.document.specs.Spelling.{isBlockParameter}
-use Rattle.document.specs.Lead.{exprClass, listClass}
-use Rattle.document.specs.Meaning.{fine, judge}
-use Rattle.document.specs.Imperative.{notAllowed, loose, isCommand, block}
+use Rattle.document.specs.rules.Spelling.{isBlockParameter}
+use Rattle.document.specs.rules.Lead.{exprClass, listClass}
+use Rattle.document.specs.reference.Meaning.{fine, judge}
+use Rattle.document.specs.rules.Command.{notAllowed}
+use Rattle.document.specs.rules.Command.{loose, isCommand, block}
 use Rattle.document.proofs.Blocks.{block-no-parameter}
 use Rattle.document.proofs.Regroup.{block-class}
-use Rattle.reader.specs.Stands.{Stands}
-use Rattle.reader.specs.Sizes.{nodesOf, bytesOf}
-use Rattle.reader.specs.Tape.{entered, taped}
-use Rattle.document.specs.Takes.{Takes, at-command, expression, a-block}
-use Rattle.reader.specs.Blocks.{commandClass, looseClass, leadsCommand, endsAt}
+use Rattle.reader.specs.internal.Stands.{Stands}
+use Rattle.reader.specs.internal.Sizes.{nodesOf, bytesOf}
+use Rattle.reader.specs.internal.Tape.{entered, taped}
+use Rattle.document.specs.rules.Takes.{Takes, at-command, expression, a-block}
+use Rattle.reader.specs.internal.Blocks.{commandClass, looseClass, leadsCommand, endsAt}
 use Rattle.reader.proofs.Looks.{SeenAs, saw-end, saw-symbol, saw-string, saw-list}
 
 -- ---- classes

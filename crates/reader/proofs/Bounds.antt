@@ -1,4 +1,4 @@
--- Places and counts of an answer, and the line and column, are within the text. Assumes nothing.
+-- Places and counts of an answer, and the line and column, are within the text.
 use Prim.Native.Nat.{ℕ, zero, suc, _+_, _-_, _≤_}
 use mathlib.Core.Path.{_≡_, refl, ap}
 use mathlib.Core.List.{List, [], _∷_, _++_}
@@ -6,30 +6,31 @@ use native.Mathlib.Omega.{arith}
 use borrow.Author.Tests.{ltb-false, ltb-true}
 use lib.Dec.{ltb, eqb}
 use lib.ListN.{length, take, getD, length-append, length-take}
-use Rattle.laws.proofs.Booleans.{cond-case}
-use Rattle.utf8.specs.Sequence.{validUpTo}
-use Rattle.utf8.specs.Position.{lineFeed, lineFeeds, lineOf, hasLineFeed, lastLine, isContinuation, characters, columnOf}
-use Rattle.syntax.specs.Byte.{openByte}
-use Rattle.syntax.specs.Syntax.{piecesBefore, bytesBefore}
-use Rattle.syntax.specs.Expression.{Expr, symbol, quoted, list, Exprs, none, and, place}
-use Rattle.syntax.specs.Scan as Scan
-use Rattle.syntax.specs.Scan.{Scanned, scan}
+use Rattle.base.proofs.Booleans.{cond-case}
+use Rattle.utf8.specs.reference.Sequence.{validUpTo}
+use Rattle.utf8.specs.rules.Position.{lineFeed, lineFeeds, lineOf, hasLineFeed, lastLine, isContinuation, characters, columnOf}
+use Rattle.syntax.specs.rules.Byte.{openByte}
+use Rattle.syntax.specs.rules.Syntax.{piecesBefore, bytesBefore}
+use Rattle.syntax.specs.rules.Expression.{Expr, symbol, quoted, list, Exprs, none, and, place}
+use Rattle.syntax.specs.reference.Scan as Scan
+use Rattle.syntax.specs.reference.Scan.{Scanned, scan}
 use Rattle.lexer.specs.Token.{scanPlace}
-use Rattle.syntax.specs.Fault.{Opened, openedBefore, size, Hit, control, lone-return, no-escape, empty-string, unclosed-string, unopened, other-partner, left-open, too-deep, Fault}
+use Rattle.syntax.specs.rules.Fault.{Opened, openedBefore, size, Hit, control, lone-return, no-escape, empty-string, unclosed-string, unopened, other-partner, left-open, too-deep, Fault}
 use Rattle.syntax.proofs.Strings.{pieces-append}
 use Rattle.syntax.proofs.Prefixes.{opened-length}
 use Rattle.syntax.proofs.Decided.{refused-fault}
-use Rattle.elements.specs.Class as Class
-use Rattle.document.specs.Spelling.{Spelling, nested, imperative}
-use Rattle.document.specs.Lead.{leadClass}
-use Rattle.document.specs.Meaning.{Verdict, fine, fault, judgeRoot, places, listPlaces, allPlaces}
-use Rattle.document.specs.Imperative.{notAllowed, regroup}
-use Rattle.document.specs.Answer.{Reading, refused, read, tooDeep, judged, oneExpression}
+use Rattle.elements.specs.rules.Class as Class
+use Rattle.document.specs.rules.Spelling.{Spelling, nested, imperative}
+use Rattle.document.specs.rules.Lead.{leadClass}
+use Rattle.document.specs.reference.Meaning.{Verdict, fine, fault, judgeRoot, places, listPlaces, allPlaces}
+use Rattle.document.specs.reference.Imperative.{regroup}
+use Rattle.document.specs.rules.Command.{notAllowed}
+use Rattle.document.specs.reference.Outcome.{Reading, refused, read, tooDeep, judged, oneExpression}
 use Rattle.document.proofs.RegroupedAll.{Laws, regrouped-all}
 use Rattle.reader.specs.declared.walk.Walked.{Walked}
-use Rattle.reader.specs.Stands.{Stands, ended, after-blank, after-line-end, a-symbol, a-string, a-list}
-use Rattle.reader.specs.Walked.{readWalked}
-use Rattle.reader.specs.Groups.{groupPlace}
+use Rattle.reader.specs.internal.Stands.{Stands, ended, after-blank, after-line-end, a-symbol, a-string, a-list}
+use Rattle.reader.specs.internal.Walked.{readWalked}
+use Rattle.reader.specs.internal.Groups.{groupPlace}
 use Rattle.reader.proofs.Counts.{weight, weightAll, weighed, stands-weight}
 use Rattle.reader.proofs.Within.{Placed, AllPlaced, placed, VerdictIn, root-within}
 

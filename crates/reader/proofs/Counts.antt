@@ -1,4 +1,4 @@
--- The counts of a walk are those of the document, and never pass the bytes read. Assumes nothing.
+-- The counts of a walk are those of the document, and never pass the bytes read.
 use Prim.Native.Nat.{ℕ, suc, _+_, _≤_, max}
 use mathlib.Core.Path.{_≡_, refl, ap, _∙_}
 use mathlib.Core.Bool.{Bool, true, false, cond}
@@ -6,15 +6,15 @@ use mathlib.Core.List.{List, [], _∷_, _++_}
 use native.Mathlib.Omega.{arith}
 use lib.Dec.{T, eqb}
 use lib.ListN.{length, length-append}
-use Rattle.laws.proofs.Booleans.{cond-case}
-use Rattle.elements.specs.Class as Class
-use Rattle.syntax.specs.Expression.{Expr, symbol, quoted, list, Exprs, none, and}
-use Rattle.document.specs.Document.{Tree, text, value, size, element, Trees, empty, holds, child, keyOf, typeOf, keyIn, typeIn, isNode, says, sayAll}
-use Rattle.document.specs.Lead.{leadClass}
-use Rattle.document.specs.Meaning.{textBytes, symbolBytes, onlyOne, sizeTree, valueTree, treeOf, listTree, treesOf, places, listPlaces, allPlaces}
-use Rattle.document.specs.Table.{pool, poolAll}
-use Rattle.reader.specs.Stands.{Stands, ended, after-blank, after-line-end, a-symbol, a-string, a-list}
-use Rattle.reader.specs.Sizes.{valueSize, nodesOf, nodesOfList, nodesIn, bytesOf, bytesOfList, bytesIn}
+use Rattle.base.proofs.Booleans.{cond-case}
+use Rattle.elements.specs.rules.Class as Class
+use Rattle.syntax.specs.rules.Expression.{Expr, symbol, quoted, list, Exprs, none, and}
+use Rattle.document.specs.rules.Document.{Tree, text, value, size, element, Trees, empty, holds, child, keyOf, typeOf, keyIn, typeIn, isNode, says, sayAll}
+use Rattle.document.specs.rules.Lead.{leadClass}
+use Rattle.document.specs.reference.Meaning.{textBytes, symbolBytes, onlyOne, sizeTree, valueTree, treeOf, listTree, treesOf, places, listPlaces, allPlaces}
+use Rattle.document.specs.rules.Table.{pool, poolAll}
+use Rattle.reader.specs.internal.Stands.{Stands, ended, after-blank, after-line-end, a-symbol, a-string, a-list}
+use Rattle.reader.specs.internal.Sizes.{valueSize, nodesOf, nodesOfList, nodesIn, bytesOf, bytesOfList, bytesIn}
 use Rattle.reader.proofs.Fronts.{SymbolHere, symbol-here, StringHere, string-here}
 
 -- ---- nodes

@@ -1,4 +1,4 @@
--- The number of a size, read digit by digit. Assumes nothing.
+-- The number of a size, read digit by digit.
 use Prim.Native.Nat.{ℕ, zero, suc, _+_, _*_, _-_, _≤_, _<_}
 use mathlib.Core.Path.{_≡_, refl, sym, _∙_}
 use mathlib.Core.Bool.{cond}
@@ -8,11 +8,11 @@ use native.Mathlib.Omega.{arith}
 use lib.ListN.{length, getD, take, drop, length-drop}
 use lib.Seq.{drop-cons, length-take-le}
 use borrow.Author.Tests.{le-leb, lt-leb}
-use Rattle.laws.proofs.Booleans.{and-false}
-use Rattle.syntax.specs.Expression.{symbol}
-use Rattle.elements.specs.Characters.{isDigit}
-use Rattle.document.specs.Value.{every, isDecimal, decimalAfter, nonEmpty}
-use Rattle.document.specs.Meaning.{numberOf, symbolBytes}
+use Rattle.base.proofs.Booleans.{and-false}
+use Rattle.syntax.specs.rules.Expression.{symbol}
+use Rattle.elements.specs.rules.Characters.{isDigit}
+use Rattle.document.specs.rules.Value.{every, isDecimal, decimalAfter, nonEmpty}
+use Rattle.document.specs.reference.Meaning.{numberOf, symbolBytes}
 
 -- The number of bytes that are decimal digits, after the number n of those before; or 65,536.
 pub numberAfter : ℕ → List ℕ → ℕ

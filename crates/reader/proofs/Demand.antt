@@ -1,14 +1,15 @@
 -- The demands of the two functions, from their contracts. Demand 1: what a call answered and left is what the account tells, number by number, and nothing else is. Demand 3: a call answers 0 exactly when the text is
--- within the limits and spells a well-formed document that fits the room; node words, pool and counts are then that document's; and no text spells two documents. Assumes nothing.
+-- within the limits and spells a well-formed document that fits the room; node words, pool and counts are then that document's; and no text spells two documents.
 use mathlib.Core.Path.{_≡_, sym, ap, _∙_}
 use mathlib.Core.List.{List}
 use Prim.Native.Nat.{ℕ, _≤_}
 use lib.Dec.{T}
-use Rattle.document.specs.Document.{Node}
-use Rattle.document.specs.Spelling.{Spelling, Spells, WithinLimits}
-use Rattle.document.specs.Answer.{Memory, Outcome, outcome}
-use Rattle.document.specs.Demand.{Readable, Read}
-use Rattle.document.specs.Account.{keepsMemory, Answers}
+use Rattle.document.specs.rules.Document.{Node}
+use Rattle.document.specs.rules.Spelling.{Spelling, Spells, WithinLimits}
+use Rattle.document.specs.reference.Outcome.{outcome}
+use Rattle.document.specs.rules.Memory.{Memory, Outcome}
+use Rattle.document.specs.rules.Demand.{Readable, Read}
+use Rattle.document.specs.rules.Account.{keepsMemory, Answers}
 use Rattle.document.proofs.Account.{answers, answers-only}
 use Rattle.document.proofs.Demand as Definition
 use Rattle.document.proofs.Unaltered as Unaltered

@@ -1,4 +1,4 @@
--- The key, type, width and height of an element that is fine are those of the one list of each sort. Assumes nothing.
+-- The key, type, width and height of an element that is fine are those of the one list of each sort.
 use Prim.Native.Nat.{ℕ}
 use mathlib.Core.Path.{_≡_, refl, _∙_}
 use mathlib.Core.Bool.{false, cond}
@@ -6,16 +6,17 @@ use mathlib.Core.Logic.{_⊎_, inl, inr, ⊎-elim}
 use mathlib.Core.List.{List, [], append-nil}
 use lib.Dec.{T, eqb, eqb→eq}
 use borrow.Author.Tests.{ne-eqb}
-use Rattle.laws.proofs.Booleans.{cond-case, both, or-true}
-use Rattle.elements.specs.Class as Class
-use Rattle.elements.specs.Characters.{typeCharacter}
-use Rattle.syntax.specs.Expression.{Expr, symbol, quoted, list, Exprs, none, and}
-use Rattle.document.specs.Value.{nonEmpty, every, isValue}
-use Rattle.document.specs.Document.{Tree, size, keyOf, typeOf, widthOr, heightOr, keyIn, typeIn, widthIn, heightIn, missing}
-use Rattle.document.specs.RulesTest.{keepsRules}
-use Rattle.document.specs.Spelling.{holdsText}
-use Rattle.document.specs.Lead.{leadClass, listClass, exprClass}
-use Rattle.document.specs.Meaning.{fine, judge, judgeList, textBytes, symbolBytes, onlyOne, sizeTree, valueTree, treeOf, treesOf}
+use Rattle.base.proofs.Booleans.{cond-case, both, or-true}
+use Rattle.elements.specs.rules.Class as Class
+use Rattle.elements.specs.rules.Characters.{typeCharacter}
+use Rattle.syntax.specs.rules.Expression.{Expr, symbol, quoted, list, Exprs, none, and}
+use Rattle.document.specs.rules.Value.{nonEmpty, every, isValue}
+use Rattle.base.specs.rules.Limits.{missing}
+use Rattle.document.specs.rules.Document.{Tree, size, keyOf, typeOf, widthOr, heightOr, keyIn, typeIn, widthIn, heightIn}
+use Rattle.document.specs.reference.RulesTest.{keepsRules}
+use Rattle.document.specs.rules.Spelling.{holdsText}
+use Rattle.document.specs.rules.Lead.{leadClass, listClass, exprClass}
+use Rattle.document.specs.reference.Meaning.{fine, judge, judgeList, textBytes, symbolBytes, onlyOne, sizeTree, valueTree, treeOf, treesOf}
 use Rattle.document.proofs.Values.{value-parts}
 use Rattle.reader.proofs.Counts.{size-tree}
 use Rattle.reader.proofs.Picked.{EachFine, OneText, Without, value-keeps, one-text, symbol-single}

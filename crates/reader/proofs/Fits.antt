@@ -1,20 +1,20 @@
--- The pool places of a text that was read fit a word. Assumes nothing.
+-- The pool places of a text that was read fit a word.
 use Prim.Native.Nat.{ℕ, _+_, _≤_}
 use mathlib.Core.Path.{_≡_, refl}
 use mathlib.Core.Bool.{Bool, true, false, cond}
 use mathlib.Core.List.{List}
 use native.Mathlib.Omega.{arith}
 use lib.ListN.{length, length-append}
-use Rattle.laws.proofs.Booleans.{true-T}
-use Rattle.syntax.specs.Expression.{Expr, Exprs, none, and}
-use Rattle.document.specs.Document.{child, isNode, says, sayAll}
-use Rattle.document.specs.Spelling.{Spelling}
-use Rattle.document.specs.Meaning.{treeOf, treesOf}
-use Rattle.document.specs.Table.{poolAll}
-use Rattle.document.specs.Answer.{read, oneExpression}
-use Rattle.reader.specs.Stands.{Stands}
-use Rattle.reader.specs.Sizes.{bytesOf, bytesIn}
-use Rattle.reader.specs.Filling.{saidBy, Fits32}
+use Rattle.base.proofs.Booleans.{true-T}
+use Rattle.syntax.specs.rules.Expression.{Expr, Exprs, none, and}
+use Rattle.document.specs.rules.Document.{child, isNode, says, sayAll}
+use Rattle.document.specs.rules.Spelling.{Spelling}
+use Rattle.document.specs.reference.Meaning.{treeOf, treesOf}
+use Rattle.document.specs.rules.Table.{poolAll}
+use Rattle.document.specs.reference.Outcome.{read, oneExpression}
+use Rattle.reader.specs.internal.Stands.{Stands}
+use Rattle.reader.specs.internal.Sizes.{bytesOf, bytesIn}
+use Rattle.reader.specs.internal.Filling.{saidBy, Fits32}
 use Rattle.reader.proofs.Counts.{bytes-pool, weighed}
 use Rattle.reader.proofs.Bounds.{read-weight}
 

@@ -1,4 +1,4 @@
--- The rows of the entries that a walk over fine expressions noted are those of what the expressions say. Assumes nothing.
+-- The rows of the entries that a walk over fine expressions noted are those of what the expressions say.
 use Prim.Native.Nat.{ℕ, suc, _+_, _*_, _≤_, _<_}
 use mathlib.Core.Path.{_≡_, refl, sym, ap, subst, _∙_}
 use mathlib.Core.Bool.{true, false, not}
@@ -8,19 +8,20 @@ use native.Mathlib.Omega.{arith}
 use lib.Dec.{T, eqb, T-not}
 use lib.ListN.{length, getD, drop}
 use lib.Seq.{getD-set-same}
-use Rattle.laws.proofs.Booleans.{bool-case, both, true-T, not-T-false}
-use Rattle.elements.specs.Class as Class
-use Rattle.elements.specs.Inside.{start}
+use Rattle.base.proofs.Booleans.{bool-case, both, true-T, not-T-false}
+use Rattle.elements.specs.rules.Class as Class
+use Rattle.elements.specs.rules.Inside.{start}
 use Rattle.lexer.specs.Token.{atomValue}
-use Rattle.syntax.specs.Expression.{Expr, symbol, quoted, list, Exprs, none, and}
-use Rattle.document.specs.Document.{text, missing, keyIn, typeIn, widthIn, heightIn}
-use Rattle.document.specs.Lead.{leadClass}
-use Rattle.document.specs.Meaning.{fine, judge, judgeList, treeOf, treesOf, places}
+use Rattle.syntax.specs.rules.Expression.{Expr, symbol, quoted, list, Exprs, none, and}
+use Rattle.base.specs.rules.Limits.{missing}
+use Rattle.document.specs.rules.Document.{text, keyIn, typeIn, widthIn, heightIn}
+use Rattle.document.specs.rules.Lead.{leadClass}
+use Rattle.document.specs.reference.Meaning.{fine, judge, judgeList, treeOf, treesOf, places}
 use Rattle.document.proofs.Nested.{not-fine}
 use Rattle.document.proofs.Blocks.{Read}
-use Rattle.reader.specs.Sizes.{nodesOf, nodesOfList, nodesIn}
-use Rattle.reader.specs.Tape.{entered, left, taped, tapedList, tapedAll, Located, LocatedAll}
-use Rattle.reader.specs.Filling.{Filling, heldAt, withRow, entryAt, textRow, elementRow, nextRow}
+use Rattle.reader.specs.internal.Sizes.{nodesOf, nodesOfList, nodesIn}
+use Rattle.reader.specs.internal.Tape.{entered, left, taped, tapedList, tapedAll, Located, LocatedAll}
+use Rattle.reader.specs.internal.Filling.{Filling, heldAt, withRow, entryAt, textRow, elementRow, nextRow}
 use Rattle.reader.proofs.Picked.{EachFine, element-fine, read-each}
 use Rattle.reader.proofs.Rows.{rowsOf, rows-node, rows-add}
 use Rattle.reader.proofs.Tapes.{length-taped, length-all, length-entered}

@@ -1,4 +1,4 @@
--- The expressions of concrete syntax stand where they are located. Assumes nothing.
+-- The expressions of concrete syntax stand where they are located.
 use mathlib.Core.Path.{_≡_, refl, ap, sym, subst, _∙_}
 use mathlib.Core.List.{List, [], _∷_, _++_, append-nil}
 use Prim.Native.Nat.{ℕ, suc, _+_}
@@ -7,18 +7,18 @@ use native.Mathlib.Omega.{arith}
 use lib.Dec.{T}
 use lib.ListN.{length, getD, drop, length-append, length-drop}
 use lib.Seq.{getD-drop, drop-drop, drop-append-seam}
-use Rattle.laws.proofs.Booleans.{both}
-use Rattle.syntax.specs.Byte.{ByteClass, blank, return, quote, ordinary, opening, closing, byteClass, openByte, closeByte, isOrdinary}
-use Rattle.syntax.specs.Syntax.{Piece, piecesBefore, piecesValue, arePieces, areOrdinary, Leaf, space, line-end, word, string, leafBefore, isLeaf}
-use Rattle.syntax.specs.Syntax.{Before, another, after, Forest, end, leaf, brackets, bytesBefore, bytesOf, Ok}
-use Rattle.syntax.specs.Expression.{Exprs, locateLeaf, locate}
-use Rattle.syntax.specs.Scan.{closed, quotedFrom, ordinaryRun}
+use Rattle.base.proofs.Booleans.{both}
+use Rattle.syntax.specs.rules.Byte.{ByteClass, blank, return, quote, ordinary, opening, closing, byteClass, openByte, closeByte, isOrdinary}
+use Rattle.syntax.specs.rules.Syntax.{Piece, piecesBefore, piecesValue, arePieces, areOrdinary, Leaf, space, line-end, word, string, leafBefore, isLeaf}
+use Rattle.syntax.specs.rules.Syntax.{Before, another, after, Forest, end, leaf, brackets, bytesBefore, bytesOf, Ok}
+use Rattle.syntax.specs.rules.Expression.{Exprs, locateLeaf, locate}
+use Rattle.syntax.specs.reference.Scan.{closed, quotedFrom, ordinaryRun}
 use Rattle.lexer.specs.Token.{stringEnd, stringAt, contentOf, atomValue}
 use Rattle.syntax.proofs.Classes.{Fits, blank-class, ordinary-class, open-class, close-class, fits-end, fits-close}
 use Rattle.syntax.proofs.Strings.{pieces-append}
 use Rattle.syntax.proofs.Items.{run-ends, quoted-string}
 use Rattle.syntax.proofs.Runs.{leaf-append, leaf-length, run-append, run-length, lastOf, fits-run}
-use Rattle.reader.specs.Stands.{Has, Ends, at-bracket, at-end, Stands, ended, after-blank, after-line-end, a-symbol, a-string, a-list}
+use Rattle.reader.specs.internal.Stands.{Has, Ends, at-bracket, at-end, Stands, ended, after-blank, after-line-end, a-symbol, a-string, a-list}
 
 -- ---- a place where known bytes stand
 

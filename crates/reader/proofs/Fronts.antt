@@ -1,4 +1,4 @@
--- What stands at the front of bytes: white space, a symbol, and what `seen` makes of them. Assumes nothing.
+-- What stands at the front of bytes: white space, a symbol, and what `seen` makes of them.
 use Prim.Native.Nat.{ℕ, suc, _+_, _≤_, _<_}
 use mathlib.Core.Path.{_≡_, refl, ap, sym, _∙_}
 use mathlib.Core.Bool.{Bool, true, false}
@@ -10,15 +10,15 @@ use lib.Dec.{eqb, ltb}
 use lib.ListN.{length, getD, drop, length-drop, List·getD-eq-default}
 use lib.Seq.{drop-cons, getD-drop}
 use borrow.Author.Tests.{ne-eqb, ltb-true, ltb-false}
-use Rattle.laws.proofs.Booleans.{bool-case}
-use Rattle.elements.specs.Class as Class
-use Rattle.syntax.specs.Byte.{ByteClass, blank, return, quote, forbidden, ordinary, opening, closing, byteClass, blankClass, isBlank, ordinaryClass}
-use Rattle.syntax.specs.Byte.{isOrdinary}
-use Rattle.syntax.specs.Scan.{ordinaryRun}
+use Rattle.base.proofs.Booleans.{bool-case}
+use Rattle.elements.specs.rules.Class as Class
+use Rattle.syntax.specs.rules.Byte.{ByteClass, blank, return, quote, forbidden, ordinary, opening, closing, byteClass, blankClass, isBlank, ordinaryClass}
+use Rattle.syntax.specs.rules.Byte.{isOrdinary}
+use Rattle.syntax.specs.reference.Scan.{ordinaryRun}
 use Rattle.lexer.specs.Token.{blanks, stringAt, atomValue, leadClassAt, leadLength, seenBy, seenFirst, seen}
 use Rattle.syntax.proofs.Classes.{ByteOf, class-byte}
 use Rattle.lexer.proofs.Blanks.{blanks-fit, run-fits}
-use Rattle.reader.specs.Stands.{Has}
+use Rattle.reader.specs.internal.Stands.{Has}
 use Rattle.reader.proofs.Strings.{Spans, string-spans, string-value}
 
 -- ---- lengths

@@ -1,4 +1,4 @@
--- A whole imperative text: no expression, a first one that is no document, or a document that is the block of its command. Assumes nothing.
+-- A whole imperative text: no expression, a first one that is no document, or a document that is the block of its command.
 use Prim.Native.Nat.{ℕ, _+_, _≤_, _<_}
 use mathlib.Core.Path.{_≡_, refl, ap, sym, _∙_}
 use mathlib.Core.List.{List, [], _∷_}
@@ -6,23 +6,24 @@ use native.Mathlib.Nat.{zero-add}
 use native.Mathlib.Omega.{arith}
 use lib.ListN.{length}
 use borrow.Author.Tests.{le-ltb, ne-eqb}
-use Rattle.elements.specs.Class as Class
-use Rattle.syntax.specs.Expression.{Expr, Exprs, and, place, depth, depthAll}
+use Rattle.elements.specs.rules.Class as Class
+use Rattle.syntax.specs.rules.Expression.{Expr, Exprs, and, place, depth, depthAll}
 use Rattle.lexer.specs.Token.{Seen}
-use Rattle.document.specs.Spelling.{imperative}
-use Rattle.document.specs.Lead.{exprClass, listClass}
-use Rattle.document.specs.Meaning.{fine, fault, judge, judgeRoot}
-use Rattle.document.specs.Imperative.{block, innermost, contentsOf, regroup}
-use Rattle.document.specs.Answer.{tooDeep, judged, oneExpression}
+use Rattle.document.specs.rules.Spelling.{imperative}
+use Rattle.document.specs.rules.Lead.{exprClass, listClass}
+use Rattle.document.specs.reference.Meaning.{fine, fault, judge, judgeRoot}
+use Rattle.document.specs.reference.Imperative.{innermost, contentsOf, regroup}
+use Rattle.document.specs.rules.Command.{block}
+use Rattle.document.specs.reference.Outcome.{tooDeep, judged, oneExpression}
 use Rattle.document.proofs.Regroup.{block-class}
 use Rattle.document.proofs.Depth.{depth-regrouped}
-use Rattle.reader.specs.Stands.{Stands}
-use Rattle.reader.specs.Sizes.{nodesOf, bytesOf}
-use Rattle.reader.specs.Walked.{walkedTo, Bounded, readWalked}
-use Rattle.reader.specs.Tape.{entered, left, taped}
-use Rattle.document.specs.Takes.{Takes}
-use Rattle.reader.specs.Turn.{Opened}
-use Rattle.reader.specs.Blocks.{InCommand}
+use Rattle.reader.specs.internal.Stands.{Stands}
+use Rattle.reader.specs.internal.Sizes.{nodesOf, bytesOf}
+use Rattle.reader.specs.internal.Walked.{walkedTo, Bounded, readWalked}
+use Rattle.reader.specs.internal.Tape.{entered, left, taped}
+use Rattle.document.specs.rules.Takes.{Takes}
+use Rattle.reader.specs.internal.Turn.{Opened}
+use Rattle.reader.specs.internal.Blocks.{InCommand}
 use Rattle.reader.specs.declared.walk.Walked.{Walked}
 use Rattle.reader.proofs.Looks.{SeenAs, saw-end, saw-symbol, saw-string, saw-list, look-stands}
 use Rattle.reader.proofs.Turns.{Looked, seen-forward, open-list}

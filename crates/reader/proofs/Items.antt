@@ -1,4 +1,4 @@
--- A list holds items and nothing else. Assumes nothing.
+-- A list holds items and nothing else.
 use Prim.Native.Nat.{ℕ, _≤_, _<_}
 use mathlib.Core.Path.{_≡_, refl, ap}
 use mathlib.Core.Bool.{false, _||_}
@@ -8,16 +8,16 @@ use mathlib.Core.List.{List, [], _∷_, List·Memᴰ·eq-of-singleton}
 use mathlib.Core.Logic.{_⊎_, inl, inr, ⊎-elim}
 use borrow.Author.Tests.{eqb-true, eqb-false}
 use lib.Dec.{T, eqb, eqb→eq}
-use Rattle.laws.proofs.Booleans.{bool-case, or-true}
-use Rattle.elements.specs.Bytes.{among}
-use Rattle.elements.specs.Class as Class
-use Rattle.elements.specs.Rules.{Slot, Content, alternatives, rules, ruleIn, ruleOf}
-use Rattle.elements.specs.Inside.{State, expecting, holding}
+use Rattle.base.proofs.Booleans.{bool-case, or-true}
+use Rattle.elements.specs.rules.Bytes.{among}
+use Rattle.elements.specs.rules.Class as Class
+use Rattle.elements.specs.rules.Rules.{Slot, Content, alternatives, rules, ruleIn, ruleOf}
+use Rattle.elements.specs.rules.Inside.{State, expecting, holding}
 use Rattle.kind.specs.Machine.{stateOf}
-use Rattle.document.specs.Faults.{Begun, Next, Taken, Allowed}
+use Rattle.document.specs.rules.Faults.{Begun, Next, Taken, Allowed}
 use Rattle.document.proofs.Classes.{chosen-allowed}
 use Rattle.document.proofs.Steps.{begunOf, stepped as step-says}
-use Rattle.reader.specs.Turn.{Takes}
+use Rattle.reader.specs.internal.Turn.{Takes}
 
 -- No parameter may come.
 abbrev pub Bare : State → Type 0

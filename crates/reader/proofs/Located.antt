@@ -1,22 +1,23 @@
--- What stands in a text is located there, in either spelling. Assumes nothing.
+-- What stands in a text is located there, in either spelling.
 use Prim.Native.Nat.{ℕ, _<_}
 use mathlib.Core.Path.{_≡_, refl, sym, _∙_}
 use mathlib.Core.List.{List, [], _∷_}
 use native.Mathlib.Omega.{arith}
 use lib.ListN.{length}
-use Rattle.elements.specs.Class as Class
-use Rattle.syntax.specs.Expression.{Expr, Exprs, and}
-use Rattle.document.specs.Spelling.{Spelling}
-use Rattle.document.specs.Lead.{exprClass}
-use Rattle.document.specs.Meaning.{fine, judgeRoot}
-use Rattle.document.specs.Imperative.{notAllowed, innermost, contentsOf, regroup}
-use Rattle.document.specs.Account.{NestedForm, as-it-stands, regrouped}
+use Rattle.elements.specs.rules.Class as Class
+use Rattle.syntax.specs.rules.Expression.{Expr, Exprs, and}
+use Rattle.document.specs.rules.Spelling.{Spelling}
+use Rattle.document.specs.rules.Lead.{exprClass}
+use Rattle.document.specs.reference.Meaning.{fine, judgeRoot}
+use Rattle.document.specs.reference.Imperative.{innermost, contentsOf, regroup}
+use Rattle.document.specs.rules.Command.{notAllowed}
+use Rattle.document.specs.rules.Account.{NestedForm, as-it-stands, regrouped}
 use Rattle.document.proofs.Blocks.{root-document}
 use Rattle.document.proofs.Regroup.{block-class}
 use Rattle.document.proofs.Takes.{takes-regroup}
 use Rattle.document.proofs.RegroupedAll.{Laws, regrouped-all}
-use Rattle.reader.specs.Stands.{Stands, ended, after-blank, after-line-end, a-symbol, a-string, a-list}
-use Rattle.reader.specs.Tape.{Located, LocatedAll}
+use Rattle.reader.specs.internal.Stands.{Stands, ended, after-blank, after-line-end, a-symbol, a-string, a-list}
+use Rattle.reader.specs.internal.Tape.{Located, LocatedAll}
 use Rattle.reader.proofs.Fronts.{SymbolHere, symbol-here, StringHere, string-here}
 
 stands-located : {s : List ℕ} {i e : ℕ} {es : Exprs} → 0 < i → Stands s i es e → LocatedAll s es

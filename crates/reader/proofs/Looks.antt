@@ -1,4 +1,4 @@
--- What `seen` tells of the expressions that stand at a place. Assumes nothing.
+-- What `seen` tells of the expressions that stand at a place.
 use Prim.Native.Nat.{ℕ, suc, _+_, _≤_, _<_}
 use mathlib.Core.Path.{_≡_, refl, ap, sym, _∙_}
 use mathlib.Core.Bool.{true, false}
@@ -6,15 +6,15 @@ use mathlib.Core.List.{List, [], _∷_}
 use native.Mathlib.Nat.{add-zero}
 use native.Mathlib.Omega.{arith}
 use lib.ListN.{length, getD, drop, length-drop, drop-of-length-le}
-use Rattle.elements.specs.Class as Class
-use Rattle.elements.specs.Bytes.{codes, same}
-use Rattle.syntax.specs.Byte.{Bracket, ByteClass, blank, return, quote, forbidden, ordinary, opening, closing, byteClass, ordinaryClass}
-use Rattle.syntax.specs.Scan.{ordinaryRun}
-use Rattle.syntax.specs.Expression.{Expr, symbol, quoted, list, Exprs, none, and}
+use Rattle.elements.specs.rules.Class as Class
+use Rattle.elements.specs.rules.Bytes.{codes, same}
+use Rattle.syntax.specs.rules.Byte.{Bracket, ByteClass, blank, return, quote, forbidden, ordinary, opening, closing, byteClass, ordinaryClass}
+use Rattle.syntax.specs.reference.Scan.{ordinaryRun}
+use Rattle.syntax.specs.rules.Expression.{Expr, symbol, quoted, list, Exprs, none, and}
 use Rattle.lexer.specs.Token.{blanks, stringAt, leadClassAt, leadLength, Seen, seenEnd, seenBy, seenFirst, seen, atomValue, the-end, a-symbol}
 use Rattle.lexer.specs.Token.{a-string, a-list}
-use Rattle.document.specs.Lead.{leadClass, listClass}
-use Rattle.reader.specs.Stands.{Has, Ends, at-bracket, at-end, Stands, ended, after-blank, after-line-end}
+use Rattle.document.specs.rules.Lead.{leadClass, listClass}
+use Rattle.reader.specs.internal.Stands.{Has, Ends, at-bracket, at-end, Stands, ended, after-blank, after-line-end}
 use Rattle.reader.proofs.Strings.{Spans, string-spans, string-good}
 use Rattle.lexer.proofs.Blanks.{blanks-fit, run-fits}
 use Rattle.reader.proofs.Fronts.{solid, lead-length, run-first, run-none, has-drop, Passes, passes-blank}

@@ -1,4 +1,4 @@
--- How a walk goes on: the invariant of its loop, kept by each way through the loop's body. Assumes nothing.
+-- How a walk goes on: the invariant of its loop, kept by each way through the loop's body.
 use Prim.Native.Nat.{ℕ, _+_, _≤_, _<_}
 use mathlib.Core.Path.{_≡_, refl, ap, sym, _∙_}
 use mathlib.Core.Bool.{true, false}
@@ -10,20 +10,20 @@ use native.Mathlib.Nat.{suc-add, add-suc, add-zero}
 use lib.Dec.{eqb, leb}
 use lib.ListN.{length}
 use borrow.Author.Tests.{ne-eqb, lt-leb, eqb-true, eqb-false, leb-false}
-use Rattle.laws.proofs.Booleans.{bool-case}
-use Rattle.elements.specs.Class as Class
-use Rattle.elements.specs.Class.{isElement}
-use Rattle.elements.specs.Inside.{start}
+use Rattle.base.proofs.Booleans.{bool-case}
+use Rattle.elements.specs.rules.Class as Class
+use Rattle.elements.specs.rules.Class.{isElement}
+use Rattle.elements.specs.rules.Inside.{start}
 use Rattle.kind.proofs.Steps.{start-state}
-use Rattle.syntax.specs.Expression.{Expr, list, Exprs, and}
-use Rattle.document.specs.Lead.{exprClass, listClass}
-use Rattle.document.specs.Meaning.{Verdict, fine, fault, finish, run, judge, judgeValue, valueTree}
-use Rattle.reader.specs.Stands.{Stands}
-use Rattle.reader.specs.Sizes.{nodesOf, nodesIn, bytesOf, bytesIn, valueSize}
-use Rattle.reader.specs.Walked.{walkedTo, Bounded}
-use Rattle.reader.specs.Tape.{entered, left, taped}
-use Rattle.reader.specs.Held.{Notes}
-use Rattle.reader.specs.Turn.{whole, Answers, Finishes, Left, Goes, Opened, Opens, Passes, Judges, verdictOf, pastBracket}
+use Rattle.syntax.specs.rules.Expression.{Expr, list, Exprs, and}
+use Rattle.document.specs.rules.Lead.{exprClass, listClass}
+use Rattle.document.specs.reference.Meaning.{Verdict, fine, fault, finish, run, judge, judgeValue, valueTree}
+use Rattle.reader.specs.internal.Stands.{Stands}
+use Rattle.reader.specs.internal.Sizes.{nodesOf, nodesIn, bytesOf, bytesIn, valueSize}
+use Rattle.reader.specs.internal.Walked.{walkedTo, Bounded}
+use Rattle.reader.specs.internal.Tape.{entered, left, taped}
+use Rattle.reader.specs.internal.Held.{Notes}
+use Rattle.reader.specs.internal.Turn.{whole, Answers, Finishes, Left, Goes, Opened, Opens, Passes, Judges, verdictOf, pastBracket}
 use Rattle.reader.specs.declared.walk.Walked.{Walked}
 use Rattle.reader.proofs.Items.{IsList}
 use Rattle.reader.proofs.Tapes.{kept-full, taped-first, element-tape}

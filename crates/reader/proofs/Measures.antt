@@ -1,4 +1,4 @@
--- The value of a size: its two numbers, as they are seen. Assumes nothing.
+-- The value of a size: its two numbers, as they are seen.
 use Prim.Native.Nat.{ℕ, _+_, _*_, _≤_, _<_}
 use mathlib.Core.Path.{_≡_, refl, sym, _∙_}
 use mathlib.Core.Bool.{true, false}
@@ -8,19 +8,19 @@ use lib.Dec.{eqb, leb}
 use lib.ListN.{length, take, drop, set, length-set}
 use lib.Seq.{drop-drop}
 use borrow.Author.Tests.{ne-eqb, le-leb, lt-leb}
-use Rattle.laws.proofs.Booleans.{and-false}
-use Rattle.syntax.specs.Byte.{ByteClass, blank, return, quote, forbidden, ordinary, opening, closing, byteClass}
-use Rattle.syntax.specs.Expression.{Expr, symbol, list, Exprs, none, and}
+use Rattle.base.proofs.Booleans.{and-false}
+use Rattle.syntax.specs.rules.Byte.{ByteClass, blank, return, quote, forbidden, ordinary, opening, closing, byteClass}
+use Rattle.syntax.specs.rules.Expression.{Expr, symbol, list, Exprs, none, and}
 use Rattle.lexer.specs.Token.{Seen, blanks, seenEnd, seenBy, seenFirst, seen, atomValue}
 use Rattle.lexer.proofs.Blanks.{run-part}
-use Rattle.document.specs.Value.{isSize, isDecimal, nonEmpty}
-use Rattle.document.specs.Document.{widthOr, heightOr}
-use Rattle.document.specs.RulesTest.{keepsRules}
-use Rattle.document.specs.Meaning.{numberOf, symbolBytes, sizeTree, judgeValue, fault}
-use Rattle.reader.specs.Stands.{Stands}
-use Rattle.reader.specs.Walked.{walkedTo, Bounded}
-use Rattle.reader.specs.Tape.{noted}
-use Rattle.reader.specs.Held.{Begins, Unfit, Reads, Notes}
+use Rattle.document.specs.rules.Value.{isSize, isDecimal, nonEmpty}
+use Rattle.document.specs.rules.Document.{widthOr, heightOr}
+use Rattle.document.specs.reference.RulesTest.{keepsRules}
+use Rattle.document.specs.reference.Meaning.{numberOf, symbolBytes, sizeTree, judgeValue, fault}
+use Rattle.reader.specs.internal.Stands.{Stands}
+use Rattle.reader.specs.internal.Walked.{walkedTo, Bounded}
+use Rattle.reader.specs.internal.Tape.{noted}
+use Rattle.reader.specs.internal.Held.{Begins, Unfit, Reads, Notes}
 use Rattle.reader.specs.declared.walk.Walked.{Walked}
 use Rattle.reader.specs.declared.value.Number.{Number}
 use Rattle.reader.proofs.Looks.{SeenAs, saw-end, saw-symbol, saw-string, saw-list, look-stands, seen-bounds}

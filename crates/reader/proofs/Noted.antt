@@ -1,4 +1,4 @@
--- In an element that is fine, the words of the tape for its values are those of the lists that it holds. Assumes nothing.
+-- In an element that is fine, the words of the tape for its values are those of the lists that it holds.
 use Prim.Native.Nat.{ℕ, _+_, _*_, _≤_, _<_}
 use mathlib.Core.Path.{_≡_, refl, sym, ap, _∙_}
 use mathlib.Core.Bool.{false}
@@ -9,19 +9,20 @@ use borrow.Author.Tests.{ne-eqb, eqb-true}
 use lib.Dec.{T, eqb}
 use lib.ListN.{length, getD, set}
 use lib.Seq.{sets, getD-set-same, getD-set-other}
-use Rattle.laws.proofs.Booleans.{cond-case, bool-case}
-use Rattle.elements.specs.Class as Class
-use Rattle.elements.specs.Inside.{start}
-use Rattle.syntax.specs.Expression.{Expr, symbol, quoted, list, Exprs, none, and, place}
-use Rattle.document.specs.Document.{missing, keyIn, typeIn, widthIn, heightIn, widthOr, heightOr}
-use Rattle.document.specs.RulesTest.{keepsRules}
-use Rattle.document.specs.Lead.{leadClass, listClass, exprClass}
-use Rattle.document.specs.Meaning.{fine, judge, textBytes, onlyOne, sizeTree, valueTree, treesOf}
+use Rattle.base.proofs.Booleans.{cond-case, bool-case}
+use Rattle.elements.specs.rules.Class as Class
+use Rattle.elements.specs.rules.Inside.{start}
+use Rattle.syntax.specs.rules.Expression.{Expr, symbol, quoted, list, Exprs, none, and, place}
+use Rattle.base.specs.rules.Limits.{missing}
+use Rattle.document.specs.rules.Document.{keyIn, typeIn, widthIn, heightIn, widthOr, heightOr}
+use Rattle.document.specs.reference.RulesTest.{keepsRules}
+use Rattle.document.specs.rules.Lead.{leadClass, listClass, exprClass}
+use Rattle.document.specs.reference.Meaning.{fine, judge, textBytes, onlyOne, sizeTree, valueTree, treesOf}
 use Rattle.document.proofs.Nested.{not-fine}
 use Rattle.document.proofs.Blocks.{Read}
-use Rattle.reader.specs.Sizes.{nodesOf}
-use Rattle.reader.specs.Tape.{noted, firstPlace, taped, tapedAll, LocatedAll}
-use Rattle.reader.specs.Filling.{heldAt}
+use Rattle.reader.specs.internal.Sizes.{nodesOf}
+use Rattle.reader.specs.internal.Tape.{noted, firstPlace, taped, tapedAll, LocatedAll}
+use Rattle.reader.specs.internal.Filling.{heldAt}
 use Rattle.reader.proofs.Picked.{EachFine, OneText, no-text, one-symbol, one-string, Without, Single, nowhere, here, later, keys, types, sizes, read-single, read-each, value-keeps}
 use Rattle.reader.proofs.FilledValues.{key-class, no-key, no-type, no-size, without-key, without-type, without-size, no-element, key-here, type-here, size-here}
 use Rattle.reader.proofs.Tapes.{length-taped}

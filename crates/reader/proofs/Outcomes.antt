@@ -1,4 +1,4 @@
--- The groups of a read's answer, one after the other. Assumes nothing.
+-- The groups of a read's answer, one after the other.
 use Prim.Native.Nat.{ℕ, _≤_, _<_}
 use mathlib.Core.Path.{_≡_, refl, sym, ap, _∙_}
 use mathlib.Core.Bool.{Bool, true, false, cond}
@@ -7,35 +7,36 @@ use native.Mathlib.Omega.{arith}
 use borrow.Author.Tests.{lt-ltb, le-ltb, ltb-false}
 use lib.Dec.{T, ltb}
 use lib.ListN.{length}
-use Rattle.utf8.specs.Scalar.{IsUtf8}
-use Rattle.utf8.specs.Sequence.{validUpTo}
+use Rattle.utf8.specs.rules.Scalar.{IsUtf8}
+use Rattle.utf8.specs.reference.Sequence.{validUpTo}
 use Rattle.utf8.proofs.Walk.{valid-within}
 use Rattle.utf8.proofs.Agree.{valid-utf8}
-use Rattle.syntax.specs.Syntax.{levels}
-use Rattle.syntax.specs.Expression.{Expr, Exprs, none, and, locate, depthAll}
-use Rattle.syntax.specs.Scan as Scan
-use Rattle.syntax.specs.Scan.{Scanned, scan}
+use Rattle.syntax.specs.rules.Syntax.{levels}
+use Rattle.syntax.specs.rules.Expression.{Expr, Exprs, none, and, locate, depthAll}
+use Rattle.syntax.specs.reference.Scan as Scan
+use Rattle.syntax.specs.reference.Scan.{Scanned, scan}
 use Rattle.lexer.specs.Token.{scanNumber, scanPlace}
 use Rattle.syntax.proofs.Decided.{accepts, refused-fault}
 use Rattle.syntax.proofs.Located.{located-depth}
-use Rattle.elements.specs.Class as Class
-use Rattle.document.specs.Document.{says, Document, isNode}
-use Rattle.document.specs.Meaning.{Verdict, fine, fault, judgeRoot, treeOf, places}
-use Rattle.document.specs.Imperative.{regroup}
-use Rattle.document.specs.Table.{count, pool}
-use Rattle.document.specs.Canonical.{layout, treeLevels}
+use Rattle.elements.specs.rules.Class as Class
+use Rattle.document.specs.rules.Document.{says, Document, isNode}
+use Rattle.document.specs.reference.Meaning.{Verdict, fine, fault, judgeRoot, treeOf, places}
+use Rattle.document.specs.reference.Imperative.{regroup}
+use Rattle.document.specs.rules.Table.{count, pool}
+use Rattle.document.specs.rules.Canonical.{layout, treeLevels}
 use Rattle.document.proofs.Levels.{spelled-levels}
 use Rattle.document.proofs.Reading.{Found, found, regrouped-form}
 use Rattle.document.proofs.Places.{root-places, element-node}
 use Rattle.document.proofs.Blocks.{root-document}
-use Rattle.document.specs.Spelling.{Spelling, nested, imperative, mostLevels}
-use Rattle.document.specs.Answer.{Memory, Reading, refused, read, tooDeep, judged, oneExpression, afterScan, reading, refusal, afterReading, stored, outcome}
-use Rattle.document.specs.Account.{no-syntax, NestedForm, as-it-stands}
+use Rattle.document.specs.rules.Spelling.{Spelling, nested, imperative, mostLevels}
+use Rattle.document.specs.reference.Outcome.{Reading, refused, read, tooDeep, judged, oneExpression, afterScan, reading, afterReading, stored, outcome}
+use Rattle.document.specs.rules.Memory.{Memory, refusal}
+use Rattle.document.specs.rules.Account.{no-syntax, NestedForm, as-it-stands}
 use Rattle.document.proofs.Numbers.{refused-number}
 use Rattle.reader.specs.declared.walk.Walked.{Walked}
-use Rattle.reader.specs.Walked.{readWalked}
-use Rattle.reader.specs.Stands.{Stands}
-use Rattle.reader.specs.Groups.{groupNumber, groupPlace}
+use Rattle.reader.specs.internal.Walked.{readWalked}
+use Rattle.reader.specs.internal.Stands.{Stands}
+use Rattle.reader.specs.internal.Groups.{groupNumber, groupPlace}
 use Rattle.reader.proofs.Forests.{forest-stands}
 use Rattle.reader.proofs.Counts.{nodes-places, bytes-pool}
 

@@ -1,4 +1,4 @@
--- In an element that is fine at most one list of each sort of value stands. Assumes nothing.
+-- In an element that is fine at most one list of each sort of value stands.
 use Prim.Native.Nat.{ℕ, _≤_}
 use mathlib.Core.Path.{_≡_, refl}
 use mathlib.Core.Bool.{Bool, true, false, not, cond, _&&_, _||_}
@@ -7,20 +7,20 @@ use mathlib.Core.List.{List, [], _∷_}
 use lib.Dec.{T, eqb, eqb→eq, T-not}
 use native.Mathlib.Omega.{arith}
 use borrow.Author.Tests.{eqb-true, eqb-false, ne-eqb}
-use Rattle.laws.proofs.Booleans.{cond-case, bool-case, both, both-true, or-true, or-false, true-T, T-true, not-T-false}
-use Rattle.laws.proofs.Tables.{every}
-use Rattle.elements.specs.Bytes.{among}
-use Rattle.elements.specs.Class as Class
-use Rattle.elements.specs.Rules.{Slot, must, may, id-type, Content, alternatives, exactly-one, alternativesOf, Rule, rules, ruleOf}
-use Rattle.elements.specs.Inside.{State, expecting, holding, Step, go, bad, isInclude, someHas, allows, firstChild, nextChild, nextParameter, step, start}
+use Rattle.base.proofs.Booleans.{cond-case, bool-case, both, both-true, or-true, or-false, true-T, T-true, not-T-false}
+use Rattle.base.proofs.Tables.{every}
+use Rattle.elements.specs.rules.Bytes.{among}
+use Rattle.elements.specs.rules.Class as Class
+use Rattle.elements.specs.rules.Rules.{Slot, must, may, id-type, Content, alternatives, exactly-one, alternativesOf, Rule, rules, ruleOf}
+use Rattle.elements.specs.rules.Inside.{State, expecting, holding, Step, go, bad, isInclude, someHas, allows, firstChild, nextChild, nextParameter, step, start}
 use Rattle.elements.proofs.EachRow.{each-kind}
 use Rattle.elements.proofs.Alternatives.{chosen-case, some-has}
-use Rattle.syntax.specs.Expression.{Expr, symbol, quoted, list, Exprs, none, and}
-use Rattle.document.specs.Lead.{leadClass, listClass, exprClass}
-use Rattle.document.specs.Value.{nonEmpty, isValue}
-use Rattle.document.specs.Document.{Tree}
-use Rattle.document.specs.RulesTest.{keepsRules}
-use Rattle.document.specs.Meaning.{fine, fault, judge, judgeList, judgeValue, textBytes, symbolBytes, onlyOne, valueTree}
+use Rattle.syntax.specs.rules.Expression.{Expr, symbol, quoted, list, Exprs, none, and}
+use Rattle.document.specs.rules.Lead.{leadClass, listClass, exprClass}
+use Rattle.document.specs.rules.Value.{nonEmpty, isValue}
+use Rattle.document.specs.rules.Document.{Tree}
+use Rattle.document.specs.reference.RulesTest.{keepsRules}
+use Rattle.document.specs.reference.Meaning.{fine, fault, judge, judgeList, judgeValue, textBytes, symbolBytes, onlyOne, valueTree}
 use Rattle.document.proofs.Nested.{not-fine}
 use Rattle.document.proofs.Blocks.{Read, read-on}
 

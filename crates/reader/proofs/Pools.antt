@@ -1,19 +1,19 @@
--- "pool at most as long as the text", of every text within the limits that spells a document. Assumes nothing.
+-- "pool at most as long as the text", of every text within the limits that spells a document.
 use Prim.Native.Nat.{ℕ, _≤_}
 use mathlib.Core.Path.{refl, ap}
 use mathlib.Core.List.{List}
 use native.Mathlib.Omega.{arith}
 use lib.ListN.{length}
-use Rattle.syntax.specs.Expression.{Exprs, locate}
-use Rattle.document.specs.Document.{Node}
-use Rattle.document.specs.Spelling.{Spelling, Spells, WithinLimits}
-use Rattle.document.specs.Table.{pool}
-use Rattle.document.specs.Answer.{oneExpression}
+use Rattle.syntax.specs.rules.Expression.{Exprs, locate}
+use Rattle.document.specs.rules.Document.{Node}
+use Rattle.document.specs.rules.Spelling.{Spelling, Spells, WithinLimits}
+use Rattle.document.specs.rules.Table.{pool}
+use Rattle.document.specs.reference.Outcome.{oneExpression}
 use Rattle.document.proofs.NestedForms.{spelled-form, spelled-fine, spelled-means}
 use Rattle.document.proofs.Reading.{spelled-one}
-use Rattle.reader.specs.Stands.{Stands}
-use Rattle.reader.specs.Sizes.{bytesOf}
-use Rattle.reader.specs.Walked.{readWalked}
+use Rattle.reader.specs.internal.Stands.{Stands}
+use Rattle.reader.specs.internal.Sizes.{bytesOf}
+use Rattle.reader.specs.internal.Walked.{readWalked}
 use Rattle.reader.proofs.Forests.{forest-stands}
 use Rattle.reader.proofs.Counts.{bytes-pool}
 use Rattle.reader.proofs.Bounds.{walk-within}

@@ -1,4 +1,4 @@
--- Rows written one after the other, each from its entry on the tape. Assumes nothing.
+-- Rows written one after the other, each from its entry on the tape.
 use Prim.Native.Nat.{ℕ, zero, suc, _+_, _*_, _≤_}
 use mathlib.Core.Path.{_≡_, refl, sym, ap, _∙_}
 use mathlib.Core.Bool.{true, false}
@@ -9,13 +9,13 @@ use native.Mathlib.Omega.{arith}
 use lib.Dec.{eqb}
 use lib.ListN.{length, drop, set}
 use lib.Seq.{sets}
-use Rattle.laws.proofs.Booleans.{cond-case}
-use Rattle.elements.specs.Class as Class
+use Rattle.base.proofs.Booleans.{cond-case}
+use Rattle.elements.specs.rules.Class as Class
 use Rattle.lexer.specs.Token.{atomValue}
-use Rattle.document.specs.Document.{missing}
-use Rattle.document.specs.Table.{offset}
+use Rattle.base.specs.rules.Limits.{missing}
+use Rattle.document.specs.rules.Table.{offset}
 use Rattle.reader.specs.declared.fill.Entry.{Entry}
-use Rattle.reader.specs.Filling.{Filling, heldAt, withRow, entryAt, textRow, elementRow, nextRow, Rowed}
+use Rattle.reader.specs.internal.Filling.{Filling, heldAt, withRow, entryAt, textRow, elementRow, nextRow, Rowed}
 use Rattle.reader.proofs.Stores.{set-third}
 
 -- What is written is its parts.

@@ -1,4 +1,4 @@
--- Runs of stores one after the other, in lists of any length. Assumes nothing.
+-- Runs of stores one after the other, in lists of any length.
 use Prim.Native.Nat.{ℕ, suc, _+_, _<_, _≤_}
 use mathlib.Core.Path.{_≡_, refl, sym, ap, _∙_}
 use mathlib.Core.List.{List, [], _∷_, _++_}
@@ -8,7 +8,7 @@ use native.Mathlib.Numerals.{add-one}
 use mathlib.Core.Bool.{cond}
 use lib.Dec.{eqb}
 use borrow.Author.Tests.{ne-eqb}
-use Rattle.document.specs.Table.{offset}
+use Rattle.document.specs.rules.Table.{offset}
 use lib.ListN.{length, set}
 use lib.Seq.{sets, set-set, set-comm}
 

@@ -1,13 +1,13 @@
--- How long a quoted string is, and what it stands for, whatever the text holds. Assumes nothing.
+-- How long a quoted string is, and what it stands for, whatever the text holds.
 use Prim.Native.Nat.{ℕ, zero, suc, _+_, _-_, _≤_, _<_}
 use mathlib.Core.Path.{_≡_, refl, ap, _∙_}
 use mathlib.Core.List.{List, [], _∷_}
 use native.Mathlib.Omega.{arith}
 use lib.Dec.{eqb}
 use lib.ListN.{length, length-append}
-use Rattle.laws.proofs.Booleans.{cond-case}
-use Rattle.syntax.specs.Syntax.{Piece, raw, letter, number, pieceBefore, piecesBefore, isPiece, pieceValue, piecesValue}
-use Rattle.syntax.specs.Scan.{Quoted, closed, unclosed, bad-escape, piece, escapeAt, quotedFrom}
+use Rattle.base.proofs.Booleans.{cond-case}
+use Rattle.syntax.specs.rules.Syntax.{Piece, raw, letter, number, pieceBefore, piecesBefore, isPiece, pieceValue, piecesValue}
+use Rattle.syntax.specs.reference.Scan.{Quoted, closed, unclosed, bad-escape, piece, escapeAt, quotedFrom}
 use Rattle.lexer.specs.Token.{StringEnd, stringEnd, stringAt, contentOf, atomValue}
 use Rattle.syntax.proofs.Strings.{piece-append}
 use Rattle.lexer.proofs.PieceAt.{piece-few}

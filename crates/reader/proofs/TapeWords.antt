@@ -1,4 +1,4 @@
--- Which words of the tape a walk over expressions changes. Assumes nothing.
+-- Which words of the tape a walk over expressions changes.
 use Prim.Native.Nat.{ℕ, zero, suc, _+_, _*_, _≤_, _<_}
 use mathlib.Core.Path.{_≡_, refl, ap, _∙_}
 use mathlib.Core.Bool.{Bool, true, false, cond}
@@ -8,14 +8,15 @@ use native.Mathlib.Omega.{arith}
 use lib.Dec.{eqb}
 use lib.ListN.{length, getD, set, length-set}
 use lib.Seq.{sets, getD-set-same, getD-set-other}
-use Rattle.laws.proofs.Booleans.{cond-case}
-use Rattle.elements.specs.Class as Class
-use Rattle.syntax.specs.Expression.{Expr, symbol, quoted, list, Exprs, none, and}
-use Rattle.document.specs.Document.{missing, widthOr, heightOr}
-use Rattle.document.specs.Lead.{leadClass}
-use Rattle.document.specs.Meaning.{sizeTree}
-use Rattle.reader.specs.Sizes.{nodesOf, nodesOfList, nodesIn}
-use Rattle.reader.specs.Tape.{entered, left, noted, firstPlace, taped, tapedList, tapedAll}
+use Rattle.base.proofs.Booleans.{cond-case}
+use Rattle.elements.specs.rules.Class as Class
+use Rattle.syntax.specs.rules.Expression.{Expr, symbol, quoted, list, Exprs, none, and}
+use Rattle.base.specs.rules.Limits.{missing}
+use Rattle.document.specs.rules.Document.{widthOr, heightOr}
+use Rattle.document.specs.rules.Lead.{leadClass}
+use Rattle.document.specs.reference.Meaning.{sizeTree}
+use Rattle.reader.specs.internal.Sizes.{nodesOf, nodesOfList, nodesIn}
+use Rattle.reader.specs.internal.Tape.{entered, left, noted, firstPlace, taped, tapedList, tapedAll}
 
 -- A run of stores changes no word before or after it.
 pub sets-other : (l : List ℕ) (j : ℕ) (vs : List ℕ) (i : ℕ) → (j ≤ i → i < j + length vs → ⊥) → getD (sets l j vs) i 0 ≡ getD l i 0

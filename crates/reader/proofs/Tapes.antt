@@ -1,4 +1,4 @@
--- The tape that a walk leaves: it is as long as it was, and after a run it is as after the first expression and then the others. Assumes nothing.
+-- The tape that a walk leaves: it is as long as it was, and after a run it is as after the first expression and then the others.
 use Prim.Native.Nat.{ℕ, suc, _+_, _*_, _≤_}
 use mathlib.Core.Path.{_≡_, refl, sym, ap, _∙_}
 use mathlib.Core.Bool.{true, cond}
@@ -8,14 +8,15 @@ use native.Mathlib.Numerals.{add-one}
 use lib.Dec.{eqb}
 use lib.ListN.{length, set, length-set}
 use lib.Seq.{sets, length-sets, set-out}
-use Rattle.laws.proofs.Booleans.{cond-case}
-use Rattle.elements.specs.Class as Class
-use Rattle.syntax.specs.Expression.{Expr, symbol, quoted, list, Exprs, none, and}
-use Rattle.document.specs.Document.{missing, widthOr, heightOr}
-use Rattle.document.specs.Lead.{leadClass}
-use Rattle.document.specs.Meaning.{sizeTree}
-use Rattle.reader.specs.Sizes.{nodesOf, nodesIn}
-use Rattle.reader.specs.Tape.{entered, left, firstPlace, noted, taped, tapedList, tapedAll}
+use Rattle.base.proofs.Booleans.{cond-case}
+use Rattle.elements.specs.rules.Class as Class
+use Rattle.syntax.specs.rules.Expression.{Expr, symbol, quoted, list, Exprs, none, and}
+use Rattle.base.specs.rules.Limits.{missing}
+use Rattle.document.specs.rules.Document.{widthOr, heightOr}
+use Rattle.document.specs.rules.Lead.{leadClass}
+use Rattle.document.specs.reference.Meaning.{sizeTree}
+use Rattle.reader.specs.internal.Sizes.{nodesOf, nodesIn}
+use Rattle.reader.specs.internal.Tape.{entered, left, firstPlace, noted, taped, tapedList, tapedAll}
 
 -- Past the end nothing is stored.
 sets-out : (l : List ℕ) (i : ℕ) (vs : List ℕ) → length l ≤ i → sets l i vs ≡ l

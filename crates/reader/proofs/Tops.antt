@@ -1,4 +1,4 @@
--- The expressions at the top of a text: where a run ends, where its first expression ends, and the answer of the one root. Assumes nothing.
+-- The expressions at the top of a text: where a run ends, where its first expression ends, and the answer of the one root.
 use Prim.Native.Nat.{ℕ, suc, _+_, _-_, _≤_, _<_}
 use mathlib.Core.Path.{_≡_, refl, sym, ap, _∙_}
 use mathlib.Core.List.{List}
@@ -6,21 +6,21 @@ use native.Mathlib.Omega.{arith}
 use native.Mathlib.Numerals.{add-one}
 use lib.ListN.{length}
 use borrow.Author.Tests.{ne-eqb}
-use Rattle.elements.specs.Class as Class
-use Rattle.elements.specs.Inside.{start}
-use Rattle.syntax.specs.Byte.{Bracket, closing}
-use Rattle.syntax.specs.Expression.{Expr, symbol, quoted, list, Exprs, none, and, place}
+use Rattle.elements.specs.rules.Class as Class
+use Rattle.elements.specs.rules.Inside.{start}
+use Rattle.syntax.specs.rules.Byte.{Bracket, closing}
+use Rattle.syntax.specs.rules.Expression.{Expr, symbol, quoted, list, Exprs, none, and, place}
 use Rattle.lexer.specs.Token.{Seen}
-use Rattle.document.specs.Spelling.{nested}
-use Rattle.document.specs.Lead.{leadClass, listClass, exprClass}
-use Rattle.document.specs.Meaning.{Verdict, fine, fault, finish, run, judge, judgeRoot}
-use Rattle.document.specs.Answer.{judged, tooDeep, oneExpression}
-use Rattle.reader.specs.Stands.{Has, Stands}
-use Rattle.reader.specs.Turn.{Opened, Finishes, pastBracket}
-use Rattle.reader.specs.Second.{firstPlace, secondPlace, FirstJudged}
-use Rattle.reader.specs.Sizes.{nodesOf, nodesIn, bytesOf, bytesIn}
-use Rattle.reader.specs.Walked.{walkedTo, Bounded, readWalked}
-use Rattle.reader.specs.Tape.{entered, left, taped}
+use Rattle.document.specs.rules.Spelling.{nested}
+use Rattle.document.specs.rules.Lead.{leadClass, listClass, exprClass}
+use Rattle.document.specs.reference.Meaning.{Verdict, fine, fault, finish, run, judge, judgeRoot}
+use Rattle.document.specs.reference.Outcome.{judged, tooDeep, oneExpression}
+use Rattle.reader.specs.internal.Stands.{Has, Stands}
+use Rattle.reader.specs.internal.Turn.{Opened, Finishes, pastBracket}
+use Rattle.reader.specs.internal.Second.{firstPlace, secondPlace, FirstJudged}
+use Rattle.reader.specs.internal.Sizes.{nodesOf, nodesIn, bytesOf, bytesIn}
+use Rattle.reader.specs.internal.Walked.{walkedTo, Bounded, readWalked}
+use Rattle.reader.specs.internal.Tape.{entered, left, taped}
 use Rattle.reader.specs.declared.walk.Walked.{Walked}
 use Rattle.reader.proofs.Looks.{seen-bounds, SeenAs, saw-end, saw-symbol, saw-string, saw-list, look-stands, stands-within}
 use Rattle.reader.proofs.Turns.{Looked}

@@ -1,4 +1,4 @@
--- One turn of a walk: what follows from what is seen at a place. Assumes nothing.
+-- One turn of a walk: what follows from what is seen at a place.
 use Prim.Native.Nat.{ℕ, zero, suc, _+_, _≤_, _<_}
 use mathlib.Core.Path.{_≡_, refl, sym, _∙_}
 use mathlib.Core.Bool.{Bool, true, false, cond}
@@ -8,22 +8,22 @@ use native.Mathlib.Nat.{add-zero, add-assoc}
 use lib.Dec.{T, eqb, ltb}
 use lib.ListN.{length, drop}
 use borrow.Author.Tests.{ne-eqb}
-use Rattle.laws.proofs.Booleans.{cond-case, both}
-use Rattle.elements.specs.Class as Class
-use Rattle.elements.specs.Rules.{Slot, must, may, id-type, ruleOf}
-use Rattle.elements.specs.Inside.{State, expecting, holding, Step, go, bad, step as stepped, ended}
+use Rattle.base.proofs.Booleans.{cond-case, both}
+use Rattle.elements.specs.rules.Class as Class
+use Rattle.elements.specs.rules.Rules.{Slot, must, may, id-type, ruleOf}
+use Rattle.elements.specs.rules.Inside.{State, expecting, holding, Step, go, bad, step as stepped, ended}
 use Rattle.kind.specs.Machine.{stateOf, stepOf}
-use Rattle.syntax.specs.Expression.{Expr, symbol, quoted, list, Exprs, and, place}
+use Rattle.syntax.specs.rules.Expression.{Expr, symbol, quoted, list, Exprs, and, place}
 use Rattle.lexer.specs.Token.{Seen, seen}
-use Rattle.document.specs.Lead.{exprClass}
-use Rattle.document.specs.Faults.{Begun, Taken, Allowed}
-use Rattle.document.specs.Meaning.{Verdict, fine, fault, stopped, faultAt, advance, finish, run, judge}
+use Rattle.document.specs.rules.Lead.{exprClass}
+use Rattle.document.specs.rules.Faults.{Begun, Taken, Allowed}
+use Rattle.document.specs.reference.Meaning.{Verdict, fine, fault, stopped, faultAt, advance, finish, run, judge}
 use Rattle.document.proofs.Classes.{allLead, leads, Leading, start-leading, next-leads, allowed-child, chosen-allowed}
 use Rattle.document.proofs.Steps.{begunOf, stepped as step-says}
-use Rattle.reader.specs.Sizes.{nodesOf, nodesIn, bytesOf, bytesIn}
-use Rattle.reader.specs.Walked.{walkedTo, Bounded}
-use Rattle.reader.specs.Tape.{entered, taped, tapedAll}
-use Rattle.reader.specs.Turn.{whole, Answers, Left, Opened, Opens, Takes, Passes}
+use Rattle.reader.specs.internal.Sizes.{nodesOf, nodesIn, bytesOf, bytesIn}
+use Rattle.reader.specs.internal.Walked.{walkedTo, Bounded}
+use Rattle.reader.specs.internal.Tape.{entered, taped, tapedAll}
+use Rattle.reader.specs.internal.Turn.{whole, Answers, Left, Opened, Opens, Takes, Passes}
 use Rattle.reader.proofs.Looks.{seen-bounds, SeenAs, saw-end, saw-symbol, saw-string, saw-list, look-stands}
 
 -- A step that is no fault leads to a state; any other is the fault.

@@ -1,4 +1,4 @@
--- The value of an id, a target or a type: what is seen of it, and what makes it one. Assumes nothing.
+-- The value of an id, a target or a type: what is seen of it, and what makes it one.
 use Prim.Native.Nat.{ℕ, _+_, _*_, _≤_, _<_}
 use mathlib.Core.Path.{_≡_, refl, sym, _∙_}
 use mathlib.Core.Bool.{Bool, true, false, cond, not, _&&_}
@@ -8,23 +8,23 @@ use lib.Dec.{eqb}
 use lib.ListN.{length, drop, set, length-append}
 use native.Mathlib.Nat.{add-zero}
 use borrow.Author.Tests.{ne-eqb, eqb-true, eqb-false, not-true, not-false}
-use Rattle.laws.proofs.Booleans.{cond-case, bool-case, and-true, and-false}
-use Rattle.elements.specs.Class as Class
-use Rattle.elements.specs.Characters.{typeCharacter, idCharacter, uriCharacter, characterOf}
-use Rattle.syntax.specs.Expression.{Expr, symbol, quoted, list, Exprs, none, and, place}
-use Rattle.syntax.specs.Syntax.{pieceValue, piecesValue}
-use Rattle.syntax.specs.Scan.{Quoted, closed, unclosed, bad-escape, quotedFrom}
+use Rattle.base.proofs.Booleans.{cond-case, bool-case, and-true, and-false}
+use Rattle.elements.specs.rules.Class as Class
+use Rattle.elements.specs.rules.Characters.{typeCharacter, idCharacter, uriCharacter, characterOf}
+use Rattle.syntax.specs.rules.Expression.{Expr, symbol, quoted, list, Exprs, none, and, place}
+use Rattle.syntax.specs.rules.Syntax.{pieceValue, piecesValue}
+use Rattle.syntax.specs.reference.Scan.{Quoted, closed, unclosed, bad-escape, quotedFrom}
 use Rattle.lexer.specs.Token.{Seen, stringEnd, stringAt, atomValue, fits}
 use Rattle.lexer.proofs.PieceAt.{piece-few}
-use Rattle.document.specs.Value.{nonEmpty, every, namesBlock, targetCharacter, isValue}
-use Rattle.document.specs.Document.{value, keyOf, typeOf}
-use Rattle.document.specs.RulesTest.{keepsRules}
-use Rattle.document.specs.Meaning.{onlyOne, textBytes, symbolBytes, sizeTree, valueTree, judgeValue, fine, fault}
-use Rattle.reader.specs.Stands.{Stands, ended, after-blank, after-line-end, a-symbol, a-string, a-list}
-use Rattle.reader.specs.Sizes.{valueSize}
-use Rattle.reader.specs.Walked.{walkedTo, Bounded}
-use Rattle.reader.specs.Tape.{firstPlace, noted}
-use Rattle.reader.specs.Held.{holdsSort, heldBytes, Alone, Holds, Notes}
+use Rattle.document.specs.rules.Value.{nonEmpty, every, namesBlock, targetCharacter, isValue}
+use Rattle.document.specs.rules.Document.{value, keyOf, typeOf}
+use Rattle.document.specs.reference.RulesTest.{keepsRules}
+use Rattle.document.specs.reference.Meaning.{onlyOne, textBytes, symbolBytes, sizeTree, valueTree, judgeValue, fine, fault}
+use Rattle.reader.specs.internal.Stands.{Stands, ended, after-blank, after-line-end, a-symbol, a-string, a-list}
+use Rattle.reader.specs.internal.Sizes.{valueSize}
+use Rattle.reader.specs.internal.Walked.{walkedTo, Bounded}
+use Rattle.reader.specs.internal.Tape.{firstPlace, noted}
+use Rattle.reader.specs.internal.Held.{holdsSort, heldBytes, Alone, Holds, Notes}
 use Rattle.reader.specs.declared.walk.Walked.{Walked}
 use Rattle.reader.specs.declared.value.One.{One}
 use Rattle.reader.proofs.Fronts.{symbol-here, string-here}

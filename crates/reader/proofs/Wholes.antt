@@ -1,4 +1,4 @@
--- A document's node table, places and pool are what is written from its tape. Assumes nothing.
+-- A document's node table, places and pool are what is written from its tape.
 use Prim.Native.Nat.{ℕ, _≤_}
 use mathlib.Core.Path.{_≡_, refl, ap, _∙_}
 use mathlib.Core.Bool.{true}
@@ -6,16 +6,17 @@ use mathlib.Core.List.{List, append-nil}
 use native.Mathlib.Omega.{arith}
 use lib.ListN.{length, getD}
 use lib.Seq.{sets}
-use Rattle.elements.specs.Class as Class
-use Rattle.syntax.specs.Expression.{Expr, symbol, quoted, list, none, and}
-use Rattle.document.specs.Document.{childless, child, isNode, says, sayAll, missing}
-use Rattle.document.specs.Lead.{listClass, exprClass}
-use Rattle.document.specs.Meaning.{fine, judgeRoot, treeOf, treesOf, places, allPlaces}
-use Rattle.document.specs.Table.{pool, poolAll, rowsAll, tableOf}
+use Rattle.elements.specs.rules.Class as Class
+use Rattle.syntax.specs.rules.Expression.{Expr, symbol, quoted, list, none, and}
+use Rattle.base.specs.rules.Limits.{missing}
+use Rattle.document.specs.rules.Document.{childless, child, isNode, says, sayAll}
+use Rattle.document.specs.rules.Lead.{listClass, exprClass}
+use Rattle.document.specs.reference.Meaning.{fine, judgeRoot, treeOf, treesOf, places, allPlaces}
+use Rattle.document.specs.rules.Table.{pool, poolAll, rowsAll, tableOf}
 use Rattle.document.proofs.Blocks.{root-document}
-use Rattle.reader.specs.Sizes.{nodesOf}
-use Rattle.reader.specs.Tape.{taped, Located}
-use Rattle.reader.specs.Filling.{Filling, saidBy, Fits32}
+use Rattle.reader.specs.internal.Sizes.{nodesOf}
+use Rattle.reader.specs.internal.Tape.{taped, Located}
+use Rattle.reader.specs.internal.Filling.{Filling, saidBy, Fits32}
 use Rattle.reader.proofs.Rows.{rowsOf, Written}
 use Rattle.reader.proofs.Writes.{Wrote}
 use Rattle.reader.proofs.Flat.{wrote-one}

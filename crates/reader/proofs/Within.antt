@@ -1,13 +1,13 @@
--- A fault's place lies in the text. Assumes nothing.
+-- A fault's place lies in the text.
 use Prim.Native.Nat.{ℕ, _≤_}
 use lib.Dec.{eqb}
-use Rattle.laws.proofs.Booleans.{cond-case}
-use Rattle.elements.specs.Class as Class
-use Rattle.elements.specs.Inside.{State, Step, go, bad, step, start, ended}
-use Rattle.syntax.specs.Expression.{Expr, symbol, quoted, list, Exprs, none, and, place}
-use Rattle.document.specs.RulesTest.{keepsRules}
-use Rattle.document.specs.Lead.{leadClass, exprClass}
-use Rattle.document.specs.Meaning.{Verdict, fine, fault, Progress, reached, stopped, faultAt, advance, finish, judgeValue, judge, judgeList, run, judgeRoot, valueTree}
+use Rattle.base.proofs.Booleans.{cond-case}
+use Rattle.elements.specs.rules.Class as Class
+use Rattle.elements.specs.rules.Inside.{State, Step, go, bad, step, start, ended}
+use Rattle.syntax.specs.rules.Expression.{Expr, symbol, quoted, list, Exprs, none, and, place}
+use Rattle.document.specs.reference.RulesTest.{keepsRules}
+use Rattle.document.specs.rules.Lead.{leadClass, exprClass}
+use Rattle.document.specs.reference.Meaning.{Verdict, fine, fault, Progress, reached, stopped, faultAt, advance, finish, judgeValue, judge, judgeList, run, judgeRoot, valueTree}
 
 module _ (most : ℕ) where
   -- Every expression, at any depth, stands at a place up to there.

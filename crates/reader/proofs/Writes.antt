@@ -1,4 +1,4 @@
--- Writing a run of expressions one after the other. Assumes nothing.
+-- Writing a run of expressions one after the other.
 use Prim.Native.Nat.{ℕ, suc, _+_, _*_}
 use mathlib.Core.Path.{_≡_, refl, sym, ap, _∙_}
 use mathlib.Core.Bool.{Bool, true, false, cond}
@@ -8,15 +8,16 @@ use native.Mathlib.Numerals.{add-one}
 use native.Mathlib.Omega.{arith}
 use lib.ListN.{length, length-append}
 use lib.Seq.{sets}
-use Rattle.elements.specs.Class as Class
-use Rattle.syntax.specs.Expression.{Expr, list, Exprs, none, and}
-use Rattle.document.specs.Document.{Trees, text, node, Nodes, childless, child, isNode, says, sayAll, missing, keyIn, typeIn, widthIn, heightIn}
-use Rattle.document.specs.Lead.{leadClass}
-use Rattle.document.specs.Meaning.{treeOf, treesOf, places, allPlaces}
-use Rattle.document.specs.Table.{count, countAll, pool, poolAll, rows, rowsAll, offset}
+use Rattle.elements.specs.rules.Class as Class
+use Rattle.syntax.specs.rules.Expression.{Expr, list, Exprs, none, and}
+use Rattle.base.specs.rules.Limits.{missing}
+use Rattle.document.specs.rules.Document.{Trees, text, node, Nodes, childless, child, isNode, says, sayAll, keyIn, typeIn, widthIn, heightIn}
+use Rattle.document.specs.rules.Lead.{leadClass}
+use Rattle.document.specs.reference.Meaning.{treeOf, treesOf, places, allPlaces}
+use Rattle.document.specs.rules.Table.{count, countAll, pool, poolAll, rows, rowsAll, offset}
 use Rattle.document.proofs.Records.{rows-length-all}
-use Rattle.reader.specs.Sizes.{nodesIn}
-use Rattle.reader.specs.Filling.{Filling, saidBy, withRow}
+use Rattle.reader.specs.internal.Sizes.{nodesIn}
+use Rattle.reader.specs.internal.Filling.{Filling, saidBy, withRow}
 use Rattle.reader.proofs.Counts.{value-no-node, all-places}
 use Rattle.reader.proofs.Stores.{sets-on}
 

@@ -1,9 +1,9 @@
 -- The demands of calls: what one answered and left in the lent memory is a document's, and what two of them did is alike. No definition of reading is in it.
 use mathlib.Core.Path.{_≡_}
 use lib.ListN.{length}
-use Rattle.document.specs.Document.{Node}
-use Rattle.document.specs.Table.{count, pool, tableOf}
-use Rattle.document.specs.Answer.{Memory, Outcome, over}
+use Rattle.document.specs.rules.Document.{Node}
+use Rattle.document.specs.rules.Table.{count, pool, tableOf}
+use Rattle.document.specs.rules.Memory.{Memory, Outcome, over}
 use Rattle.reader.specs.declared.Answer.{Answer}
 
 -- The outcome of a call: what it answered and what it left in the lent memory.

@@ -1,13 +1,3 @@
-pub mod Stands
-pub mod Sizes
-pub mod Walked
-pub mod Turn
-pub mod Held
-pub mod Blocks
-pub mod Second
-pub mod Checked
-pub mod Tape
-pub mod Filling
-pub mod Groups
 pub mod Read
 pub mod Demand
+pub mod internal

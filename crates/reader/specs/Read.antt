@@ -2,9 +2,10 @@
 use mathlib.Core.Path.{_≡_}
 use mathlib.Core.List.{List}
 use Prim.Native.Nat.{ℕ}
-use Rattle.document.specs.Spelling.{Spelling}
-use Rattle.document.specs.Answer as Defined
-use Rattle.document.specs.Answer.{Memory, outcome}
+use Rattle.document.specs.rules.Spelling.{Spelling}
+use Rattle.document.specs.rules.Memory as Defined
+use Rattle.document.specs.reference.Outcome.{outcome}
+use Rattle.document.specs.rules.Memory.{Memory}
 use Rattle.reader.specs.declared.Answer.{Answer}
 
 -- The answer that a function gives is the definition's.

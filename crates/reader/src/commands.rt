@@ -16,15 +16,15 @@ use lexer::look;
 ghost use mathlib.Core.Path.{_≡_};
 ghost use Prim.Native.Nat.{ℕ, _+_, _≤_, _<_};
 ghost use lib.ListN.{length};
-ghost use Rattle.document.specs.Spelling.{isBlockParameter};
-ghost use Rattle.syntax.specs.Expression.{Expr, Exprs, and, depthAll};
-ghost use Rattle.document.specs.Spelling.{Spelling};
-ghost use Rattle.document.specs.Imperative.{regroup};
-ghost use Rattle.document.specs.Answer.{oneExpression};
-ghost use Rattle.reader.specs.Tape.{taped};
-ghost use Rattle.reader.specs.Stands.{Stands};
-ghost use Rattle.reader.specs.Walked.{Bounded, readWalked};
-ghost use Rattle.reader.specs.Blocks.{commandClass, looseClass, leadsCommand, endsAt, TurnedAs, InCommand, InContent, Belongs, Child};
+ghost use Rattle.document.specs.rules.Spelling.{isBlockParameter};
+ghost use Rattle.syntax.specs.rules.Expression.{Expr, Exprs, and, depthAll};
+ghost use Rattle.document.specs.rules.Spelling.{Spelling};
+ghost use Rattle.document.specs.reference.Imperative.{regroup};
+ghost use Rattle.document.specs.reference.Outcome.{oneExpression};
+ghost use Rattle.reader.specs.internal.Tape.{taped};
+ghost use Rattle.reader.specs.internal.Stands.{Stands};
+ghost use Rattle.reader.specs.internal.Walked.{Bounded, readWalked};
+ghost use Rattle.reader.specs.internal.Blocks.{commandClass, looseClass, leadsCommand, endsAt, TurnedAs, InCommand, InContent, Belongs, Child};
 
 // Title, id and type: the parameters of blocks.
 fn is_parameter(class: u8) -> bool

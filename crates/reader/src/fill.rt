@@ -8,16 +8,16 @@ ghost use Prim.Native.Nat.{ℕ, _+_, _*_, _≤_, _<_};
 ghost use lib.Dec.{eqb};
 ghost use lib.ListN.{length, drop, set};
 ghost use lib.Seq.{sets};
-ghost use Rattle.syntax.specs.Expression.{Expr, none, and};
+ghost use Rattle.syntax.specs.rules.Expression.{Expr, none, and};
 ghost use Rattle.lexer.specs.Token.{atomValue};
-ghost use Rattle.document.specs.Document.{says};
-ghost use Rattle.document.specs.Meaning.{fine, judgeRoot, treeOf};
-ghost use Rattle.document.specs.Meaning as Meaning;
-ghost use Rattle.document.specs.Table.{offset, tableOf};
-ghost use Rattle.document.specs.Table as Table;
-ghost use Rattle.reader.specs.Sizes.{nodesOf};
-ghost use Rattle.reader.specs.Tape.{Located, taped};
-ghost use Rattle.reader.specs.Filling.{Fits32, heldAt, entryAt, elementRow, nextRow, Rowed};
+ghost use Rattle.document.specs.rules.Document.{says};
+ghost use Rattle.document.specs.reference.Meaning.{fine, judgeRoot, treeOf};
+ghost use Rattle.document.specs.reference.Meaning as Meaning;
+ghost use Rattle.document.specs.rules.Table.{offset, tableOf};
+ghost use Rattle.document.specs.rules.Table as Table;
+ghost use Rattle.reader.specs.internal.Sizes.{nodesOf};
+ghost use Rattle.reader.specs.internal.Tape.{Located, taped};
+ghost use Rattle.reader.specs.internal.Filling.{Fits32, heldAt, entryAt, elementRow, nextRow, Rowed};
 
 // What the tape says of a node: where it stands, its words, and the places of what its id or target and its type hold, 0 where there is none.
 struct Entry {

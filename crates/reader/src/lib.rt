@@ -12,13 +12,13 @@ use lexer::scan;
 use nested::judge_nested;
 ghost use mathlib.Core.Path.{_≡_};
 ghost use Prim.Native.Nat.{_≤_, min};
-ghost use Rattle.document.specs.Document.{Node};
-ghost use Rattle.document.specs.Check.{check};
-ghost use Rattle.document.specs.Spelling.{nested, imperative};
-ghost use Rattle.document.specs.Answer.{answerAt};
+ghost use Rattle.document.specs.rules.Document.{Node};
+ghost use Rattle.document.specs.reference.Check.{check};
+ghost use Rattle.document.specs.rules.Spelling.{nested, imperative};
+ghost use Rattle.document.specs.rules.Memory.{answerAt};
 ghost use Rattle.validate.specs.Checked.{checkNumber};
-ghost use Rattle.reader.specs.Checked.{checkPlace, Held};
-ghost use Rattle.reader.specs.Groups.{groupNumber, groupPlace, roomNumber};
+ghost use Rattle.reader.specs.internal.Checked.{checkPlace, Held};
+ghost use Rattle.reader.specs.internal.Groups.{groupNumber, groupPlace, roomNumber};
 ghost use Rattle.reader.specs.Read.{Answers, Reads};
 
 // "A read returns number, place, line, column, node count, pool count."

@@ -9,13 +9,13 @@ use lexer::look;
 ghost use mathlib.Core.Path.{_≡_};
 ghost use Prim.Native.Nat.{ℕ, _≤_};
 ghost use lib.ListN.{length};
-ghost use Rattle.syntax.specs.Expression.{Expr, Exprs, none, and};
-ghost use Rattle.document.specs.Spelling.{nested};
-ghost use Rattle.document.specs.Answer.{oneExpression};
-ghost use Rattle.reader.specs.Stands.{Stands};
-ghost use Rattle.reader.specs.Second.{firstPlace, secondPlace, FirstJudged};
-ghost use Rattle.reader.specs.Walked.{readWalked};
-ghost use Rattle.reader.specs.Tape.{taped};
+ghost use Rattle.syntax.specs.rules.Expression.{Expr, Exprs, none, and};
+ghost use Rattle.document.specs.rules.Spelling.{nested};
+ghost use Rattle.document.specs.reference.Outcome.{oneExpression};
+ghost use Rattle.reader.specs.internal.Stands.{Stands};
+ghost use Rattle.reader.specs.internal.Second.{firstPlace, secondPlace, FirstJudged};
+ghost use Rattle.reader.specs.internal.Walked.{readWalked};
+ghost use Rattle.reader.specs.internal.Tape.{taped};
 
 // Where the run of expressions from a place on ends, whatever its lists hold.
 fn run_end(text: &[u8], from: usize) -> usize

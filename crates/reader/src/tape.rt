@@ -4,7 +4,7 @@
 ghost use mathlib.Core.Path.{_≡_};
 ghost use Prim.Native.Nat.{_+_, _*_, _≤_, _<_};
 ghost use lib.ListN.{length, set};
-ghost use Rattle.reader.specs.Tape.{entered};
+ghost use Rattle.reader.specs.internal.Tape.{entered};
 
 // A node is entered, and none of its values is known yet.
 pub fn enter(tape: &mut [u32; 32768], node: usize, at: usize, class: u8, parent: usize, end: usize)

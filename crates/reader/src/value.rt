@@ -10,15 +10,15 @@ ghost use mathlib.Core.Bool.{cond, _&&_};
 ghost use Prim.Native.Nat.{ℕ, _+_, _≤_};
 ghost use lib.Dec.{eqb};
 ghost use lib.ListN.{length, take, drop};
-ghost use Rattle.elements.specs.Class as Class;
-ghost use Rattle.syntax.specs.Expression.{Exprs, Expr};
+ghost use Rattle.elements.specs.rules.Class as Class;
+ghost use Rattle.syntax.specs.rules.Expression.{Exprs, Expr};
 ghost use Rattle.lexer.specs.Token.{atomValue};
-ghost use Rattle.document.specs.Value.{nonEmpty, isValue, namesBlock};
-ghost use Rattle.document.specs.Meaning.{judgeValue, valueTree, sizeTree, numberOf};
-ghost use Rattle.reader.specs.Stands.{Stands};
-ghost use Rattle.reader.specs.Sizes.{valueSize};
-ghost use Rattle.reader.specs.Walked.{walkedTo, Bounded};
-ghost use Rattle.reader.specs.Held.{Holds, Reads, Notes, holdsSort};
+ghost use Rattle.document.specs.rules.Value.{nonEmpty, isValue, namesBlock};
+ghost use Rattle.document.specs.reference.Meaning.{judgeValue, valueTree, sizeTree, numberOf};
+ghost use Rattle.reader.specs.internal.Stands.{Stands};
+ghost use Rattle.reader.specs.internal.Sizes.{valueSize};
+ghost use Rattle.reader.specs.internal.Walked.{walkedTo, Bounded};
+ghost use Rattle.reader.specs.internal.Held.{Holds, Reads, Notes, holdsSort};
 
 // The one text or symbol of a run: its place, the length of what it stands for, and the place where the run ends.
 pub struct One {

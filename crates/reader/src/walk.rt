@@ -16,14 +16,14 @@ ghost use mathlib.Core.Bool.{cond, true};
 ghost use Prim.Native.Nat.{_≤_, _<_};
 ghost use lib.Dec.{eqb};
 ghost use lib.ListN.{length, drop};
-ghost use Rattle.elements.specs.Class.{isElement};
-ghost use Rattle.elements.specs.Inside.{ended};
+ghost use Rattle.elements.specs.rules.Class.{isElement};
+ghost use Rattle.elements.specs.rules.Inside.{ended};
 ghost use Rattle.kind.specs.Machine.{stateOf};
 ghost use Rattle.lexer.specs.Token.{seen, the-end};
-ghost use Rattle.document.specs.Meaning.{Verdict};
-ghost use Rattle.reader.specs.Walked.{walkedTo, Bounded};
-ghost use Rattle.reader.specs.Tape.{left};
-ghost use Rattle.reader.specs.Turn.{Answers, Finishes, Judges, Turned, Within, pastBracket};
+ghost use Rattle.document.specs.reference.Meaning.{Verdict};
+ghost use Rattle.reader.specs.internal.Walked.{walkedTo, Bounded};
+ghost use Rattle.reader.specs.internal.Tape.{left};
+ghost use Rattle.reader.specs.internal.Turn.{Answers, Finishes, Judges, Turned, Within, pastBracket};
 
 pub struct Walked {
     pub number: u32,

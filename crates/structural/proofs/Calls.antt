@@ -1,13 +1,13 @@
--- The words of an answer, and the ways through the calls. Assumes nothing.
+-- The words of an answer, and the ways through the calls.
 use Prim.Native.Nat.{ℕ, _≤_, _<_}
 use mathlib.Core.Path.{_≡_, refl, _∙_}
 use mathlib.Core.List.{List, [], _∷_}
 use native.Mathlib.Omega.{arith}
 use borrow.Author.Tests.{lt-ltb, le-ltb}
 use lib.ListN.{length, set}
-use Rattle.document.specs.Spelling.{Spelling}
-use Rattle.document.specs.Answer.{Memory, over}
-use Rattle.document.specs.Printing.{printing}
+use Rattle.document.specs.rules.Spelling.{Spelling}
+use Rattle.document.specs.rules.Memory.{Memory, over}
+use Rattle.document.specs.reference.Printing.{printing}
 use Rattle.printer.specs.declared.Printed.{Printed}
 use Rattle.printer.specs.Prints.{Prints}
 use Rattle.reader.specs.declared.Answer.{Answer}
@@ -60,5 +60,5 @@ module _ (words : List ℕ) (n : ℕ) (bytes : List ℕ) (m : ℕ) (out answer :
       record {
         returned = rw l (call .number);
         output = rw l (call .out);
-        answered = rw l (two-words (p .number) (p .length) answer h ∙ rw (call .number, call .length));
+        answered = rw l (two-words (p .number) (p .length) answer h ∙ rw (call .number, call .size));
       }

@@ -1,4 +1,4 @@
--- Demand 2 of the functions, from their contracts alone. Assumes nothing.
+-- Demand 2 of the functions, from their contracts alone.
 use Prim.Native.Nat.{ℕ, _*_, _≤_}
 use mathlib.Core.Path.{_≡_, refl, sym, ap, _∙_}
 use mathlib.Core.List.{List}
@@ -7,15 +7,16 @@ use borrow.Author.Tests.{eqb-true, eqb-false}
 use lib.Dec.{eqb, ltb}
 use lib.ListN.{length, length-append, take, drop}
 use lib.Seq.{length-take-le, take-at}
-use Rattle.laws.proofs.Booleans.{bool-case, cond-case}
-use Rattle.document.specs.Document.{Node}
-use Rattle.document.specs.Table.{recordLength, count, pool, tableOf}
-use Rattle.document.specs.Spelling.{Spelling, nested, Spells}
-use Rattle.document.specs.Canonical.{canonical}
-use Rattle.document.specs.Printing as Defined
-use Rattle.document.specs.Printing.{checking, written, printing}
-use Rattle.document.specs.Answer.{Memory, over}
-use Rattle.document.specs.Demand.{Fits, Readable}
+use Rattle.base.proofs.Booleans.{bool-case, cond-case}
+use Rattle.document.specs.rules.Document.{Node}
+use Rattle.document.specs.rules.Record.{recordLength}
+use Rattle.document.specs.rules.Table.{count, pool, tableOf}
+use Rattle.document.specs.rules.Spelling.{Spelling, nested, Spells}
+use Rattle.document.specs.rules.Canonical.{canonical}
+use Rattle.document.specs.rules.Draft as Defined
+use Rattle.document.specs.reference.Printing.{checking, written, printing}
+use Rattle.document.specs.rules.Memory.{Memory, over}
+use Rattle.document.specs.rules.Demand.{Fits, Readable}
 use Rattle.document.proofs.Records.{table-length}
 use Rattle.document.proofs.PrintingDecided.{sound-table, prints, refuses}
 use Rattle.document.proofs.RoundTrip.{canonical-spelling, readable-back, printable}
@@ -27,7 +28,7 @@ use Rattle.reader.specs.Demand.{ReadBy}
 use Rattle.reader.proofs.Demand as Reading
 use Rattle.reader.proofs.Pools.{pool-within}
 use Rattle.structural.specs.Demand.{called, Wrote, ReadBack}
-use Rattle.document.specs.PrintAccount.{Holds, PrintAnswers}
+use Rattle.document.specs.rules.PrintAccount.{Holds, PrintAnswers}
 use Rattle.document.proofs.PrintAccount.{print-answers, print-answers-only}
 
 -- A spelling is written, or the output is too short: never 20.
@@ -36,10 +37,10 @@ unfolding written
 written-not-20 s out =
     cond-case (λ (x : Defined.Printed). x .number ≡ 20 → ⊥) (ltb (length out) (length s)) (λ b e. omega (arith, e)) (λ b e. omega (arith, e))
 
-written-zero : (s out : List ℕ) → written s out .number ≡ 0 → (written s out .length ≡ length s) × (written s out .out ≡ over s out)
+written-zero : (s out : List ℕ) → written s out .number ≡ 0 → (written s out .size ≡ length s) × (written s out .out ≡ over s out)
 unfolding written
 written-zero s out =
-    cond-case (λ (x : Defined.Printed). x .number ≡ 0 → (x .length ≡ length s) × (x .out ≡ over s out)) (ltb (length out) (length s))
+    cond-case (λ (x : Defined.Printed). x .number ≡ 0 → (x .size ≡ length s) × (x .out ≡ over s out)) (ltb (length out) (length s))
     (λ b e. absurd (omega (arith, e))) (λ b e. (refl, refl))
 
 module _ (words : List ℕ) (n : ℕ) (bytes : List ℕ) (m : ℕ) where
@@ -54,7 +55,7 @@ module _ (words : List ℕ) (n : ℕ) (bytes : List ℕ) (m : ℕ) where
     pub print-account : PrintAnswers words n bytes m out (called p exit) × ((o : Defined.Printed) → PrintAnswers words n bytes m out o → called p exit ≡ o)
     unfolding called
     print-account =
-        let e : called p exit ≡ printing words n bytes m out = rw (call .number, call .length, call .out) in
+        let e : called p exit ≡ printing words n bytes m out = rw (call .number, call .size, call .out) in
         (rw e (print-answers words n bytes m out), λ o a. e ∙ print-answers-only words n bytes m out o a)
 
     -- A document whose table it is, where the number is not 20.
@@ -82,11 +83,11 @@ module _ (words : List ℕ) (n : ℕ) (bytes : List ℕ) (m : ℕ) where
         let (l, o) = written-zero (canonical d) out (rw e at (sym (call .number) ∙ z)) in
         (d, h, wrote d h l o e, λ lent left r reads short fits. back d h lent left r reads short fits)
       where
-        wrote : (d : Node) → Holds words n bytes m d → written (canonical d) out .length ≡ length (canonical d) → written (canonical d) out .out ≡ over (canonical d) out
+        wrote : (d : Node) → Holds words n bytes m d → written (canonical d) out .size ≡ length (canonical d) → written (canonical d) out .out ≡ over (canonical d) out
             → printing words n bytes m out ≡ written (canonical d) out → Wrote d out p exit
         wrote d h l o e =
             record {
-              length-is = call .length ∙ ap (λ (x : Defined.Printed). x .length) e ∙ l;
+              length-is = call .size ∙ ap (λ (x : Defined.Printed). x .size) e ∙ l;
               written = call .out ∙ ap (λ (x : Defined.Printed). x .out) e ∙ o;
               spells = canonical-spelling d (h .table .draft .document) .0;
             }

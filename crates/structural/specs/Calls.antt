@@ -5,10 +5,12 @@ use mathlib.Core.Bool.{cond}
 use mathlib.Core.List.{List, [], _∷_}
 use lib.Dec.{ltb}
 use lib.ListN.{length}
-use Rattle.document.specs.Spelling.{Spelling}
-use Rattle.document.specs.Answer as Reading
-use Rattle.document.specs.Answer.{Memory, outcome, over}
-use Rattle.document.specs.Printing.{Printed, printing}
+use Rattle.document.specs.rules.Spelling.{Spelling}
+use Rattle.document.specs.rules.Memory as Reading
+use Rattle.document.specs.reference.Outcome.{outcome}
+use Rattle.document.specs.rules.Memory.{Memory, over}
+use Rattle.document.specs.reference.Printing.{printing}
+use Rattle.document.specs.rules.Draft.{Printed}
 
 -- What is returned where the list for the answer is too short.
 abbrev pub noAnswer : ℕ
@@ -20,7 +22,7 @@ answerWords a = a .number ∷ a .place ∷ a .line ∷ a .column ∷ a .nodes �
 
 -- "Printing returns number and length."
 unfoldable pub printWords : Printed → List ℕ
-printWords p = p .number ∷ p .length ∷ []
+printWords p = p .number ∷ p .size ∷ []
 
 -- A read returned r, left `exit` of the memory m, and `left` of the list for the answer: six words, or nothing is touched.
 pub record ReadCall (s : Spelling) (text : List ℕ) (m : Memory) (answer : List ℕ) (r : ℕ) (exit : Memory) (left : List ℕ) : Type 0 where

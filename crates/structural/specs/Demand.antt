@@ -3,18 +3,18 @@ use Prim.Native.Nat.{ℕ, _*_}
 use mathlib.Core.Path.{_≡_}
 use mathlib.Core.List.{List}
 use lib.ListN.{length, take}
-use Rattle.document.specs.Document.{Node}
-use Rattle.document.specs.Table.{recordLength}
-use Rattle.document.specs.Spelling.{nested, Spells}
-use Rattle.document.specs.Canonical.{canonical}
-use Rattle.document.specs.Printing as Defined
-use Rattle.document.specs.Answer.{Memory, over}
+use Rattle.document.specs.rules.Document.{Node}
+use Rattle.document.specs.rules.Record.{recordLength}
+use Rattle.document.specs.rules.Spelling.{nested, Spells}
+use Rattle.document.specs.rules.Canonical.{canonical}
+use Rattle.document.specs.rules.Draft as Defined
+use Rattle.document.specs.rules.Memory.{Memory, over}
 use Rattle.printer.specs.declared.Printed.{Printed}
 use Rattle.reader.specs.declared.Answer.{Answer}
 
 -- The outcome of a call of print: what it answered and what it left of the output.
 unfoldable pub called : Printed → List ℕ → Defined.Printed
-called p exit = record { number = p .number; length = p .length; out = exit }
+called p exit = record { number = p .number; size = p .length; out = exit }
 
 -- A call of print wrote the canonical spelling of d to the front of the output, and that is a nested spelling of d.
 pub record Wrote (d : Node) (out : List ℕ) (p : Printed) (exit : List ℕ) : Type 0 where

@@ -9,8 +9,8 @@ ghost use mathlib.Core.Path.{_≡_};
 ghost use mathlib.Core.List.{[], _∷_};
 ghost use Prim.Native.Nat.{_≤_};
 ghost use lib.ListN.{length};
-ghost use Rattle.document.specs.Spelling.{nested, imperative};
-ghost use Rattle.document.specs.Answer.{over};
+ghost use Rattle.document.specs.rules.Spelling.{nested, imperative};
+ghost use Rattle.document.specs.rules.Memory.{over};
 ghost use Rattle.structural.specs.Calls.{ReadCall, PrintCall};
 
 // What is returned where the slice for the answer is too short; nothing is touched then.

@@ -1,10 +1,10 @@
--- The scan accepts the bytes of each concrete syntax and gives that syntax, so a text has at most one. Assumes nothing.
+-- The scan accepts the bytes of each concrete syntax and gives that syntax, so a text has at most one.
 use Prim.Native.Nat.{ℕ, _+_, _≤_}
 use mathlib.Core.Path.{_≡_, ap, _∙_}
 use mathlib.Core.List.{[]}
 use native.Mathlib.Omega.{arith}
-use Rattle.syntax.specs.Syntax.{Forest, bytesOf, levels, another, Ok}
-use Rattle.syntax.specs.Scan.{Items, done, itemsFrom, build, atEnd, scanned, outermost, scan}
+use Rattle.syntax.specs.rules.Syntax.{Forest, bytesOf, levels, another, Ok}
+use Rattle.syntax.specs.reference.Scan.{Items, done, itemsFrom, build, atEnd, scanned, outermost, scan}
 use Rattle.syntax.proofs.Classes.{fits-end}
 use Rattle.syntax.proofs.Runs.{lastOf, items-run}
 use Rattle.syntax.proofs.Levels.{build-run, before-level}

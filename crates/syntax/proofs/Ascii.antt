@@ -1,13 +1,13 @@
--- Which bytes of a text are below 0x80. Assumes nothing.
+-- Which bytes of a text are below 0x80.
 use Prim.Native.Nat.{ℕ, _≤_, _<_}
 use mathlib.Core.Path.{_≡_}
 use mathlib.Core.Bool.{Bool, true, false}
 use native.Mathlib.Omega.{arith}
 use lib.Dec.{T, ltb}
 use borrow.Author.Tests.{ltb-true, ltb-false, le-ltb, le-leb, lt-leb, ne-eqb}
-use Rattle.laws.proofs.Booleans.{bool-case}
-use Rattle.syntax.specs.Byte.{byteClass, blankClass, ordinaryClass, isBlank, isOrdinary, ordinary, Bracket, round, square, openByte, closeByte}
-use Rattle.syntax.specs.Syntax.{isHex, isPiece, letter}
+use Rattle.base.proofs.Booleans.{bool-case}
+use Rattle.syntax.specs.rules.Byte.{byteClass, blankClass, ordinaryClass, isBlank, isOrdinary, ordinary, Bracket, round, square, openByte, closeByte}
+use Rattle.syntax.specs.rules.Syntax.{isHex, isPiece, letter}
 
 -- A byte that passes a test that no byte from 0x80 on passes.
 below : (b : ℕ) (t : Bool) → T t → (0x80 ≤ b → t ≡ false) → b < 0x80

@@ -1,13 +1,13 @@
--- What the class of a byte tells of the byte, and which bytes may follow a symbol. Assumes nothing.
+-- What the class of a byte tells of the byte, and which bytes may follow a symbol.
 use Prim.Native.Nat.{ℕ}
 use mathlib.Core.Path.{_≡_, refl}
 use mathlib.Core.Bool.{true, false, _||_}
 use mathlib.Core.List.{List, [], _∷_}
 use lib.Dec.{T, eqb, ltb}
 use borrow.Author.Tests.{eqb-true}
-use Rattle.laws.proofs.Booleans.{cond-case}
-use Rattle.syntax.specs.Byte.{Bracket, round, square, ByteClass, blank, return, quote, forbidden, ordinary, opening, closing, byteClass, openByte, closeByte, sameBracket, blankClass, ordinaryClass, isBlank, isOrdinary}
-use Rattle.syntax.specs.Syntax.{Before, a-symbol, another}
+use Rattle.base.proofs.Booleans.{cond-case}
+use Rattle.syntax.specs.rules.Byte.{Bracket, round, square, ByteClass, blank, return, quote, forbidden, ordinary, opening, closing, byteClass, openByte, closeByte, sameBracket, blankClass, ordinaryClass, isBlank, isOrdinary}
+use Rattle.syntax.specs.rules.Syntax.{Before, a-symbol, another}
 
 -- What is known of a byte of a class.
 abbrev pub ByteOf : ℕ → ByteClass → Type 0

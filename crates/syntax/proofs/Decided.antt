@@ -1,16 +1,15 @@
 -- Every text is the bytes of concrete syntax that fits the room, or has a fault 3 to 6. So the scan accepts nothing else and refuses for nothing else.
--- Assumes nothing.
 use Prim.Native.Nat.{ℕ, _≤_}
 use mathlib.Core.Path.{_≡_, refl}
 use mathlib.Core.List.{List, [], _∷_}
 use native.Mathlib.Omega.{arith}
 use lib.Dec.{T, eqb}
 use borrow.Author.Tests.{eqb-true, eqb-false}
-use Rattle.laws.proofs.Booleans.{bool-case}
-use Rattle.syntax.specs.Byte.{Bracket, openByte, closeByte, sameBracket}
-use Rattle.syntax.specs.Syntax.{Leaf, space, line-end, word, string, leafBefore, isLeaf, areOrdinary, Before, a-symbol, another, after, mayFollow, Forest, end, leaf, brackets, bytesBefore, bytesOf, Ok, levels}
-use Rattle.syntax.specs.Scan.{refused, scanned, scan}
-use Rattle.syntax.specs.Fault.{Opened, outside, within, openedBefore, size, openLevels, OkOpened, unopened, other-partner, left-open, too-deep, Fault, Verdict, good, faulty}
+use Rattle.base.proofs.Booleans.{bool-case}
+use Rattle.syntax.specs.rules.Byte.{Bracket, openByte, closeByte, sameBracket}
+use Rattle.syntax.specs.rules.Syntax.{Leaf, space, line-end, word, string, leafBefore, isLeaf, areOrdinary, Before, a-symbol, another, after, mayFollow, Forest, end, leaf, brackets, bytesBefore, bytesOf, Ok, levels}
+use Rattle.syntax.specs.reference.Scan.{refused, scanned, scan}
+use Rattle.syntax.specs.rules.Fault.{Opened, outside, within, openedBefore, size, openLevels, OkOpened, unopened, other-partner, left-open, too-deep, Fault, Verdict, good, faulty}
 use Rattle.syntax.proofs.Classes.{Fits, bracket-same}
 use Rattle.syntax.proofs.Runs.{lastOf}
 use Rattle.syntax.proofs.Accepted.{accepted}

@@ -1,4 +1,4 @@
--- What the code's tests tell of the escape by number at a place. Assumes nothing.
+-- What the code's tests tell of the escape by number at a place.
 use Prim.Native.Nat.{ℕ, _+_, _-_, _*_, _≤_, _<_}
 use mathlib.Core.Path.{_≡_, refl, ap, sym, _∙_}
 use mathlib.Core.Bool.{Bool, true, false, cond, _&&_, _||_}
@@ -10,9 +10,9 @@ use lib.Dec.{T, leb}
 use lib.ListN.{drop, getD}
 use lib.Seq.{getD-drop}
 use borrow.Author.Tests.{leb-true, lt-ltb, le-ltb, le-leb, lt-leb}
-use Rattle.laws.proofs.Booleans.{cond-case, or-true, both, T-true}
-use Rattle.utf8.specs.Scalar.{isScalar}
-use Rattle.syntax.specs.Syntax.{number, isHex, hexDigit, hexValue, isPiece}
+use Rattle.base.proofs.Booleans.{cond-case, or-true, both, T-true}
+use Rattle.utf8.specs.rules.Scalar.{isScalar}
+use Rattle.syntax.specs.rules.Syntax.{number, isHex, hexDigit, hexValue, isPiece}
 
 -- ---- hexadecimal digits
 

@@ -1,13 +1,13 @@
--- Each example of `specs/Examples.antt` is as it says there, by computation.
+-- Each example of `specs/examples/Scanned.antt` is as it says there, by computation.
 use mathlib.Core.Path.{_≡_, refl}
 use mathlib.Core.List.{map}
-use Rattle.utf8.specs.Scalar.{isScalar, encode}
-use Rattle.utf8.specs.Quoted.{utf8Of}
-use Rattle.syntax.specs.Byte.{byteClass, openByte, closeByte, sameBracket, blankClass, ordinaryClass, isBlank, isOrdinary, isRaw}
-use Rattle.syntax.specs.Syntax.{pieceBefore, piecesBefore, leafBefore, bytesBefore, bytesOf, isHex, hexDigit, hexValue, isPiece, arePieces, areOrdinary, isLeaf, letterValue, pieceValue, piecesValue}
-use Rattle.syntax.specs.Expression.{locateLeaf, locate}
-use Rattle.syntax.specs.Scan.{ordinaryRun, escapeAt, piece, quotedFrom, quotedItem, itemAt, itemsFrom, addLeaf, wrap, endLevel, atEnd, oneMore, oneLess, build, outermost, scan}
-use Rattle.syntax.specs.Examples.{Example, examples, found, locatedIn, run, Judged, leaves}
+use Rattle.utf8.specs.rules.Scalar.{isScalar, encode}
+use Rattle.utf8.specs.examples.Quoted.{utf8Of}
+use Rattle.syntax.specs.rules.Byte.{byteClass, openByte, closeByte, sameBracket, blankClass, ordinaryClass, isBlank, isOrdinary, isRaw}
+use Rattle.syntax.specs.rules.Syntax.{pieceBefore, piecesBefore, leafBefore, bytesBefore, bytesOf, isHex, hexDigit, hexValue, isPiece, arePieces, areOrdinary, isLeaf, letterValue, pieceValue, piecesValue}
+use Rattle.syntax.specs.rules.Expression.{locateLeaf, locate}
+use Rattle.syntax.specs.reference.Scan.{ordinaryRun, escapeAt, piece, quotedFrom, quotedItem, itemAt, itemsFrom, addLeaf, wrap, endLevel, atEnd, oneMore, oneLess, build, outermost, scan}
+use Rattle.syntax.specs.examples.Scanned.{Example, examples, found, locatedIn, run, Judged, leaves}
 
 pub texts-scanned : map found examples ≡ map (λ (e : Example). e .expected) examples
 unfolding isScalar encode utf8Of byteClass openByte closeByte sameBracket ordinaryClass isOrdinary pieceBefore piecesBefore leafBefore bytesBefore bytesOf isHex hexDigit hexValue isPiece letterValue pieceValue piecesValue locateLeaf locate ordinaryRun escapeAt piece quotedFrom quotedItem itemAt itemsFrom addLeaf wrap endLevel atEnd oneMore oneLess build outermost scan examples found locatedIn run

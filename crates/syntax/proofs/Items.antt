@@ -1,4 +1,4 @@
--- Bytes to items: what stands at the front of a text is the item that is read there, whatever follows. Assumes nothing.
+-- Bytes to items: what stands at the front of a text is the item that is read there, whatever follows.
 use Prim.Native.Nat.{ℕ, suc, _+_}
 use mathlib.Core.Path.{_≡_, refl, ap, sym, _∙_}
 use mathlib.Core.List.{List, [], _∷_, _++_, append-assoc, append-nil}
@@ -6,10 +6,10 @@ use native.Mathlib.Nat.{add-zero, add-assoc}
 use native.Mathlib.Omega.{arith}
 use lib.Dec.{T}
 use lib.ListN.{length, length-append}
-use Rattle.laws.proofs.Booleans.{both, T-true}
-use Rattle.syntax.specs.Byte.{Bracket, ByteClass, blank, return, quote, ordinary, opening, closing, byteClass, openByte, closeByte, isOrdinary}
-use Rattle.syntax.specs.Syntax.{Piece, piecesBefore, arePieces, areOrdinary, Leaf, space, line-end, word, string, leafBefore, isLeaf, a-symbol, after}
-use Rattle.syntax.specs.Scan.{closed, quotedFrom, quotedItem, ordinaryRun, a-leaf, opens, closes, itemAt, itemsFrom}
+use Rattle.base.proofs.Booleans.{both, T-true}
+use Rattle.syntax.specs.rules.Byte.{Bracket, ByteClass, blank, return, quote, ordinary, opening, closing, byteClass, openByte, closeByte, isOrdinary}
+use Rattle.syntax.specs.rules.Syntax.{Piece, piecesBefore, arePieces, areOrdinary, Leaf, space, line-end, word, string, leafBefore, isLeaf, a-symbol, after}
+use Rattle.syntax.specs.reference.Scan.{closed, quotedFrom, quotedItem, ordinaryRun, a-leaf, opens, closes, itemAt, itemsFrom}
 use Rattle.syntax.proofs.Classes.{Fits, blank-class, ordinary-class, open-class, close-class}
 use Rattle.syntax.proofs.Strings.{pieces-append, quoted-pieces, pieces-closed}
 

@@ -1,12 +1,12 @@
--- Items to levels: the items of a run build that run. Assumes nothing.
+-- Items to levels: the items of a run build that run.
 use Prim.Native.Nat.{ℕ, zero, suc, _+_, _≤_}
 use mathlib.Core.Path.{_≡_, refl, ap, _∙_}
 use mathlib.Core.List.{List, [], _∷_}
 use native.Mathlib.Omega.{arith}
 use lib.ListN.{length}
-use Rattle.syntax.specs.Byte.{Bracket}
-use Rattle.syntax.specs.Syntax.{leafBefore, Forest, end, leaf, brackets, bytesOf, levels}
-use Rattle.syntax.specs.Scan.{Items, closes, Open, Levels, fault, level, addLeaf, wrap, endLevel, oneMore, oneLess, build}
+use Rattle.syntax.specs.rules.Byte.{Bracket}
+use Rattle.syntax.specs.rules.Syntax.{leafBefore, Forest, end, leaf, brackets, bytesOf, levels}
+use Rattle.syntax.specs.reference.Scan.{Items, closes, Open, Levels, fault, level, addLeaf, wrap, endLevel, oneMore, oneLess, build}
 use Rattle.syntax.proofs.Classes.{same-bracket}
 use Rattle.syntax.proofs.Runs.{itemsOf}
 

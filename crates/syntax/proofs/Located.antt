@@ -1,11 +1,11 @@
--- Lists nest in the expressions of a run as brackets do in the run. Assumes nothing.
+-- Lists nest in the expressions of a run as brackets do in the run.
 use Prim.Native.Nat.{ℕ, _+_}
 use mathlib.Core.Path.{_≡_, refl, _∙_}
 use native.Mathlib.Omega.{arith}
 use mathlib.Core.List.{[]}
 use lib.ListN.{length}
-use Rattle.syntax.specs.Syntax.{Leaf, space, line-end, word, string, leafBefore, Forest, end, leaf, brackets, bytesOf, levels}
-use Rattle.syntax.specs.Expression.{Exprs, locateLeaf, locate, depth, depthAll}
+use Rattle.syntax.specs.rules.Syntax.{Leaf, space, line-end, word, string, leafBefore, Forest, end, leaf, brackets, bytesOf, levels}
+use Rattle.syntax.specs.rules.Expression.{Exprs, locateLeaf, locate, depth, depthAll}
 
 -- A leaf adds no depth.
 leaf-depth : (n : ℕ) (l : Leaf) (es : Exprs) → depthAll (locateLeaf n l es) ≡ depthAll es

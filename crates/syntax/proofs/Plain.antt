@@ -1,11 +1,11 @@
--- The definitions of `Byte` and `Syntax` agree with the plain tables of `specs/Plain.antt`, by computation over all 256 bytes. Assumes nothing.
+-- The definitions of `Byte` and `Syntax` agree with the plain tables of `specs/examples/Plain.antt`, by computation over all 256 bytes.
 use mathlib.Core.Path.{_≡_, refl}
-use Rattle.utf8.specs.Scalar.{isScalar, encode}
-use Rattle.utf8.specs.Quoted.{ofBytes, ofMarks}
-use Rattle.syntax.specs.Byte.{byteClass, blankClass, ordinaryClass, isBlank, isOrdinary, isRaw}
-use Rattle.syntax.specs.Syntax.{isHex, hexDigit, hexValue, isPiece, pieceBefore, letterValue, pieceValue}
-use Rattle.syntax.specs.Scan.{escapeAt}
-use Rattle.syntax.specs.Plain.{byteIs, byteAs, bytes, escapeIs, escapeAs, escapes, digitIs, digitAs}
+use Rattle.utf8.specs.rules.Scalar.{isScalar, encode}
+use Rattle.utf8.specs.examples.Quoted.{ofBytes, ofMarks}
+use Rattle.syntax.specs.rules.Byte.{byteClass, blankClass, ordinaryClass, isBlank, isOrdinary, isRaw}
+use Rattle.syntax.specs.rules.Syntax.{isHex, hexDigit, hexValue, isPiece, pieceBefore, letterValue, pieceValue}
+use Rattle.syntax.specs.reference.Scan.{escapeAt}
+use Rattle.syntax.specs.examples.Plain.{byteIs, byteAs, bytes, escapeIs, escapeAs, escapes, digitIs, digitAs}
 
 -- White space, refused characters, brackets, the quote, and what may stand raw in a string.
 pub byte-classes : ofBytes byteIs ≡ ofMarks byteAs bytes

@@ -1,14 +1,14 @@
--- What stands before a fault: how it grows, and what the scan makes of it. Assumes nothing.
+-- What stands before a fault: how it grows, and what the scan makes of it.
 use Prim.Native.Nat.{ℕ, suc, _+_, _≤_, max}
 use mathlib.Core.Path.{_≡_, refl, ap, sym, _∙_}
 use mathlib.Core.List.{List, [], _∷_}
 use native.Mathlib.Nat.{zero-add}
 use native.Mathlib.Omega.{arith}
 use lib.ListN.{length}
-use Rattle.syntax.specs.Byte.{Bracket, openByte}
-use Rattle.syntax.specs.Syntax.{Before, another, after, Forest, end, leaf, brackets, bytesBefore, bytesOf, Ok, levels}
-use Rattle.syntax.specs.Scan.{Items, opens, itemsFrom, Open, fault, wrap, oneMore, build}
-use Rattle.syntax.specs.Fault.{Opened, outside, within, openedBefore, size, openLevels, OkOpened}
+use Rattle.syntax.specs.rules.Byte.{Bracket, openByte}
+use Rattle.syntax.specs.rules.Syntax.{Before, another, after, Forest, end, leaf, brackets, bytesBefore, bytesOf, Ok, levels}
+use Rattle.syntax.specs.reference.Scan.{Items, opens, itemsFrom, Open, fault, wrap, oneMore, build}
+use Rattle.syntax.specs.rules.Fault.{Opened, outside, within, openedBefore, size, openLevels, OkOpened}
 use Rattle.syntax.proofs.Classes.{Fits, fits-open}
 use Rattle.syntax.proofs.Items.{items-open}
 use Rattle.syntax.proofs.Runs.{lastOf, itemsOf, items-run, run-length}

@@ -1,4 +1,4 @@
--- A text that has a fault is refused with its number and place. Assumes nothing.
+-- A text that has a fault is refused with its number and place.
 use Prim.Native.Nat.{ℕ, _+_, _-_}
 use mathlib.Core.Path.{_≡_, refl, ap, _∙_}
 use mathlib.Core.Bool.{false}
@@ -7,11 +7,11 @@ use native.Mathlib.Omega.{arith}
 use lib.Dec.{T}
 use lib.ListN.{length, getD}
 use borrow.Author.Tests.{ne-eqb}
-use Rattle.laws.proofs.Booleans.{not-T-false}
-use Rattle.syntax.specs.Byte.{forbidden, byteClass, ordinaryClass}
-use Rattle.syntax.specs.Syntax.{Before, Piece, isPiece, pieceBefore, piecesBefore}
-use Rattle.syntax.specs.Scan.{bad-escape, quotedFrom, escapeAt, quotedItem, itemAt, itemsFrom, fault, build, oneMore, oneLess, atEnd, refused, outermost, scan}
-use Rattle.syntax.specs.Fault.{Opened, outside, within, size, openLevels, Hit, control, lone-return, no-escape, empty-string, unclosed-string, unopened, other-partner, left-open, too-deep, Fault}
+use Rattle.base.proofs.Booleans.{not-T-false}
+use Rattle.syntax.specs.rules.Byte.{forbidden, byteClass, ordinaryClass}
+use Rattle.syntax.specs.rules.Syntax.{Before, Piece, isPiece, pieceBefore, piecesBefore}
+use Rattle.syntax.specs.reference.Scan.{bad-escape, quotedFrom, escapeAt, quotedItem, itemAt, itemsFrom, fault, build, oneMore, oneLess, atEnd, refused, outermost, scan}
+use Rattle.syntax.specs.rules.Fault.{Opened, outside, within, size, openLevels, Hit, control, lone-return, no-escape, empty-string, unclosed-string, unopened, other-partner, left-open, too-deep, Fault}
 use Rattle.syntax.proofs.Classes.{Fits, fits-end, fits-class, fits-open, fits-close}
 use Rattle.syntax.proofs.Strings.{escape-spelled, pieces, quoted-pieces, pieces-unclosed, pieces-bad}
 use Rattle.syntax.proofs.Items.{item-of, items-open, items-close}

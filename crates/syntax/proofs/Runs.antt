@@ -1,4 +1,4 @@
--- The bytes of a run, and the items that are read from them. Assumes nothing.
+-- The bytes of a run, and the items that are read from them.
 use Prim.Native.Nat.{ℕ, suc, _+_}
 use mathlib.Core.Path.{_≡_, refl, ap, _∙_}
 use mathlib.Core.List.{List, [], _∷_, _++_, append-assoc, append-nil}
@@ -6,9 +6,9 @@ use native.Mathlib.Nat.{add-zero, add-assoc}
 use native.Mathlib.Omega.{arith}
 use lib.Dec.{T}
 use lib.ListN.{length, length-append}
-use Rattle.syntax.specs.Byte.{closeByte, byteClass, ordinaryClass, isBlank}
-use Rattle.syntax.specs.Syntax.{piecesBefore, Leaf, space, line-end, word, string, leafBefore, isLeaf, Before, a-symbol, another, after, mayFollow, Forest, end, leaf, brackets, bytesBefore, bytesOf, Ok}
-use Rattle.syntax.specs.Scan.{Items, a-leaf, opens, closes, itemsFrom}
+use Rattle.syntax.specs.rules.Byte.{closeByte, byteClass, ordinaryClass, isBlank}
+use Rattle.syntax.specs.rules.Syntax.{piecesBefore, Leaf, space, line-end, word, string, leafBefore, isLeaf, Before, a-symbol, another, after, mayFollow, Forest, end, leaf, brackets, bytesBefore, bytesOf, Ok}
+use Rattle.syntax.specs.reference.Scan.{Items, a-leaf, opens, closes, itemsFrom}
 use Rattle.syntax.proofs.Classes.{Fits, fits-class, fits-open, fits-close, blank-class}
 use Rattle.syntax.proofs.Strings.{pieces-append}
 use Rattle.syntax.proofs.Items.{items-leaf, items-open, items-close}

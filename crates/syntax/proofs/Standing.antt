@@ -1,5 +1,5 @@
 -- Where the expressions of concrete syntax stand in its bytes: a symbol at its bytes, a string at its quote, a list at its bracket, and nothing but white space between the bracket and
--- what leads the list. Assumes nothing.
+-- what leads the list.
 use Prim.Native.Nat.{ℕ, _+_, _≤_, _<_}
 use mathlib.Core.Path.{_≡_, refl, sym, ap, _∙_}
 use mathlib.Core.List.{List, [], _∷_, _++_}
@@ -7,10 +7,10 @@ use native.Mathlib.Omega.{arith}
 use lib.Dec.{T}
 use lib.ListN.{length, drop}
 use lib.Seq.{drop-drop, drop-append-seam}
-use Rattle.syntax.specs.Byte.{Bracket, openByte, closeByte}
-use Rattle.syntax.specs.Syntax.{Piece, piecesBefore, piecesValue, arePieces, areOrdinary, Leaf, space, line-end, word, string, leafBefore, isLeaf}
-use Rattle.syntax.specs.Syntax.{Before, a-symbol, another, after, mayFollow, Forest, end, leaf, brackets, bytesBefore, bytesOf, Ok}
-use Rattle.syntax.specs.Expression.{Expr, symbol, quoted, list, Exprs, none, and, place, locateLeaf, locate}
+use Rattle.syntax.specs.rules.Byte.{Bracket, openByte, closeByte}
+use Rattle.syntax.specs.rules.Syntax.{Piece, piecesBefore, piecesValue, arePieces, areOrdinary, Leaf, space, line-end, word, string, leafBefore, isLeaf}
+use Rattle.syntax.specs.rules.Syntax.{Before, a-symbol, another, after, mayFollow, Forest, end, leaf, brackets, bytesBefore, bytesOf, Ok}
+use Rattle.syntax.specs.rules.Expression.{Expr, symbol, quoted, list, Exprs, none, and, place, locateLeaf, locate}
 use Rattle.syntax.proofs.Classes.{Fits, fits-end, fits-close}
 use Rattle.syntax.proofs.Runs.{leaf-append, leaf-length, run-append, run-length, lastOf, fits-run}
 

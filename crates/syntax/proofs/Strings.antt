@@ -1,4 +1,4 @@
--- Bytes to the pieces of a quoted string. Assumes nothing.
+-- Bytes to the pieces of a quoted string.
 use Prim.Native.Nat.{ℕ, _+_, _-_}
 use mathlib.Core.Path.{_≡_, refl, ap, _∙_}
 use mathlib.Core.Bool.{Bool, true, false, cond, _&&_, _||_}
@@ -8,11 +8,11 @@ use lib.Dec.{T, eqb}
 use lib.ListN.{length, getD, length-append}
 use native.Mathlib.Nat.{add-zero, add-assoc}
 use borrow.Author.Tests.{eqb-true, ne-eqb}
-use Rattle.laws.proofs.Booleans.{both, or-false, not-true, T-true}
-use Rattle.utf8.specs.Scalar.{isScalar}
-use Rattle.syntax.specs.Byte.{isRaw}
-use Rattle.syntax.specs.Syntax.{Piece, raw, letter, number, isHex, hexValue, isPiece, arePieces, pieceBefore, piecesBefore}
-use Rattle.syntax.specs.Scan.{Quoted, closed, unclosed, bad-escape, piece, escapeAt, quotedFrom}
+use Rattle.base.proofs.Booleans.{both, or-false, not-true, T-true}
+use Rattle.utf8.specs.rules.Scalar.{isScalar}
+use Rattle.syntax.specs.rules.Byte.{isRaw}
+use Rattle.syntax.specs.rules.Syntax.{Piece, raw, letter, number, isHex, hexValue, isPiece, arePieces, pieceBefore, piecesBefore}
+use Rattle.syntax.specs.reference.Scan.{Quoted, closed, unclosed, bad-escape, piece, escapeAt, quotedFrom}
 
 -- The pieces in front of what follows.
 unfoldable pub pieces : List Piece → Quoted → Quoted

@@ -1,4 +1,4 @@
--- Every text is leaves and brackets up to its end or up to a fault 3 or 4. No scan is in these proofs. Assumes nothing.
+-- Every text is leaves and brackets up to its end or up to a fault 3 or 4. No scan is in these proofs.
 use Prim.Native.Nat.{ℕ, zero, suc, _+_, _≤_, _<_}
 use mathlib.Core.Path.{_≡_, refl, ap}
 use mathlib.Core.Bool.{false}
@@ -7,11 +7,11 @@ use native.Mathlib.Omega.{arith}
 use lib.Dec.{T, eqb}
 use lib.ListN.{length, length-append}
 use borrow.Author.Tests.{eqb-true, eqb-false}
-use Rattle.laws.proofs.Booleans.{bool-case, both-true, true-T, false-not-T}
-use Rattle.syntax.specs.Byte.{Bracket, ByteClass, blank, return, quote, forbidden, ordinary, opening, closing, byteClass, openByte, closeByte, blankClass, ordinaryClass, isBlank, isOrdinary, isRaw}
-use Rattle.syntax.specs.Syntax.{Piece, raw, letter, number, isPiece, arePieces, pieceBefore, piecesBefore, areOrdinary, Leaf, space, line-end, word, string, leafBefore, isLeaf, a-symbol, after}
-use Rattle.syntax.specs.Scan.{escapeAt}
-use Rattle.syntax.specs.Fault.{Opened, size, Hit, control, lone-return, no-escape, empty-string, unclosed-string}
+use Rattle.base.proofs.Booleans.{bool-case, both-true, true-T, false-not-T}
+use Rattle.syntax.specs.rules.Byte.{Bracket, ByteClass, blank, return, quote, forbidden, ordinary, opening, closing, byteClass, openByte, closeByte, blankClass, ordinaryClass, isBlank, isOrdinary, isRaw}
+use Rattle.syntax.specs.rules.Syntax.{Piece, raw, letter, number, isPiece, arePieces, pieceBefore, piecesBefore, areOrdinary, Leaf, space, line-end, word, string, leafBefore, isLeaf, a-symbol, after}
+use Rattle.syntax.specs.reference.Scan.{escapeAt}
+use Rattle.syntax.specs.rules.Fault.{Opened, size, Hit, control, lone-return, no-escape, empty-string, unclosed-string}
 use Rattle.syntax.proofs.Classes.{ByteOf, class-byte, Fits}
 use Rattle.syntax.proofs.Strings.{pieces-append, escape-spelled, letter-not-u, raw-tests}
 

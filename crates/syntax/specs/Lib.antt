@@ -1,8 +1,3 @@
-pub mod Byte
-pub mod Syntax
-pub mod Expression
-pub mod Atoms
-pub mod Scan
-pub mod Fault
-pub mod Plain
-pub mod Examples
+pub mod rules
+pub mod reference
+pub mod examples

@@ -1,11 +1,11 @@
--- The part of a list from a place on and of a length, where it ends and where the list ends before it. Assumes nothing.
+-- The part of a list from a place on and of a length, where it ends and where the list ends before it.
 use Prim.Native.Nat.{ℕ, _+_, _*_, _-_, _<_, _≤_}
 use mathlib.Core.Path.{_≡_, _∙_, sym}
 use mathlib.Core.List.{List}
 use native.Mathlib.Omega.{arith}
 use lib.ListN.{length, take, drop, length-drop, drop-of-length-le, List·getD-eq-default}
 use lib.Seq.{take-nil, take-all}
-use Rattle.document.specs.Printing.{part}
+use Rattle.document.specs.reference.Printing.{part}
 use Rattle.table.specs.Stored.{wordAt, stringAt}
 
 module _ (s : List ℕ) (at size : ℕ) where

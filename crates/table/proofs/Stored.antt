@@ -1,13 +1,14 @@
--- Laws of nodes that stand in a table. Assumes nothing.
+-- Laws of nodes that stand in a table.
 use Prim.Native.Nat.{ℕ, zero, suc, _+_, _*_, _≤_, _<_}
 use mathlib.Core.Path.{_≡_, refl, sym, ap, _∙_}
 use mathlib.Core.List.{List, [], _∷_, _++_, append-assoc, append-nil}
 use native.Mathlib.Omega.{arith}
 use lib.ListN.{length, getD, take, drop, length-append, length-take, length-drop}
 use lib.Seq.{take-all, take-at, drop-at, take-add, drop-drop, drop-cons, getD-take, getD-drop}
-use Rattle.document.specs.Document.{Node, node, Nodes, childless, child, missing}
-use Rattle.document.specs.Table.{count, countAll, pool, poolAll, rows, rowsAll, tableOf}
-use Rattle.document.specs.Printing.{part}
+use Rattle.base.specs.rules.Limits.{missing}
+use Rattle.document.specs.rules.Document.{Node, node, Nodes, childless, child}
+use Rattle.document.specs.rules.Table.{count, countAll, pool, poolAll, rows, rowsAll, tableOf}
+use Rattle.document.specs.reference.Printing.{part}
 use Rattle.document.proofs.Records.{rows-length}
 use Rattle.document.proofs.Determined.{count-positive}
 use Rattle.table.specs.Stored.{wordAt, Recorded, Stored, StoredAll}

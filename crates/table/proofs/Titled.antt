@@ -1,15 +1,15 @@
--- The kinds whose first parameter is a title or a summary, by one test of every row. Assumes nothing.
+-- The kinds whose first parameter is a title or a summary, by one test of every row.
 use Prim.Native.Nat.{ℕ, _<_, _≤_}
 use mathlib.Core.Path.{_≡_}
 use mathlib.Core.Bool.{Bool, true, _&&_, _||_}
 use native.Mathlib.Omega.{arith}
 use lib.Dec.{eqb, leb}
 use borrow.Author.Tests.{leb-true, leb-false, ne-eqb, lt-leb, le-leb}
-use Rattle.laws.proofs.Booleans.{bool-case}
-use Rattle.laws.proofs.Tables.{each-below, alike, alike-eq}
-use Rattle.elements.specs.Rules.{rules, ruleIn, ruleOf}
+use Rattle.base.proofs.Booleans.{bool-case}
+use Rattle.base.proofs.Tables.{each-below, alike, alike-eq}
+use Rattle.elements.specs.rules.Rules.{rules, ruleIn, ruleOf}
 use Rattle.kind.proofs.Table.{no-row}
-use Rattle.document.specs.Canonical.{nodeFirst}
+use Rattle.document.specs.rules.Canonical.{nodeFirst}
 
 -- As the code tests them.
 abbrev titled : ℕ → Bool

@@ -3,9 +3,10 @@ use Prim.Native.Nat.{ℕ, suc, _+_, _*_}
 use mathlib.Core.Path.{_≡_}
 use mathlib.Core.List.{List, [], _∷_}
 use lib.ListN.{length, getD, take, drop}
-use Rattle.document.specs.Document.{Node, node, Nodes, childless, child}
-use Rattle.document.specs.Table.{recordLength, count, countAll, pool, offset}
-use Rattle.document.specs.Printing.{part}
+use Rattle.document.specs.rules.Document.{Node, node, Nodes, childless, child}
+use Rattle.document.specs.rules.Record.{recordLength}
+use Rattle.document.specs.rules.Table.{count, countAll, pool, offset}
+use Rattle.document.specs.reference.Printing.{part}
 
 -- Word j of the record of node i, and 0 past the end.
 unfoldable pub wordAt : List ℕ → ℕ → ℕ → ℕ

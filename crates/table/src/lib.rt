@@ -2,9 +2,9 @@
 use kind::Keyword;
 use kind::Kind;
 ghost use mathlib.Core.Path.{_≡_};
-ghost use Rattle.elements.specs.Rules.{ruleOf};
-ghost use Rattle.document.specs.Canonical.{keyClass, nodeFirst};
-ghost use Rattle.document.specs.Printing.{part};
+ghost use Rattle.elements.specs.rules.Rules.{ruleOf};
+ghost use Rattle.document.specs.rules.Canonical.{keyClass, nodeFirst};
+ghost use Rattle.document.specs.reference.Printing.{part};
 ghost use Rattle.table.specs.Stored.{wordAt, stringAt};
 
 // "Eleven u32 words a node"

@@ -1,7 +1,6 @@
--- The table of `specs/Sequence.antt` and the encodings of `specs/Scalar.antt` say the same: a text is valid up to its end exactly where it is UTF-8,
+-- The table of `specs/reference/Sequence.antt` and the encodings of `specs/rules/Scalar.antt` say the same: a text is valid up to its end exactly where it is UTF-8,
 -- and up to p exactly where its first ill-formed sequence begins at p. The texts are all lists of numbers.
 -- Beside that: UTF-8 texts join, a UTF-8 text parts before an ASCII byte, and what follows an ASCII byte in front is UTF-8.
--- Assumes nothing.
 use mathlib.Core.Path.{_≡_, refl, ap, ap₂, sym, _∙_}
 use mathlib.Core.Bool.{Bool, true, _&&_}
 use mathlib.Core.List.{List, [], _∷_, _++_, append-assoc, append-nil}
@@ -12,9 +11,9 @@ use lib.Dec.{T, leb, leb→le, le→leb}
 use lib.ListN.{length, take, drop, length-append, length-take, length-drop, take-append-drop}
 use lib.Seq.{take-length, drop-append-seam, drop-append-add, take-append-add}
 use borrow.Author.Tests.{le-leb}
-use Rattle.utf8.specs.Scalar.{isScalar, further, encode, encodeAll, allScalar, IsUtf8, IllFormedAt}
-use Rattle.utf8.specs.Sequence.{sequenceLength, validFrom, validUpTo}
-use Rattle.laws.proofs.Booleans.{cond-case, both, both-true}
+use Rattle.utf8.specs.rules.Scalar.{isScalar, further, encode, encodeAll, allScalar, IsUtf8, IllFormedAt}
+use Rattle.utf8.specs.reference.Sequence.{sequenceLength, validFrom, validUpTo}
+use Rattle.base.proofs.Booleans.{cond-case, both, both-true}
 use Rattle.utf8.proofs.Decode.{scalar-below, encode-length, nothing-starts, starts-of}
 use Rattle.utf8.proofs.Walk.{stop, walk}
 

@@ -1,4 +1,4 @@
--- ASCII bytes, several at once: each is a sequence by itself, so the walk passes them all. Assumes nothing.
+-- ASCII bytes, several at once: each is a sequence by itself, so the walk passes them all.
 use mathlib.Core.Path.{_≡_, refl, ap, sym, _∙_}
 use mathlib.Core.Bool.{Bool, true, false, _&&_}
 use mathlib.Core.List.{List, [], _∷_}
@@ -9,8 +9,8 @@ use lib.Dec.{T, ltb}
 use lib.ListN.{length, drop, getD, replicate, length-drop, length-replicate, drop-of-length-le}
 use lib.Seq.{drop-cons, drop-drop}
 use borrow.Author.Tests.{le-leb, lt-leb, ltb-true, ltb-false}
-use Rattle.laws.proofs.Booleans.{bool-case, both, and-true, true-T, T-true, not-T-false}
-use Rattle.utf8.specs.Sequence.{to, within, forms, begins, beginsAscii, firstForm, sequenceLength, validFrom}
+use Rattle.base.proofs.Booleans.{bool-case, both, and-true, true-T, T-true, not-T-false}
+use Rattle.utf8.specs.reference.Sequence.{to, within, forms, begins, beginsAscii, firstForm, sequenceLength, validFrom}
 use Rattle.utf8.proofs.Walk.{begins-fits, walk}
 
 -- ---- the code's tests

@@ -1,4 +1,4 @@
--- Line and column of a place, counted one byte at a time. Assumes nothing.
+-- Line and column of a place, counted one byte at a time.
 use mathlib.Core.Path.{_≡_, refl, _∙_}
 use mathlib.Core.Bool.{Bool, true, false, cond, _||_}
 use mathlib.Core.List.{List, [], _∷_}
@@ -8,8 +8,8 @@ use native.Mathlib.Numerals.{add-one}
 use lib.Dec.{eqb}
 use lib.ListN.{length, take, drop, getD, length-take, drop-of-length-le}
 use lib.Seq.{drop-cons, getD-take}
-use Rattle.utf8.specs.Position.{lineFeed, lineFeeds, hasLineFeed, lastLine, isContinuation, characters}
-use Rattle.laws.proofs.Booleans.{cond-case}
+use Rattle.utf8.specs.rules.Position.{lineFeed, lineFeeds, hasLineFeed, lastLine, isContinuation, characters}
+use Rattle.base.proofs.Booleans.{cond-case}
 
 -- The line and the column after one more byte.
 abbrev pub nextLine : ℕ → ℕ → ℕ

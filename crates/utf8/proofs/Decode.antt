@@ -1,5 +1,4 @@
--- A sequence that the table of `specs/Sequence.antt` has is the encoding of a scalar value, and each encoding is such a sequence.
--- Assumes nothing.
+-- A sequence that the table of `specs/reference/Sequence.antt` has is the encoding of a scalar value, and each encoding is such a sequence.
 use mathlib.Core.Path.{_≡_, refl, ap, sym, _∙_}
 use mathlib.Core.Bool.{_&&_}
 use mathlib.Core.Logic.{_⊎_, inl, inr, ⊎-elim}
@@ -10,9 +9,9 @@ use lib.Dec.{T, leb, ltb, eqb, leb→le, le→leb, lt→ltb, ltb→lt}
 use lib.ListN.{length, drop}
 use lib.Seq.{drop-append-seam}
 use borrow.Author.Tests.{le-leb, lt-leb, leb-true, leb-false, eqb-true, eqb-false}
-use Rattle.utf8.specs.Scalar.{isScalar, further, encode}
-use Rattle.utf8.specs.Sequence.{Range, to, within, begins, forms, firstForm, sequenceLength}
-use Rattle.laws.proofs.Booleans.{cond-case, bool-case, both, both-true, or-true, or-left, or-right, T-true, true-T}
+use Rattle.utf8.specs.rules.Scalar.{isScalar, further, encode}
+use Rattle.utf8.specs.reference.Sequence.{Range, to, within, begins, forms, firstForm, sequenceLength}
+use Rattle.base.proofs.Booleans.{cond-case, bool-case, both, both-true, or-true, or-left, or-right, T-true, true-T}
 use Rattle.utf8.proofs.Rows.{low, high, continuation, choose, byRange, sequence-by-range}
 
 -- ---- the second byte's range, by the first byte

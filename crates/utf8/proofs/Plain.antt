@@ -1,10 +1,10 @@
--- The definitions of `Position` agree with the plain tables of `specs/Plain.antt`, by computation. Assumes nothing.
+-- The definitions of `Position` agree with the plain tables of `specs/examples/Plain.antt`, by computation.
 use mathlib.Core.Path.{_≡_, refl}
 use mathlib.Core.List.{map}
-use Rattle.utf8.specs.Scalar.{encode}
-use Rattle.utf8.specs.Position.{hasLineFeed, lineFeeds, lineOf, lastLine, isContinuation, characters, columnOf}
-use Rattle.utf8.specs.Quoted.{utf8Of, numbersFrom, ofBytes, ofMarks}
-use Rattle.utf8.specs.Plain.{countedOf, countedAs, counted, positionOf, sample, positions}
+use Rattle.utf8.specs.rules.Scalar.{encode}
+use Rattle.utf8.specs.rules.Position.{hasLineFeed, lineFeeds, lineOf, lastLine, isContinuation, characters, columnOf}
+use Rattle.utf8.specs.examples.Quoted.{utf8Of, numbersFrom, ofBytes, ofMarks}
+use Rattle.utf8.specs.examples.Plain.{countedOf, countedAs, counted, positionOf, sample, positions}
 
 -- "1 plus the U+000A bytes", "1 plus the bytes outside 0x80 to 0xBF": which of the 256 bytes is which.
 pub bytes-counted : ofBytes countedOf ≡ ofMarks countedAs counted

@@ -1,6 +1,5 @@
--- What the table of `specs/Sequence.antt` says of each first byte: by the byte's range, and by its leading one bits, as the code goes.
+-- What the table of `specs/reference/Sequence.antt` says of each first byte: by the byte's range, and by its leading one bits, as the code goes.
 -- The 256 bytes are compared by one test that antt computes; a number that is no byte begins no row.
--- Assumes nothing.
 use mathlib.Core.Path.{_≡_, refl, ap, ap₂, sym, _∙_}
 use mathlib.Core.Bool.{Bool, true, false, cond, _&&_}
 use mathlib.Core.List.{List, [], _∷_}
@@ -11,9 +10,9 @@ use lib.Dec.{T, leb, ltb, eqb, leb→le, eqb→eq}
 use lib.ListN.{length, drop, getD}
 use lib.Seq.{drop-cons, drop-drop}
 use borrow.Author.Tests.{lt-leb, leb-true, leb-false, lt-ltb, le-ltb}
-use Rattle.laws.proofs.Booleans.{bool-case, cond-under, both, and-true, and-false}
-use Rattle.laws.proofs.Tables.{below, each-below}
-use Rattle.utf8.specs.Sequence.{Range, to, within, forms, begins, firstForm, sequenceLength, leadingOnes}
+use Rattle.base.proofs.Booleans.{bool-case, cond-under, both, and-true, and-false}
+use Rattle.base.proofs.Tables.{below, each-below}
+use Rattle.utf8.specs.reference.Sequence.{Range, to, within, forms, begins, firstForm, sequenceLength, leadingOnes}
 
 -- Two lists are equal where a test says so of their elements.
 same : {A : Type 0} → (A → A → Bool) → List A → List A → Bool

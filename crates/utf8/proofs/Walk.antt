@@ -1,4 +1,4 @@
--- How `validFrom` goes through a text: by whole sequences, none of which passes the end. Assumes nothing.
+-- How `validFrom` goes through a text: by whole sequences, none of which passes the end.
 use mathlib.Core.Path.{_≡_, refl, ap, sym, _∙_}
 use mathlib.Core.List.{List, [], _∷_}
 use Prim.Native.Nat.{ℕ, zero, suc, _+_, _≤_, zero-le, suc-le-suc}
@@ -7,8 +7,8 @@ use native.Mathlib.Omega.{arith}
 use lib.Dec.{T}
 use lib.ListN.{length, drop, length-drop}
 use lib.Seq.{drop-drop}
-use Rattle.utf8.specs.Sequence.{Range, within, begins, forms, firstForm, sequenceLength, validFrom}
-use Rattle.laws.proofs.Booleans.{cond-case, both, true-T}
+use Rattle.utf8.specs.reference.Sequence.{Range, within, begins, forms, firstForm, sequenceLength, validFrom}
+use Rattle.base.proofs.Booleans.{cond-case, both, true-T}
 
 pub begins-fits : (f : List Range) (s : List ℕ) → T (begins f s) → length f ≤ length s
 unfolding begins

@@ -1,5 +1,3 @@
-pub mod Scalar
-pub mod Sequence
-pub mod Position
-pub mod Quoted
-pub mod Plain
+pub mod rules
+pub mod reference
+pub mod examples

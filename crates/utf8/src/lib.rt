@@ -6,8 +6,8 @@ ghost use mathlib.Core.List.{[], _∷_};
 ghost use Prim.Native.Nat.{_+_, _-_, _≤_, min};
 ghost use lib.Dec.{eqb};
 ghost use lib.ListN.{drop, length};
-ghost use Rattle.utf8.specs.Sequence.{begins, beginsAscii, leadingOnes, sequenceLength, to, validUpTo};
-ghost use Rattle.utf8.specs.Position.{columnOf, isContinuation, lineOf};
+ghost use Rattle.utf8.specs.reference.Sequence.{begins, beginsAscii, leadingOnes, sequenceLength, to, validUpTo};
+ghost use Rattle.utf8.specs.rules.Position.{columnOf, isContinuation, lineOf};
 
 pub struct LineColumn {
     pub line: usize,

@@ -1,14 +1,14 @@
--- The four searches, in order, give the check's answer. Assumes nothing.
+-- The four searches, in order, give the check's answer.
 use Prim.Native.Nat.{ℕ}
 use mathlib.Core.Path.{_≡_, _∙_, refl, sym, ap}
 use mathlib.Core.List.{List, []}
-use Rattle.elements.specs.Class as Class
-use Rattle.document.specs.Document.{Node}
-use Rattle.document.specs.Check.{First, any-number, badRow, Entry, entries, repeatedId, unknownTarget, unknownLink, unknownFootnote, Check, sound, checkedBy, check}
+use Rattle.elements.specs.rules.Class as Class
+use Rattle.document.specs.rules.Document.{Node}
+use Rattle.document.specs.reference.Check.{First, any-number, badRow, Entry, entries, repeatedId, unknownTarget, unknownLink, unknownFootnote, Check, sound, checkedBy, check}
 use Rattle.validate.specs.declared.faults.Found.{Found}
 use Rattle.validate.specs.declared.faults.Found.the-variants.{At, Nothing}
 use Rattle.validate.specs.Checked.{checkNumber, checkNode, Holds}
-use Rattle.validate.specs.Words.{entriesFrom, idsBefore, found, Searched}
+use Rattle.validate.specs.internal.Words.{entriesFrom, idsBefore, found, Searched}
 use Rattle.validate.proofs.Rows.{found-nothing, found-at}
 use Rattle.validate.proofs.Tables.{entries-are, link-is, note-is, rows-searched}
 

@@ -1,16 +1,16 @@
--- The children of a node, found by their end words, and the cells that a table's head demands of rows below it. Assumes nothing.
+-- The children of a node, found by their end words, and the cells that a table's head demands of rows below it.
 use Prim.Native.Nat.{ℕ, suc, _+_, _<_}
 use mathlib.Core.Path.{_≡_, _∙_, refl, sym, ap}
 use mathlib.Core.List.{List}
 use native.Mathlib.Omega.{arith}
 use borrow.Author.Tests.{eq-eqb, ne-eqb}
-use Rattle.elements.specs.Class as Class
-use Rattle.document.specs.Document.{Node, node, Nodes, childless, child}
-use Rattle.document.specs.Table.{count, countAll}
-use Rattle.document.specs.Check.{Cells, any-number, exactly, headCells, cellsIn}
-use Rattle.document.specs.Visits.{childCount}
+use Rattle.elements.specs.rules.Class as Class
+use Rattle.document.specs.rules.Document.{Node, node, Nodes, childless, child}
+use Rattle.document.specs.rules.Table.{count, countAll}
+use Rattle.document.specs.reference.Check.{Cells, any-number, exactly, headCells, cellsIn}
+use Rattle.document.specs.rules.Visits.{childCount}
 use Rattle.table.specs.Stored.{wordAt}
-use Rattle.validate.specs.Words.{Shape, Shapes, Family, Below, in-table, in-body, elsewhere}
+use Rattle.validate.specs.internal.Words.{Shape, Shapes, Family, Below, in-table, in-body, elsewhere}
 
 -- The siblings from number i on that end at e: none, or one and those from its end on.
 pub record Turn (words : List ℕ) (p i e : ℕ) (ms : Nodes) : Type 0 where

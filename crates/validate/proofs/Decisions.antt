@@ -1,11 +1,11 @@
--- Answers that tell whether something holds. Assumes nothing.
+-- Answers that tell whether something holds.
 use Prim.Native.Nat.{ℕ}
 use mathlib.Core.Path.{_≡_, refl, sym, _∙_}
 use mathlib.Core.Bool.{Bool, true, false, not, _&&_, true≢false}
 use lib.Dec.{eqb}
 use borrow.Author.Tests.{ne-eqb, eqb-true, eqb-false, not-true}
-use Rattle.laws.proofs.Booleans.{both, T-true, true-T}
-use Rattle.validate.specs.Walking.{Decided, Decides}
+use Rattle.base.proofs.Booleans.{both, T-true, true-T}
+use Rattle.validate.specs.internal.Walking.{Decided, Decides}
 
 pub decided : {P : Type 0} (b : Bool) → (b ≡ true → P) → (b ≡ false → P → ⊥) → Decided P b
 decided true f g = record { sound = f; complete = λ p. refl }

@@ -1,4 +1,4 @@
--- A table is that of a draft where a lawful document node stands in it, and nothing else. Assumes nothing.
+-- A table is that of a draft where a lawful document node stands in it, and nothing else.
 use Prim.Native.Nat.{ℕ, _*_, _≤_}
 use mathlib.Core.Path.{_≡_, refl, sym, ap, _∙_}
 use mathlib.Core.Bool.{Bool, true, false, true≢false}
@@ -7,18 +7,19 @@ use native.Mathlib.Omega.{arith}
 use lib.Dec.{eqb, eqb→eq, leb→le, le→leb}
 use lib.ListN.{length}
 use borrow.Author.Tests.{eq-eqb}
-use Rattle.laws.proofs.Booleans.{both}
-use Rattle.elements.specs.Class as Class
-use Rattle.document.specs.Document.{treeClass, Node, missing}
-use Rattle.document.specs.RulesTest.{keepsRules, isDocument}
-use Rattle.document.specs.Table.{count, pool}
-use Rattle.document.specs.Canonical.{layout, treeLevels}
+use Rattle.base.proofs.Booleans.{both}
+use Rattle.elements.specs.rules.Class as Class
+use Rattle.base.specs.rules.Limits.{missing}
+use Rattle.document.specs.rules.Document.{treeClass, Node}
+use Rattle.document.specs.reference.RulesTest.{keepsRules, isDocument}
+use Rattle.document.specs.rules.Table.{count, pool}
+use Rattle.document.specs.rules.Canonical.{layout, treeLevels}
 use Rattle.document.proofs.RulesTest.{test-lawful}
 use Rattle.document.proofs.Records.{table-length}
 use Rattle.document.proofs.LaidOut.{laid-out}
 use Rattle.table.specs.Stored.{wordAt}
-use Rattle.validate.specs.Walking.{NodeAt}
-use Rattle.document.specs.Printing.{IsDraft}
+use Rattle.validate.specs.internal.Walking.{NodeAt}
+use Rattle.document.specs.rules.Draft.{IsDraft}
 use Rattle.table.proofs.Stored.{table-stored, stored-table}
 use Rattle.validate.proofs.Walks.{class-word}
 

@@ -1,4 +1,4 @@
--- A test of every byte, one after another. Assumes nothing.
+-- A test of every byte, one after another.
 use Prim.Native.Nat.{ℕ, _+_, _≤_, _<_}
 use mathlib.Core.Path.{_≡_, _∙_}
 use mathlib.Core.Bool.{Bool, true, false, _&&_}
@@ -6,7 +6,7 @@ use mathlib.Core.List.{List}
 use native.Mathlib.Numerals.{add-one}
 use lib.ListN.{length, getD, drop, drop-of-length-le}
 use lib.Seq.{drop-cons}
-use Rattle.document.specs.Value.{every}
+use Rattle.document.specs.rules.Value.{every}
 
 module _ (test : ℕ → Bool) (xs : List ℕ) (i : ℕ) where
   module _ {answer : Bool} (h : i < length xs) (e : answer ≡ test (getD xs i 0)) where

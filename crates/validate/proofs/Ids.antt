@@ -1,4 +1,4 @@
--- The ids of blocks as the words of a table name them. Assumes nothing.
+-- The ids of blocks as the words of a table name them.
 use Prim.Native.Nat.{ℕ, suc, _+_, _*_, _-_, _<_, _≤_}
 use mathlib.Core.Path.{_≡_, _∙_, refl, sym, ap}
 use mathlib.Core.Bool.{Bool, true, false, not, cond, _&&_}
@@ -8,13 +8,13 @@ use native.Mathlib.Omega.{arith}
 use lib.Dec.{eqb, leb}
 use lib.ListN.{length, getD}
 use borrow.Author.Tests.{le-leb, lt-leb, eq-eqb, ne-eqb}
-use Rattle.laws.proofs.Booleans.{bool-case, and-false}
-use Rattle.elements.specs.Bytes.{same}
-use Rattle.elements.specs.Class.{isBlock}
-use Rattle.document.specs.Value.{nonEmpty}
-use Rattle.document.specs.Check.{nowhere, at-node, Entry, hasId, isAmong, repeatedId, unknownTarget}
+use Rattle.base.proofs.Booleans.{bool-case, and-false}
+use Rattle.elements.specs.rules.Bytes.{same}
+use Rattle.elements.specs.rules.Class.{isBlock}
+use Rattle.document.specs.rules.Value.{nonEmpty}
+use Rattle.document.specs.reference.Check.{nowhere, at-node, Entry, hasId, isAmong, repeatedId, unknownTarget}
 use Rattle.table.specs.Stored.{wordAt}
-use Rattle.validate.specs.Words.{keyAt, entryAt, entriesFrom, wanted, idsBefore, repeatsAt, danglesAt}
+use Rattle.validate.specs.internal.Words.{keyAt, entryAt, entriesFrom, wanted, idsBefore, repeatsAt, danglesAt}
 
 -- The kind of node i is the first word of its record.
 pub kind-read : (words : List ℕ) (i : ℕ) → getD words (11 * i) 0 ≡ wordAt words i 0

@@ -1,4 +1,4 @@
--- When the node of a record is lawful: a text, and an element. Assumes nothing.
+-- When the node of a record is lawful: a text, and an element.
 use Prim.Native.Nat.{ℕ, _+_, _*_, _-_, _≤_, max}
 use mathlib.Core.Path.{_≡_, refl, sym, ap, _∙_}
 use mathlib.Core.Bool.{Bool, not, cond, _&&_, true≢false}
@@ -7,20 +7,21 @@ use native.Mathlib.Omega.{arith}
 use lib.Dec.{T, eqb, leb, leb→le}
 use lib.ListN.{length}
 use borrow.Author.Tests.{eq-eqb, ne-eqb, le-leb, eqb-true}
-use Rattle.laws.proofs.Booleans.{cond-case, both, both-true}
-use Rattle.elements.specs.Class as Class
-use Rattle.elements.specs.Rules.{ruleOf}
-use Rattle.elements.specs.Inside.{start}
-use Rattle.utf8.specs.Sequence.{validUpTo}
-use Rattle.document.specs.RulesTest.{isText, keepsRules, keepRules}
-use Rattle.document.specs.Printing.{part}
-use Rattle.document.specs.Document.{text, element, Trees}
-use Rattle.document.specs.Document.{node, Nodes, childless, missing, says, sayAll}
-use Rattle.document.specs.Table.{count, pool}
-use Rattle.document.specs.Canonical.{nodeFirst, placeValues, layout, layoutAll, treeLevels, mostLevelsIn}
+use Rattle.base.proofs.Booleans.{cond-case, both, both-true}
+use Rattle.elements.specs.rules.Class as Class
+use Rattle.elements.specs.rules.Rules.{ruleOf}
+use Rattle.elements.specs.rules.Inside.{start}
+use Rattle.utf8.specs.reference.Sequence.{validUpTo}
+use Rattle.document.specs.reference.RulesTest.{isText, keepsRules, keepRules}
+use Rattle.document.specs.reference.Printing.{part}
+use Rattle.document.specs.rules.Document.{text, element, Trees}
+use Rattle.base.specs.rules.Limits.{missing}
+use Rattle.document.specs.rules.Document.{node, Nodes, childless, says, sayAll}
+use Rattle.document.specs.rules.Table.{count, pool}
+use Rattle.document.specs.rules.Canonical.{nodeFirst, placeValues, layout, layoutAll, treeLevels, mostLevelsIn}
 use Rattle.table.specs.Stored.{wordAt, StoredAll}
 use Rattle.table.specs.Stored.{stringAt}
-use Rattle.validate.specs.Walking.{Decided, Decides, offsetOf, StringAt, stringsEnd, RecordAt, TextAlone, ElementAt, valueLevels, valuesOf, Lawful, NodeAt, ChildrenAt}
+use Rattle.validate.specs.internal.Walking.{Decided, Decides, offsetOf, StringAt, stringsEnd, RecordAt, TextAlone, ElementAt, valueLevels, valuesOf, Lawful, NodeAt, ChildrenAt}
 use Rattle.validate.proofs.Decisions.{decided, Same}
 use Rattle.validate.proofs.Recordings.{nodeOf, no-string, named, stored-node, node-stored, node-pool}
 use Rattle.validate.proofs.RecordTests.{text-bytes, bytes-text}

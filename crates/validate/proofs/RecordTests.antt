@@ -1,4 +1,4 @@
--- The tests of one record. Assumes nothing.
+-- The tests of one record.
 use Prim.Native.Nat.{ℕ, _+_, _*_, _-_, _≤_, _<_}
 use mathlib.Core.Path.{_≡_, refl, sym, _∙_}
 use mathlib.Core.Bool.{true, false, not, _&&_}
@@ -7,14 +7,14 @@ use native.Mathlib.Omega.{arith}
 use lib.Dec.{T, eqb, ltb}
 use lib.ListN.{length, getD, List·getD-eq-default}
 use borrow.Author.Tests.{eq-eqb, ne-eqb, eqb-true, eqb-false, ltb-true, ltb-false}
-use Rattle.laws.proofs.Booleans.{bool-case, true-T, T-true}
-use Rattle.utf8.specs.Sequence.{validUpTo}
-use Rattle.document.specs.Document.{missing}
-use Rattle.document.specs.Value.{nonEmpty}
-use Rattle.document.specs.RulesTest.{isText}
+use Rattle.base.proofs.Booleans.{bool-case, true-T, T-true}
+use Rattle.utf8.specs.reference.Sequence.{validUpTo}
+use Rattle.base.specs.rules.Limits.{missing}
+use Rattle.document.specs.rules.Value.{nonEmpty}
+use Rattle.document.specs.reference.RulesTest.{isText}
 use Rattle.table.specs.Stored.{wordAt, Recorded}
 use Rattle.table.proofs.Stored.{recorded-word}
-use Rattle.validate.specs.Walking.{Decided, offsetOf, StringAt, TextAlone}
+use Rattle.validate.specs.internal.Walking.{Decided, offsetOf, StringAt, TextAlone}
 use Rattle.validate.proofs.Decisions.{decided, denied, equal, unequal, both-decided, reworded}
 
 -- ---- the words of a record

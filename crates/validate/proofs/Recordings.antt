@@ -1,4 +1,4 @@
--- The record of a node that stands in a table, and the node that a record is of. Assumes nothing.
+-- The record of a node that stands in a table, and the node that a record is of.
 use Prim.Native.Nat.{ℕ, suc, _+_, _≤_, _<_}
 use mathlib.Core.Path.{_≡_, refl, sym, ap, _∙_}
 use mathlib.Core.Bool.{Bool, true, false, cond}
@@ -7,12 +7,12 @@ use native.Mathlib.Omega.{arith}
 use lib.Dec.{eqb, eqb·suc-zero}
 use lib.ListN.{length, take, drop, length-append, length-take, length-drop}
 use borrow.Author.Tests.{eqb-true}
-use Rattle.document.specs.Document.{Node, node, Nodes}
-use Rattle.document.specs.Table.{countAll, pool, poolAll, offset}
-use Rattle.document.specs.Printing.{part}
+use Rattle.document.specs.rules.Document.{Node, node, Nodes}
+use Rattle.document.specs.rules.Table.{countAll, pool, poolAll, offset}
+use Rattle.document.specs.reference.Printing.{part}
 use Rattle.table.specs.Stored.{wordAt, Recorded, Stored, StoredAll}
 use Rattle.table.specs.Stored.{stringAt}
-use Rattle.validate.specs.Walking.{offsetOf, StringAt, stringsEnd, RecordAt}
+use Rattle.validate.specs.internal.Walking.{offsetOf, StringAt, stringsEnd, RecordAt}
 use Rattle.table.proofs.Stored.{recorded-word, recorded-within, word-recorded}
 
 -- The node whose record is that of number i, with these children.

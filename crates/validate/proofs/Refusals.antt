@@ -1,17 +1,19 @@
--- The ways through the check of a table. Assumes nothing.
+-- The ways through the check of a table.
 use Prim.Native.Nat.{ℕ, _*_, _≤_}
 use mathlib.Core.Path.{_≡_, refl, sym, ap, _∙_}
 use mathlib.Core.Bool.{Bool, true, false, not}
-use Rattle.laws.proofs.Booleans.{false-not-T}
+use Rattle.base.proofs.Booleans.{false-not-T}
 use mathlib.Core.List.{List}
 use native.Mathlib.Omega.{arith}
 use lib.Dec.{leb→le}
 use lib.ListN.{length, take}
 use lib.Seq.{length-take-le, take-all}
-use Rattle.document.specs.Document.{Node}
-use Rattle.document.specs.Table.{recordLength, count}
-use Rattle.document.specs.Check.{Check, sound, unsound, check}
-use Rattle.document.specs.Printing.{IsDraft, checkedAs, checking}
+use Rattle.document.specs.rules.Document.{Node}
+use Rattle.document.specs.rules.Record.{recordLength}
+use Rattle.document.specs.rules.Table.{count}
+use Rattle.document.specs.reference.Check.{Check, sound, unsound, check}
+use Rattle.document.specs.reference.Printing.{checkedAs, checking}
+use Rattle.document.specs.rules.Draft.{IsDraft}
 use Rattle.document.proofs.Records.{table-length}
 use Rattle.document.proofs.CheckedNode.{unsound-below}
 use Rattle.document.proofs.PrintingDecided.{checks, refused-check}

@@ -1,4 +1,4 @@
--- The search for a row whose number of cells is not what the table's head demands. Assumes nothing.
+-- The search for a row whose number of cells is not what the table's head demands.
 use Prim.Native.Nat.{ℕ, suc, _+_, _-_, _<_, _≤_}
 use mathlib.Core.Path.{_≡_, _∙_, refl, sym, ap, subst}
 use mathlib.Core.Bool.{Bool, true, false, not}
@@ -7,14 +7,14 @@ use native.Mathlib.Numerals.{add-one}
 use native.Mathlib.Omega.{arith}
 use lib.Dec.{eqb}
 use borrow.Author.Tests.{eq-eqb, ne-eqb}
-use Rattle.elements.specs.Class as Class
-use Rattle.document.specs.Document.{Nodes}
-use Rattle.document.specs.Check.{First, nowhere, at-node, Cells, any-number, exactly, cellsIn, differs}
-use Rattle.document.specs.Visits.{childCount}
+use Rattle.elements.specs.rules.Class as Class
+use Rattle.document.specs.rules.Document.{Nodes}
+use Rattle.document.specs.reference.Check.{First, nowhere, at-node, Cells, any-number, exactly, cellsIn, differs}
+use Rattle.document.specs.rules.Visits.{childCount}
 use Rattle.validate.specs.declared.faults.Found.{Found}
 use Rattle.validate.specs.declared.faults.Found.the-variants.{At, Nothing}
 use Rattle.table.specs.Stored.{wordAt}
-use Rattle.validate.specs.Words.{found, cellsFound, Family, Below, in-table, in-body, elsewhere, Binder, Spot, Searched}
+use Rattle.validate.specs.internal.Words.{found, cellsFound, Family, Below, in-table, in-body, elsewhere, Binder, Spot, Searched}
 
 pub found-nothing : (f : First) → found f ≡ Nothing → f ≡ nowhere
 unfolding found

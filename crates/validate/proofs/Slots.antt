@@ -1,4 +1,4 @@
--- The index of ids: what a chain of nodes in one slot leaves out, and what keeps the index right. Assumes nothing.
+-- The index of ids: what a chain of nodes in one slot leaves out, and what keeps the index right.
 use Prim.Native.Nat.{ℕ, zero, suc, _+_, _*_, _-_, _%_, _<_, _≤_}
 use mathlib.Core.Path.{_≡_, _∙_, refl, sym, ap}
 use mathlib.Core.Bool.{Bool, true, false, _&&_, true≢false}
@@ -10,12 +10,12 @@ use lib.Dec.{eqb}
 use lib.ListN.{length, drop, drop-of-length-le, getD, set, length-set, replicate, length-replicate, getD-replicate}
 use lib.Seq.{drop-cons, getD-set-same, getD-set-other}
 use borrow.Author.Tests.{eq-eqb, eqb-true, eqb-false}
-use Rattle.laws.proofs.Booleans.{bool-case, cond-case, not-T-false}
-use Rattle.elements.specs.Bytes.{same}
+use Rattle.base.proofs.Booleans.{bool-case, cond-case, not-T-false}
+use Rattle.elements.specs.rules.Bytes.{same}
 use Rattle.elements.proofs.Same.{same-equal}
-use Rattle.document.specs.Check.{hasId, isAmong}
-use Rattle.validate.specs.Words.{keyAt, entryAt, idsBefore}
-use Rattle.validate.specs.Index.{mixed, slotOf, lastIn, Indexed}
+use Rattle.document.specs.reference.Check.{hasId, isAmong}
+use Rattle.validate.specs.internal.Words.{keyAt, entryAt, idsBefore}
+use Rattle.validate.specs.internal.Index.{mixed, slotOf, lastIn, Indexed}
 use Rattle.validate.proofs.Ids.{and-both, named}
 
 pub slot-below : (id : List ℕ) → slotOf id < 4096

@@ -1,4 +1,4 @@
--- What the trees inside an element say, where its values stand before its children's trees or behind the first. Assumes nothing.
+-- What the trees inside an element say, where its values stand before its children's trees or behind the first.
 use Prim.Native.Nat.{ℕ, _+_, max}
 use mathlib.Core.Path.{_≡_, refl, sym, ap, _∙_}
 use mathlib.Core.Bool.{Bool, true, false, cond, _&&_}
@@ -7,11 +7,12 @@ use native.Mathlib.Omega.{arith}
 use lib.Dec.{T, eqb, eqb·suc-zero}
 use lib.ListN.{length}
 use borrow.Author.Tests.{eqb-true}
-use Rattle.laws.proofs.Booleans.{cond-case, T-true}
-use Rattle.elements.specs.Class as Class
-use Rattle.document.specs.Document.{Tree, size, Trees, holds, keyOf, typeOf, widthOr, heightOr, keyIn, typeIn, widthIn, heightIn}
-use Rattle.document.specs.Document.{Node, node, Nodes, childless, child, missing, isNode, says, sayAll}
-use Rattle.document.specs.Canonical.{keyClass, valueBefore, sizeBefore, placeValues, layout, layoutAll, treeLevels, mostLevelsIn}
+use Rattle.base.proofs.Booleans.{cond-case, T-true}
+use Rattle.elements.specs.rules.Class as Class
+use Rattle.document.specs.rules.Document.{Tree, size, Trees, holds, keyOf, typeOf, widthOr, heightOr, keyIn, typeIn, widthIn, heightIn}
+use Rattle.base.specs.rules.Limits.{missing}
+use Rattle.document.specs.rules.Document.{Node, node, Nodes, childless, child, isNode, says, sayAll}
+use Rattle.document.specs.rules.Canonical.{keyClass, valueBefore, sizeBefore, placeValues, layout, layoutAll, treeLevels, mostLevelsIn}
 use Rattle.document.proofs.Arranged.{node-no-value}
 
 -- The trees say these values and these nodes, and nest so many levels.

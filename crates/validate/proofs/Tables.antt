@@ -1,4 +1,4 @@
--- The words of the table of a document, and its pool, say the document's entries, and the search through its rows finds its bad row. Assumes nothing.
+-- The words of the table of a document, and its pool, say the document's entries, and the search through its rows finds its bad row.
 use Prim.Native.Nat.{ℕ, zero, suc, _+_, _*_, _-_, _<_, _≤_}
 use mathlib.Core.Path.{_≡_, _∙_, refl, sym, ap, subst}
 use mathlib.Core.Bool.{Bool, true, false, cond, _&&_, _||_}
@@ -10,21 +10,23 @@ use lib.Dec.{T, eqb, eqb→eq, lit<}
 use lib.ListN.{length, take, drop, getD, length-take, length-drop, take-append-drop}
 use lib.Seq.{getD-take, getD-drop, take-append-le, drop-append-le}
 use borrow.Author.Tests.{eqb-true, eqb-false}
-use Rattle.laws.proofs.Booleans.{bool-case, cond-case, both, T-true, or-none}
-use Rattle.elements.specs.Bytes.{same}
-use Rattle.elements.specs.Class as Class
-use Rattle.document.specs.Document.{Tree, text, value, size, element, treeClass, says, Node, node, Nodes, childless, child, missing}
-use Rattle.document.specs.RulesTest.{keepsRules, isDocument}
-use Rattle.document.specs.Value.{nonEmpty, isValue}
-use Rattle.document.specs.Table.{recordLength, count, countAll, pool, offset, tableOf}
-use Rattle.document.specs.Check.{First, at-node, orElse, Cells, any-number, cellsBelow, differs, badRow, badRowAmong, Entry, entries, isAmong, idsWhere, unknownTarget, unknownLink, unknownFootnote}
-use Rattle.document.specs.Visits.{childCount, nodeKind, nodeKey, Visit, visits, visitsAll, visitsOf, upFrom, endOf, wordsOf}
+use Rattle.base.proofs.Booleans.{bool-case, cond-case, both, T-true, or-none}
+use Rattle.elements.specs.rules.Bytes.{same}
+use Rattle.elements.specs.rules.Class as Class
+use Rattle.base.specs.rules.Limits.{missing}
+use Rattle.document.specs.rules.Document.{Tree, text, value, size, element, treeClass, says, Node, node, Nodes, childless, child}
+use Rattle.document.specs.reference.RulesTest.{keepsRules, isDocument}
+use Rattle.document.specs.rules.Value.{nonEmpty, isValue}
+use Rattle.document.specs.rules.Record.{recordLength}
+use Rattle.document.specs.rules.Table.{count, countAll, pool, offset, tableOf}
+use Rattle.document.specs.reference.Check.{First, at-node, orElse, Cells, any-number, cellsBelow, differs, badRow, badRowAmong, Entry, entries, isAmong, idsWhere, unknownTarget, unknownLink, unknownFootnote}
+use Rattle.document.specs.rules.Visits.{childCount, nodeKind, nodeKey, Visit, visits, visitsAll, visitsOf, upFrom, endOf, wordsOf}
 use Rattle.document.proofs.RulesTest.{lawful-test}
 use Rattle.document.proofs.Records.{entryOf, record-at, key-at, table-length, numbered, entries-visits}
 use Rattle.validate.specs.Checked.{Holds}
-use Rattle.document.specs.Printing.{part}
+use Rattle.document.specs.reference.Printing.{part}
 use Rattle.table.specs.Stored.{wordAt, stringAt}
-use Rattle.validate.specs.Words.{keyAt, entryAt, entriesFrom, wanted, idsBefore, Shape, Shapes, Family, Below, in-table, in-body, elsewhere, Searched}
+use Rattle.validate.specs.internal.Words.{keyAt, entryAt, entriesFrom, wanted, idsBefore, Shape, Shapes, Family, Below, in-table, in-body, elsewhere, Searched}
 use Rattle.validate.proofs.Ids.{named}
 
 -- What stands in a part of a list that is long enough.

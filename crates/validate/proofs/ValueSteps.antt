@@ -1,4 +1,4 @@
--- The values before the trees inside an element: which are taken, and the state after them. Assumes nothing.
+-- The values before the trees inside an element: which are taken, and the state after them.
 use Prim.Native.Nat.{ℕ, _+_, _≤_, _<_}
 use mathlib.Core.Path.{_≡_, refl, sym, ap, _∙_}
 use mathlib.Core.Bool.{Bool, true, false, cond, _&&_, true≢false}
@@ -7,21 +7,22 @@ use native.Mathlib.Omega.{arith}
 use lib.Dec.{eqb, ltb}
 use lib.ListN.{length}
 use borrow.Author.Tests.{eqb-true, eq-eqb, ne-eqb, le-leb, lt-leb, ltb-true, ltb-false}
-use Rattle.laws.proofs.Booleans.{bool-case, and-false}
-use Rattle.elements.specs.Class as Class
-use Rattle.elements.specs.Characters.{idCharacter, uriCharacter, characterOf}
-use Rattle.elements.specs.Rules.{ruleOf}
-use Rattle.elements.specs.Inside.{go, bad, step, start}
+use Rattle.base.proofs.Booleans.{bool-case, and-false}
+use Rattle.elements.specs.rules.Class as Class
+use Rattle.elements.specs.rules.Characters.{idCharacter, uriCharacter, characterOf}
+use Rattle.elements.specs.rules.Rules.{ruleOf}
+use Rattle.elements.specs.rules.Inside.{go, bad, step, start}
 use Rattle.kind.specs.Machine.{stateOf, stepOf}
 use Rattle.kind.proofs.Steps.{start-state}
-use Rattle.document.specs.Document.{Trees, empty, holds, treeClass, Nodes, childless, child, missing}
-use Rattle.document.specs.RulesTest.{goesOn, keepsRules, keepRules}
-use Rattle.document.specs.Table.{count, countAll}
-use Rattle.document.specs.Value.{nonEmpty, every, namesBlock, targetCharacter, isValue, isSize}
-use Rattle.document.specs.Canonical.{nodeFirst, placeValues, layout, layoutAll, valueBefore, sizeBefore}
+use Rattle.base.specs.rules.Limits.{missing}
+use Rattle.document.specs.rules.Document.{Trees, empty, holds, treeClass, Nodes, childless, child}
+use Rattle.document.specs.reference.RulesTest.{goesOn, keepsRules, keepRules}
+use Rattle.document.specs.rules.Table.{count, countAll}
+use Rattle.document.specs.rules.Value.{nonEmpty, every, namesBlock, targetCharacter, isValue, isSize}
+use Rattle.document.specs.rules.Canonical.{nodeFirst, placeValues, layout, layoutAll, valueBefore, sizeBefore}
 use Rattle.document.proofs.Determined.{count-positive}
 use Rattle.table.specs.Stored.{wordAt}
-use Rattle.validate.specs.Walking.{Takes, Leads, valueLevels, valuesOf}
+use Rattle.validate.specs.internal.Walking.{Takes, Leads, valueLevels, valuesOf}
 use Rattle.validate.proofs.Recordings.{no-string}
 
 -- ---- the characters of a value

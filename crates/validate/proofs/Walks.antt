@@ -1,4 +1,4 @@
--- The walk over an element's children: the end, one child, and the values. Assumes nothing.
+-- The walk over an element's children: the end, one child, and the values.
 use Prim.Native.Nat.{ℕ, _+_, _≤_, _<_}
 use mathlib.Core.Path.{_≡_, refl, sym, ap, _∙_}
 use mathlib.Core.Bool.{Bool, true, false, cond, true≢false}
@@ -7,17 +7,17 @@ use native.Mathlib.Omega.{arith}
 use lib.Dec.{T, eqb}
 use lib.ListN.{length, length-append, length-take, length-drop}
 use borrow.Author.Tests.{eqb-true}
-use Rattle.laws.proofs.Booleans.{cond-case, both, both-true, T-true, true-T}
-use Rattle.elements.specs.Class as Class
-use Rattle.elements.specs.Inside.{State, go, bad, step, ended}
+use Rattle.base.proofs.Booleans.{cond-case, both, both-true, T-true, true-T}
+use Rattle.elements.specs.rules.Class as Class
+use Rattle.elements.specs.rules.Inside.{State, go, bad, step, ended}
 use Rattle.kind.specs.Machine.{stateOf, stepOf}
-use Rattle.document.specs.Document.{Tree, Trees, holds, treeClass, Node, node, Nodes, childless, child, isNode, says, sayAll}
-use Rattle.document.specs.RulesTest.{goesOn, keepsRules, keepRules}
-use Rattle.document.specs.Table.{count, countAll, pool, poolAll}
-use Rattle.document.specs.Canonical.{placeValues, layout, layoutAll, mostLevelsIn}
+use Rattle.document.specs.rules.Document.{Tree, Trees, holds, treeClass, Node, node, Nodes, childless, child, isNode, says, sayAll}
+use Rattle.document.specs.reference.RulesTest.{goesOn, keepsRules, keepRules}
+use Rattle.document.specs.rules.Table.{count, countAll, pool, poolAll}
+use Rattle.document.specs.rules.Canonical.{placeValues, layout, layoutAll, mostLevelsIn}
 use Rattle.document.proofs.Nested.{goes-on}
 use Rattle.table.specs.Stored.{wordAt, Stored, StoredAll}
-use Rattle.validate.specs.Walking.{Decides, behindFirst, NodeAt, ChildrenAt, ChildTaken}
+use Rattle.validate.specs.internal.Walking.{Decides, behindFirst, NodeAt, ChildrenAt, ChildTaken}
 use Rattle.table.proofs.Stored.{recorded-word, rows-stored}
 use Rattle.document.proofs.Determined.{count-positive}
 use Rattle.validate.proofs.Decisions.{Same}

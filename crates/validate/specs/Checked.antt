@@ -3,9 +3,10 @@ use Prim.Native.Nat.{ℕ, _*_}
 use mathlib.Core.Path.{_≡_}
 use mathlib.Core.List.{List}
 use lib.ListN.{length, take}
-use Rattle.document.specs.Document.{Node, Document}
-use Rattle.document.specs.Table.{recordLength, tableOf, pool, count}
-use Rattle.document.specs.Check.{Check, sound, unsound}
+use Rattle.document.specs.rules.Document.{Node, Document}
+use Rattle.document.specs.rules.Record.{recordLength}
+use Rattle.document.specs.rules.Table.{tableOf, pool, count}
+use Rattle.document.specs.reference.Check.{Check, sound, unsound}
 
 unfoldable pub checkNumber : Check → ℕ
 checkNumber sound = 0

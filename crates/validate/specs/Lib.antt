@@ -1,5 +1,3 @@
-pub mod Walking
-pub mod Words
-pub mod Index
 pub mod Checked
 pub mod Checks
+pub mod internal

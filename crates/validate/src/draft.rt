@@ -25,15 +25,15 @@ ghost use mathlib.Core.Path.{_≡_};
 ghost use mathlib.Core.Bool.{true, false};
 ghost use Prim.Native.Nat.{ℕ, _+_, _*_, _≤_, _<_};
 ghost use lib.ListN.{length};
-ghost use Rattle.elements.specs.Class as Class;
-ghost use Rattle.elements.specs.Rules.{ruleOf};
-ghost use Rattle.elements.specs.Inside.{start};
+ghost use Rattle.elements.specs.rules.Class as Class;
+ghost use Rattle.elements.specs.rules.Rules.{ruleOf};
+ghost use Rattle.elements.specs.rules.Inside.{start};
 ghost use Rattle.kind.specs.Machine.{stateOf};
-ghost use Rattle.document.specs.Document.{Node};
-ghost use Rattle.document.specs.Canonical.{nodeFirst, placeValues};
+ghost use Rattle.document.specs.rules.Document.{Node};
+ghost use Rattle.document.specs.rules.Canonical.{nodeFirst, placeValues};
 ghost use Rattle.table.specs.Stored.{wordAt};
-ghost use Rattle.validate.specs.Walking.{Decides, valueLevels, valuesOf, Leads, NodeAt, ChildrenAt, ChildTaken};
-ghost use Rattle.document.specs.Printing.{IsDraft};
+ghost use Rattle.validate.specs.internal.Walking.{Decides, valueLevels, valuesOf, Leads, NodeAt, ChildrenAt, ChildTaken};
+ghost use Rattle.document.specs.rules.Draft.{IsDraft};
 
 // "within the limits (at most 4,096 nodes, canonical nesting at most 64, pool at most 65,536)"
 const MOST_WORDS: usize = 4096 * RECORD;

@@ -18,14 +18,14 @@ ghost use mathlib.Core.Bool.{Bool, false};
 ghost use mathlib.Core.List.{[]};
 ghost use Prim.Native.Nat.{_+_, _*_, _≤_, _<_};
 ghost use lib.ListN.{length};
-ghost use Rattle.elements.specs.Class as Class;
-ghost use Rattle.document.specs.Document.{Node, Nodes};
-ghost use Rattle.document.specs.Check.{First, Cells, cellsIn, repeatedId, unknownTarget, check};
-ghost use Rattle.document.specs.Visits.{childCount};
+ghost use Rattle.elements.specs.rules.Class as Class;
+ghost use Rattle.document.specs.rules.Document.{Node, Nodes};
+ghost use Rattle.document.specs.reference.Check.{First, Cells, cellsIn, repeatedId, unknownTarget, check};
+ghost use Rattle.document.specs.rules.Visits.{childCount};
 ghost use Rattle.validate.specs.Checked.{checkNumber, checkNode, Holds};
 ghost use Rattle.table.specs.Stored.{wordAt};
-ghost use Rattle.validate.specs.Index.{Indexed};
-ghost use Rattle.validate.specs.Words.{entriesFrom, idsBefore, repeatsAt, danglesAt, found, cellsFound, Family, Below, Binder, Spot, Searched};
+ghost use Rattle.validate.specs.internal.Index.{Indexed};
+ghost use Rattle.validate.specs.internal.Words.{entriesFrom, idsBefore, repeatsAt, danglesAt, found, cellsFound, Family, Below, Binder, Spot, Searched};
 
 // The kinds that the check looks at, as words.
 const FOOTNOTE: usize = Kind::FOOTNOTE.number as usize;

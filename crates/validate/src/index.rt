@@ -9,11 +9,11 @@ ghost use mathlib.Core.Path.{_≡_};
 ghost use mathlib.Core.Bool.{_&&_};
 ghost use Prim.Native.Nat.{_+_, _<_};
 ghost use lib.ListN.{set, getD};
-ghost use Rattle.elements.specs.Bytes.{same};
-ghost use Rattle.document.specs.Check.{isAmong, hasId};
+ghost use Rattle.elements.specs.rules.Bytes.{same};
+ghost use Rattle.document.specs.reference.Check.{isAmong, hasId};
 ghost use Rattle.table.specs.Stored.{wordAt};
-ghost use Rattle.validate.specs.Words.{entryAt, wanted, idsBefore};
-ghost use Rattle.validate.specs.Index.{slotOf, Indexed};
+ghost use Rattle.validate.specs.internal.Words.{entryAt, wanted, idsBefore};
+ghost use Rattle.validate.specs.internal.Index.{slotOf, Indexed};
 
 // "at most 4,096 nodes", and as many slots.
 pub const MOST_NODES: usize = 4096;

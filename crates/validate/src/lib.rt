@@ -8,7 +8,7 @@ mod values; // values.rt: the values of an element
 use draft::is_draft;
 use faults::check_table;
 ghost use mathlib.Core.Path.{_≡_};
-ghost use Rattle.document.specs.Printing.{checking};
+ghost use Rattle.document.specs.reference.Printing.{checking};
 ghost use Rattle.validate.specs.Checks.{Checks};
 
 // 20, or a fault 15 to 18 with the number of the first node that has it, or 0 at node 0.

@@ -4,7 +4,7 @@ ghost use mathlib.Core.List.{List};
 ghost use Prim.Native.Nat.{ℕ, _+_, _*_, _≤_, _<_};
 ghost use lib.ListN.{length};
 ghost use Rattle.table.specs.Stored.{wordAt, Recorded};
-ghost use Rattle.validate.specs.Walking.{Decided, StringAt, RecordAt, TextAlone, ElementAt, valueLevels};
+ghost use Rattle.validate.specs.internal.Walking.{Decided, StringAt, RecordAt, TextAlone, ElementAt, valueLevels};
 use table::END;
 use table::HEIGHT;
 use table::KEY;

@@ -18,10 +18,10 @@ ghost use mathlib.Core.Bool.{_&&_};
 ghost use mathlib.Core.List.{List};
 ghost use Prim.Native.Nat.{ℕ, _+_, _*_, _≤_};
 ghost use lib.ListN.{length};
-ghost use Rattle.elements.specs.Characters.{characterOf};
-ghost use Rattle.document.specs.Value.{isValue, nonEmpty, every};
-ghost use Rattle.document.specs.Canonical.{valueBefore, sizeBefore};
-ghost use Rattle.validate.specs.Walking.{Takes, valuesOf};
+ghost use Rattle.elements.specs.rules.Characters.{characterOf};
+ghost use Rattle.document.specs.rules.Value.{isValue, nonEmpty, every};
+ghost use Rattle.document.specs.rules.Canonical.{valueBefore, sizeBefore};
+ghost use Rattle.validate.specs.internal.Walking.{Takes, valuesOf};
 
 // Whether what stands before the rest is taken, and the state after it.
 pub struct Taken {

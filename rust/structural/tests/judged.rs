@@ -74,7 +74,7 @@ fn escaped(rest: &mut std::str::Chars) -> char {
 
 #[test]
 fn examples_of_the_definitions() {
-    let file = string("crates/document/specs/Examples.antt");
+    let file = string("crates/document/specs/examples/Judged.antt");
     let (full, short) = file.split_once("pub record Lent").unwrap();
     let examples: Vec<_> =
         full.lines().filter(|line| !line.trim_start().starts_with("--")).filter_map(definition).collect();

@@ -1,10 +1,10 @@
--- `put_nodes` meets its contract. The loop's invariant: the lines of the first k nodes are put. Assumes nothing.
+-- `put_nodes` meets its contract. The loop's invariant: the lines of the first k nodes are put.
 use mathlib.Core.Path.{_≡_, refl, _∙_}
 use Prim.Native.Nat.{_-_, _≤_}
 use borrow.Author.Needs.{needs}
 use lib.ListN.{length}
 use Rattle.listing.specs.Listing.{nodeLines}
-use Rattle.listing.specs.Puts.{Puts}
+use Rattle.listing.specs.internal.Puts.{Puts}
 use Rattle.listing.proofs.Lines.{lines-none, lines-next, lines-all}
 use Rattle.listing.proofs.put_nodes.Statement.{statement}
 use Rattle.listing.proofs.put_nodes.Tie as tie
@@ -18,41 +18,8 @@ abbrev μ-loop : tie.MeasureT-loop
 loop-holds : tie.Need-loop-holds Inv-loop μ-loop
 loop-holds c = (refl, search needs, lines-none (c .before .before .args .out .now) (c .before .before .args .at) (c .before .before .args .table .now))
 
-cast-i : tie.Need-cast-i Inv-loop μ-loop
-cast-i c = search needs
-
-mul-i : tie.Need-mul-i Inv-loop μ-loop
-mul-i c = search needs
-
-word-requires : tie.Need-word-requires Inv-loop μ-loop
-word-requires c κs = search needs
-
-add-word : tie.Need-add-word Inv-loop μ-loop
-add-word c = search needs
-
-word-requires-2 : tie.Need-word-requires-2 Inv-loop μ-loop
-word-requires-2 c κs = search needs
-
-add-word-2 : tie.Need-add-word-2 Inv-loop μ-loop
-add-word-2 c = search needs
-
-word-requires-3 : tie.Need-word-requires-3 Inv-loop μ-loop
-word-requires-3 c κs = search needs
-
-put-node-requires : tie.Need-put-node-requires Inv-loop μ-loop
-put-node-requires c κs = search needs
-
-add-k : tie.Need-add-k Inv-loop μ-loop
-add-k c = search needs
-
-loop-less : tie.Need-loop-less Inv-loop μ-loop
-loop-less c = search needs
-
 loop-again : tie.Need-loop-again Inv-loop μ-loop
 loop-again c = (c .before .before .put-node .kept .0 ∙ c .before .before .before .before .before .before .before .before .loop .inv .0, search needs, lines-next (c .before .before .before .before .before .before .before .before .before .before .before .args .table .now) (c .before .before .before .before .before .before .before .before .loop .k) (c .before .before .before .before .before .word .ensures) (c .before .before .before .before .word2 .ensures) (c .before .before .before .word3 .ensures) (c .before .before .before .before .before .before .before .before .loop .inv .2) (c .before .before .put-node .ensures))
-
-same-length : tie.Need-same-length Inv-loop μ-loop
-same-length c = search needs
 
 returns : tie.Need-returns Inv-loop μ-loop
 returns c = lines-all (c .before .before .before .before .args .table .now) (c .before .loop .k) (c .before .before .before .before .args .nodes) (c .before .loop .inv .1) (c .loop-test .left) (c .before .loop .inv .2)
@@ -64,16 +31,16 @@ put-nodes-spec =
     Inv-loop
     μ-loop
     loop-holds
-    cast-i
-    mul-i
-    word-requires
-    add-word
-    word-requires-2
-    add-word-2
-    word-requires-3
-    put-node-requires
-    add-k
-    loop-less
+    (λ c. search needs)
+    (λ c. search needs)
+    (λ c κs. search needs)
+    (λ c. search needs)
+    (λ c κs. search needs)
+    (λ c. search needs)
+    (λ c κs. search needs)
+    (λ c κs. search needs)
+    (λ c. search needs)
+    (λ c. search needs)
     loop-again
-    same-length
+    (λ c. search needs)
     returns)

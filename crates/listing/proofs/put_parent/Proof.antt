@@ -1,26 +1,14 @@
--- `put_parent` meets its contract. Assumes nothing.
+-- `put_parent` meets its contract.
 use borrow.Author.Tests.{eq-eqb, ne-eqb}
-use Rattle.elements.specs.Bytes.{codes}
+use Rattle.elements.specs.rules.Bytes.{codes}
 use Rattle.listing.specs.Listing.{parentWord}
 use borrow.Author.Needs.{needs}
 use Rattle.listing.proofs.put_parent.Statement.{statement}
 use Rattle.listing.proofs.put_parent.Tie as tie
 
-put-byte-requires : tie.Need-put-byte-requires
-put-byte-requires c κs = search needs
-
-same-length : tie.Need-same-length
-same-length c = search needs
-
 returns : tie.Need-returns
 unfolding parentWord codes
 returns c = rw (eq-eqb (c .before .before .before .before .before .before .args .parent) 4294967295 (c .before .before .before .before .if1 .taken)) (c .before .before .put-byte .ensures)
-
-put-decimal-requires : tie.Need-put-decimal-requires
-put-decimal-requires c κs = search needs
-
-same-length-2 : tie.Need-same-length-2
-same-length-2 c = search needs
 
 returns-2 : tie.Need-returns-2
 unfolding parentWord
@@ -29,4 +17,4 @@ returns-2 c = rw (ne-eqb (c .before .before .before .before .before .before .arg
 pub put-parent-spec : {M : Type 1} → statement M
 put-parent-spec =
     tie.close
-    (tie.spec put-byte-requires same-length returns put-decimal-requires same-length-2 returns-2)
+    (tie.spec (λ c κs. search needs) (λ c. search needs) returns (λ c κs. search needs) (λ c. search needs) returns-2)

@@ -1,19 +1,10 @@
--- `put_too_long` meets its contract. Assumes nothing.
-use Rattle.elements.specs.Bytes.{codes}
+-- `put_too_long` meets its contract.
+use Rattle.elements.specs.rules.Bytes.{codes}
 use Rattle.listing.specs.Listing.{tooLong}
 use Rattle.listing.proofs.Puts.{puts-whole}
 use borrow.Author.Needs.{needs}
 use Rattle.listing.proofs.put_too_long.Statement.{statement}
 use Rattle.listing.proofs.put_too_long.Tie as tie
-
-slice-aggregate-put-bytes : tie.Need-slice-aggregate-put-bytes
-slice-aggregate-put-bytes c = search needs
-
-put-bytes-requires : tie.Need-put-bytes-requires
-put-bytes-requires c κs = search needs
-
-same-length : tie.Need-same-length
-same-length c = search needs
 
 returns : tie.Need-returns
 unfolding tooLong codes
@@ -21,4 +12,4 @@ returns c = puts-whole (c .before .before .put-bytes .ensures)
 
 pub put-too-long-spec : {M : Type 1} → statement M
 put-too-long-spec =
-    tie.close (tie.spec slice-aggregate-put-bytes put-bytes-requires same-length returns)
+    tie.close (tie.spec (λ c. search needs) (λ c κs. search needs) (λ c. search needs) returns)

@@ -1,7 +1,7 @@
--- `tidy` meets its contract. Assumes nothing.
+-- `tidy` meets its contract.
 use mathlib.Core.Path.{refl}
 use native.Mathlib.Omega.{arith}
-use Rattle.document.specs.Spelling.{nested}
+use Rattle.document.specs.rules.Spelling.{nested}
 use Rattle.listing.specs.Listing.{lentMemory}
 use Rattle.listing.proofs.Printed.{answered-long, answered-refusal}
 use Rattle.print_canonical.specs.Tidying.{spellingOf}
@@ -10,26 +10,8 @@ use borrow.Author.Needs.{needs}
 use Rattle.print_canonical.proofs.tidy.Statement.{statement}
 use Rattle.print_canonical.proofs.tidy.Tie as tie
 
-put-too-long-requires : tie.Need-put-too-long-requires
-put-too-long-requires c κs = search needs
-
 returns : tie.Need-returns
 returns c = answered-long spellingOf nested (c .before .before .before .before .args .text .now) (omega (arith, c .before .put-too-long-arg .given .0 .1)) (c .before .before .if1 .taken) (c .put-too-long .ensures)
-
-slice-aggregate-read-nested : tie.Need-slice-aggregate-read-nested
-slice-aggregate-read-nested c = search needs
-
-slice-aggregate-read-nested-2 : tie.Need-slice-aggregate-read-nested-2
-slice-aggregate-read-nested-2 c = search needs
-
-slice-aggregate-read-nested-3 : tie.Need-slice-aggregate-read-nested-3
-slice-aggregate-read-nested-3 c = search needs
-
-read-nested-requires : tie.Need-read-nested-requires
-read-nested-requires c κs = search needs
-
-put-refusal-requires : tie.Need-put-refusal-requires
-put-refusal-requires c κs = search needs
 
 returns-2 : tie.Need-returns-2
 unfolding lentMemory
@@ -41,27 +23,12 @@ returns-2 c =
     let f = c .before .before .before .struct-known .given in
     answered-refusal spellingOf nested (args .text .now) _ (r .before .before .before .before .if1 .left) (a .number) (a .line) (a .column) (omega (arith, c .before .put-refusal-arg .given .0 .1)) (c .before .before .if2 .taken) (f .0 .fits) (f .1 .1 .0 .fits) (f .1 .1 .1 .0 .fits) (e .number) (e .line) (e .column) refl (c .put-refusal .ensures)
 
-slice-aggregate-print : tie.Need-slice-aggregate-print
-slice-aggregate-print c = search needs
-
-slice-aggregate-print-2 : tie.Need-slice-aggregate-print-2
-slice-aggregate-print-2 c = search needs
-
-print-requires : tie.Need-print-requires
-print-requires c κs = search needs
-
-cast-n : tie.Need-cast-n
-cast-n c = search needs
-
 element-write-out : tie.Need-element-write-out
 unfolding lentMemory
 element-write-out c =
     let r = c .before .before .before .before .before .before .before .before .before .before in
     let args = r .before .before .before .before .before .before .args in
     omega (arith, c .before .before .print-arg .given .0 .1, line-end-fits (args .text .now) _ (args .out .now) (omega (arith, c .before .before .print-arg .given .0 .1)) (r .read-nested .result) _ (r .read-nested .ensures) refl (c .before .before .before .before .before .if2 .left) (c .before .print .result) _ (c .before .print .ensures))
-
-add-result : tie.Need-add-result
-add-result c = search needs
 
 returns-3 : tie.Need-returns-3
 unfolding lentMemory
@@ -74,18 +41,18 @@ pub tidy-spec : {M : Type 1} → statement M
 tidy-spec =
     tie.close
     (tie.spec
-    put-too-long-requires
+    (λ c κs. search needs)
     returns
-    slice-aggregate-read-nested
-    slice-aggregate-read-nested-2
-    slice-aggregate-read-nested-3
-    read-nested-requires
-    put-refusal-requires
+    (λ c. search needs)
+    (λ c. search needs)
+    (λ c. search needs)
+    (λ c κs. search needs)
+    (λ c κs. search needs)
     returns-2
-    slice-aggregate-print
-    slice-aggregate-print-2
-    print-requires
-    cast-n
+    (λ c. search needs)
+    (λ c. search needs)
+    (λ c κs. search needs)
+    (λ c. search needs)
     element-write-out
-    add-result
+    (λ c. search needs)
     returns-3)

@@ -11,18 +11,12 @@ returns : tie.Need-returns
 returns c = groups-long _ _ (c .if1 .taken)
 
 -- src/lib.rt:40:9
-valid-up-to-requires : tie.Need-valid-up-to-requires
-valid-up-to-requires c κs = search needs
-
 -- src/lib.rt:42:9
 returns-2 : tie.Need-returns-2
 returns-2 c =
     groups-ill-formed _ _ _ (c .before .before .if1 .left) (c .before .valid-up-to .ensures) (c .if2 .taken)
 
 -- src/lib.rt:44:9
-scan-requires : tie.Need-scan-requires
-scan-requires c κs = search needs
-
 -- src/lib.rt:33:1
 returns-3 : tie.Need-returns-3
 returns-3 c =
@@ -31,4 +25,4 @@ returns-3 c =
 
 pub first-groups-spec : {M : Type 1} → statement M
 first-groups-spec =
-    tie.close (tie.spec returns valid-up-to-requires returns-2 scan-requires returns-3)
+    tie.close (tie.spec returns (λ c κs. search needs) returns-2 (λ c κs. search needs) returns-3)

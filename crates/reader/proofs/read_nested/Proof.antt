@@ -1,16 +1,13 @@
--- `reader::read_nested` meets its contract: each way passes what the parts ensure to its lemma of `Answered`. Assumes nothing.
+-- `reader::read_nested` meets its contract: each way passes what the parts ensure to its lemma of `Answered`.
 use mathlib.Core.Path.{sym, _∙_}
 use native.Mathlib.Omega.{arith}
 use denote.Ref.{now}
-use Rattle.document.specs.Spelling.{nested, mostLevels}
-use Rattle.document.specs.Answer.{Memory}
+use Rattle.document.specs.rules.Spelling.{nested, mostLevels}
+use Rattle.document.specs.rules.Memory.{Memory}
 use Rattle.reader.proofs.Answered.{blankTape, room-few, group-fits, group-short, group-reads, walk-fits, walk-reads, full-reads, check-fits, filled-reads, nested-tapes}
 use borrow.Author.Needs.{needs}
 use Rattle.reader.proofs.read_nested.Statement.{statement}
 use Rattle.reader.proofs.read_nested.Tie as tie
-
-first-groups-requires : tie.Need-first-groups-requires
-first-groups-requires c κs = search needs
 
 answer-at-requires : tie.Need-answer-at-requires
 unfolding mostLevels
@@ -39,9 +36,6 @@ returns-2 c =
     walk-reads nested _ _ _ _ (c .before .before .before .before .before .before .before .first-groups .ensures)
     (c .before .before .before .before .before .if1 .left) _ (λ es st deep. c .before .before .before .judge-nested .ensures .0 es st)
     (c .before .if2 .taken) _ (c .answer-at2 .ensures)
-
-room-requires : tie.Need-room-requires
-room-requires c κs = search needs
 
 answer-at-requires-3 : tie.Need-answer-at-requires-3
 unfolding mostLevels
@@ -97,15 +91,6 @@ answer-at-requires-4 c κs =
       b,
     )
 
-same-length : tie.Need-same-length
-same-length c = search needs
-
-same-length-2 : tie.Need-same-length-2
-same-length-2 c = search needs
-
-same-length-3 : tie.Need-same-length-3
-same-length-3 c = search needs
-
 returns-4 : tie.Need-returns-4
 unfolding mostLevels
 returns-4 c =
@@ -127,19 +112,19 @@ pub read-nested-spec : {M : Type 1} → statement M
 read-nested-spec =
     tie.close
     (tie.spec
-    first-groups-requires
+    (λ c κs. search needs)
     answer-at-requires
     returns
     judge-nested-requires
     answer-at-requires-2
     returns-2
-    room-requires
+    (λ c κs. search needs)
     answer-at-requires-3
     returns-3
     fill-requires
     checked-requires
     answer-at-requires-4
-    same-length
-    same-length-2
-    same-length-3
+    (λ c. search needs)
+    (λ c. search needs)
+    (λ c. search needs)
     returns-4)

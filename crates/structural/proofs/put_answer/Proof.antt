@@ -1,13 +1,10 @@
--- `structural::put_answer` meets its contract. Assumes nothing.
+-- `structural::put_answer` meets its contract.
 use native.Mathlib.Omega.{arith}
 use lib.ListN.{length-set}
 use Rattle.structural.proofs.Calls.{six-words}
 use borrow.Author.Needs.{needs}
 use Rattle.structural.proofs.put_answer.Statement.{statement}
 use Rattle.structural.proofs.put_answer.Tie as tie
-
-slice-write-answer : tie.Need-slice-write-answer
-slice-write-answer c = search needs
 
 slice-write-answer-2 : tie.Need-slice-write-answer-2
 slice-write-answer-2 c = simp length-set (omega arith)
@@ -21,12 +18,6 @@ slice-write-answer-4 c = simp length-set (omega arith)
 slice-write-answer-5 : tie.Need-slice-write-answer-5
 slice-write-answer-5 c = simp length-set (omega arith)
 
-slice-write-answer-6 : tie.Need-slice-write-answer-6
-slice-write-answer-6 c = search needs
-
-same-length : tie.Need-same-length
-same-length c = search needs
-
 returns : tie.Need-returns
 returns c = six-words _ _ _ _ _ _ _ (omega arith)
 
@@ -34,11 +25,11 @@ pub put-answer-spec : {M : Type 1} → statement M
 put-answer-spec =
     tie.close
     (tie.spec
-    slice-write-answer
+    (λ c. search needs)
     slice-write-answer-2
     slice-write-answer-3
     slice-write-answer-4
     slice-write-answer-5
-    slice-write-answer-6
-    same-length
+    (λ c. search needs)
+    (λ c. search needs)
     returns)

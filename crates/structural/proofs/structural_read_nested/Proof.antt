@@ -1,5 +1,5 @@
--- `structural::structural_read_nested` meets its contract. Assumes nothing.
-use Rattle.document.specs.Spelling.{nested}
+-- `structural::structural_read_nested` meets its contract.
+use Rattle.document.specs.rules.Spelling.{nested}
 use Rattle.structural.proofs.Calls.{read-short, read-whole}
 use borrow.Author.Needs.{needs}
 use Rattle.structural.proofs.structural_read_nested.Statement.{statement}
@@ -7,24 +7,6 @@ use Rattle.structural.proofs.structural_read_nested.Tie as tie
 
 returns : tie.Need-returns
 returns c = read-short nested _ _ _ (c .if1 .taken)
-
-read-nested-requires : tie.Need-read-nested-requires
-read-nested-requires c κs = search needs
-
-put-answer-requires : tie.Need-put-answer-requires
-put-answer-requires c κs = search needs
-
-same-length : tie.Need-same-length
-same-length c = search needs
-
-same-length-2 : tie.Need-same-length-2
-same-length-2 c = search needs
-
-same-length-3 : tie.Need-same-length-3
-same-length-3 c = search needs
-
-same-length-4 : tie.Need-same-length-4
-same-length-4 c = search needs
 
 returns-2 : tie.Need-returns-2
 returns-2 c = read-whole nested _ _ _ (c .before .before .before .before .before .before .before .before .before .before .before .before .before .before .if1 .left) _ _ (c .before .before .before .before .before .before .before .before .before .before .read-nested .ensures) _ (c .before .before .put-answer .ensures)
@@ -34,10 +16,10 @@ structural-read-nested-spec =
     tie.close
     (tie.spec
     returns
-    read-nested-requires
-    put-answer-requires
-    same-length
-    same-length-2
-    same-length-3
-    same-length-4
+    (λ c κs. search needs)
+    (λ c κs. search needs)
+    (λ c. search needs)
+    (λ c. search needs)
+    (λ c. search needs)
+    (λ c. search needs)
     returns-2)

@@ -1,4 +1,4 @@
--- `table::is_titled` meets its contract. Assumes nothing.
+-- `table::is_titled` meets its contract.
 use Prim.Native.Nat.{_≤_}
 use borrow.Author.Tests.{le-leb, lt-leb, ne-eqb}
 use native.Mathlib.Omega.{arith}
@@ -10,22 +10,13 @@ use Rattle.table.proofs.is_titled.Tie as tie
 returns : tie.Need-returns
 returns c = rw (titled-is (c .before .args .kind), c .if1 .taken)
 
-cast-if2 : tie.Need-cast-if2
-cast-if2 c = search needs
-
 returns-2 : tie.Need-returns-2
 returns-2 c =
     let low : 1 ≤ c .before .before .before .args .kind = omega arith in
     rw (titled-is (c .before .before .before .args .kind), le-leb 1 _ low, le-leb _ 4 (c .if2 .taken))
 
-cast-if3 : tie.Need-cast-if3
-cast-if3 c = search needs
-
 returns-3 : tie.Need-returns-3
 returns-3 c = rw (titled-is (c .before .before .before .before .before .args .kind), c .if3 .taken)
-
-cast-result : tie.Need-cast-result
-cast-result c = search needs
 
 returns-4 : tie.Need-returns-4
 returns-4 c =
@@ -35,4 +26,4 @@ returns-4 c =
 
 pub is-titled-spec : {M : Type 1} → statement M
 is-titled-spec =
-    tie.close (tie.spec returns cast-if2 returns-2 cast-if3 returns-3 cast-result returns-4)
+    tie.close (tie.spec returns (λ c. search needs) returns-2 (λ c. search needs) returns-3 (λ c. search needs) returns-4)

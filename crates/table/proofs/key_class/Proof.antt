@@ -1,9 +1,9 @@
--- `table::key_class` meets its contract. Assumes nothing.
+-- `table::key_class` meets its contract.
 use Prim.Native.Nat.{_≤_}
 use borrow.Author.Tests.{le-leb, lt-leb}
 use native.Mathlib.Omega.{arith}
-use Rattle.elements.specs.Class.{isBlock}
-use Rattle.document.specs.Canonical.{keyClass}
+use Rattle.elements.specs.rules.Class.{isBlock}
+use Rattle.document.specs.rules.Canonical.{keyClass}
 use borrow.Author.Needs.{needs}
 use Rattle.table.proofs.key_class.Statement.{statement}
 use Rattle.table.proofs.key_class.Tie as tie
@@ -11,9 +11,6 @@ use Rattle.table.proofs.key_class.Tie as tie
 returns : tie.Need-returns
 unfolding keyClass isBlock
 returns c = rw (c .if1 .taken)
-
-cast-if2 : tie.Need-cast-if2
-cast-if2 c = search needs
 
 returns-2 : tie.Need-returns-2
 unfolding keyClass isBlock
@@ -28,4 +25,4 @@ returns-3 c =
     rw (le-leb 1 _ low, lt-leb _ 7 (c .if2 .left))
 
 pub key-class-spec : {M : Type 1} → statement M
-key-class-spec = tie.close (tie.spec returns cast-if2 returns-2 returns-3)
+key-class-spec = tie.close (tie.spec returns (λ c. search needs) returns-2 returns-3)

@@ -1,4 +1,4 @@
--- `table::word` meets its contract. Assumes nothing.
+-- `table::word` meets its contract.
 use mathlib.Core.Path.{refl, sym}
 use native.Mathlib.Omega.{arith}
 use borrow.Author.Needs.{needs}
@@ -14,26 +14,11 @@ returns c =
     let h : length (c .before .args .nodes .now) ≤ 11 * c .before .args .i + c .before .args .j = omega arith in
     sym (List·getD-eq-default (c .before .args .nodes .now) 0 h)
 
-mul-at : tie.Need-mul-at
-mul-at c = search needs
-
-sub-if2 : tie.Need-sub-if2
-sub-if2 c = search needs
-
 returns-2 : tie.Need-returns-2
 unfolding wordAt
 returns-2 c =
     let h : length (c .before .before .args .nodes .now) ≤ 11 * c .before .before .args .i + c .before .before .args .j = omega arith in
     sym (List·getD-eq-default (c .before .before .args .nodes .now) 0 h)
-
-add-result : tie.Need-add-result
-add-result c = search needs
-
-mul-result : tie.Need-mul-result
-mul-result c = search needs
-
-shared-slice-read-result : tie.Need-shared-slice-read-result
-shared-slice-read-result c = search needs
 
 cast-result : tie.Need-cast-result
 cast-result c = omega (arith, c .shared-slice-known .given (11 * c .before .before .before .args .i + c .before .before .before .args .j))
@@ -47,11 +32,11 @@ word-spec =
     tie.close
     (tie.spec
     returns
-    mul-at
-    sub-if2
+    (λ c. search needs)
+    (λ c. search needs)
     returns-2
-    add-result
-    mul-result
-    shared-slice-read-result
+    (λ c. search needs)
+    (λ c. search needs)
+    (λ c. search needs)
     cast-result
     returns-3)

@@ -1,7 +1,7 @@
--- `utf8::ascii_end` meets its contract. Assumes nothing.
+-- `utf8::ascii_end` meets its contract.
 use mathlib.Core.Path.{sym, _∙_}
 use borrow.Author.Needs.{needs}
-use Rattle.laws.proofs.Booleans.{true-T}
+use Rattle.base.proofs.Booleans.{true-T}
 use Rattle.utf8.proofs.Ascii.{ascii-both, ascii-rest}
 use Rattle.utf8.proofs.ascii_end.Statement.{statement}
 use Rattle.utf8.proofs.ascii_end.Tie as tie
@@ -9,26 +9,11 @@ use Rattle.utf8.proofs.ascii_end.Tie as tie
 returns : tie.Need-returns
 returns c e = absurd (true-T e)
 
-sub-if2 : tie.Need-sub-if2
-sub-if2 c = search needs
-
-ascii-8-requires : tie.Need-ascii-8-requires
-ascii-8-requires c κs = search needs
-
 returns-2 : tie.Need-returns-2
 returns-2 c e =
     let start = c .before .before .before .before in
     ascii-rest (start .args .text .now) (start .args .place) (start .pre) (c .before .before .if1 .left) (c .before .if2 .taken)
     (sym (c .ascii-8 .ensures) ∙ e)
-
-sub-if3 : tie.Need-sub-if3
-sub-if3 c = search needs
-
-ascii-8-requires-2 : tie.Need-ascii-8-requires-2
-ascii-8-requires-2 c κs = search needs
-
-ascii-8-requires-3 : tie.Need-ascii-8-requires-3
-ascii-8-requires-3 c κs = search needs
 
 returns-3 : tie.Need-returns-3
 returns-3 c e =
@@ -44,11 +29,11 @@ ascii-end-spec =
     tie.close
     (tie.spec
     returns
-    sub-if2
-    ascii-8-requires
+    (λ c. search needs)
+    (λ c κs. search needs)
     returns-2
-    sub-if3
-    ascii-8-requires-2
-    ascii-8-requires-3
+    (λ c. search needs)
+    (λ c κs. search needs)
+    (λ c κs. search needs)
     returns-3
     returns-4)

@@ -1,6 +1,6 @@
--- `utf8::is_continuation` meets its contract. Assumes nothing.
+-- `utf8::is_continuation` meets its contract.
 use borrow.Author.Tests.{le-leb, lt-leb}
-use Rattle.utf8.specs.Position.{isContinuation}
+use Rattle.utf8.specs.rules.Position.{isContinuation}
 use Rattle.utf8.proofs.is_continuation.Statement.{statement}
 use Rattle.utf8.proofs.is_continuation.Tie as tie
 

@@ -1,5 +1,4 @@
 -- `utf8::position` meets its contract. The loop's invariant: line and column, counted on through what is left before the place, are the answer.
--- Assumes nothing.
 use mathlib.Core.Path.{_≡_, refl, sym, _∙_}
 use mathlib.Core.Logic.{⊎-elim}
 use Prim.Native.Nat.{_+_, _-_, _≤_, _<_, min}
@@ -7,7 +6,7 @@ use native.Mathlib.Omega.{arith}
 use borrow.Author.Needs.{needs}
 use borrow.Author.Tests.{eq-eqb, ne-eqb, not-true, not-false}
 use lib.ListN.{length, take, drop, getD}
-use Rattle.utf8.specs.Position.{lineOf, columnOf, lineFeeds}
+use Rattle.utf8.specs.rules.Position.{lineOf, columnOf, lineFeeds}
 use Rattle.utf8.proofs.Column.{nextLine, nextColumn, columnAfter, column-start, column-end, column-step, line-step, next-line-bound, next-column-bound, left-step, left-end}
 use Rattle.utf8.proofs.position.Statement.{statement}
 use Rattle.utf8.proofs.position.Tie as tie
@@ -21,30 +20,9 @@ Inv-loop text place end line₀ column₀ i₀ line column i =
 abbrev μ-loop : tie.MeasureT-loop
 μ-loop text place end line₀ column₀ i₀ line column i = end - i
 
-least-requires : tie.Need-least-requires Inv-loop μ-loop
-least-requires c κs = search needs
-
 loop-holds : tie.Need-loop-holds Inv-loop μ-loop
 unfolding lineOf columnOf
 loop-holds c = (omega arith, c .least .ensures, omega arith, omega arith, refl, column-start _)
-
-shared-slice-read-b : tie.Need-shared-slice-read-b Inv-loop μ-loop
-shared-slice-read-b c = search needs
-
-add-line : tie.Need-add-line Inv-loop μ-loop
-add-line c = search needs
-
-is-continuation-requires : tie.Need-is-continuation-requires Inv-loop μ-loop
-is-continuation-requires c κs = search needs
-
-add-column : tie.Need-add-column Inv-loop μ-loop
-add-column c = search needs
-
-add-i : tie.Need-add-i Inv-loop μ-loop
-add-i c = search needs
-
-loop-less : tie.Need-loop-less Inv-loop μ-loop
-loop-less c = search needs
 
 -- The arms of the branch on the byte.
 next : (c : tie.Joined1 Inv-loop μ-loop)
@@ -83,13 +61,13 @@ position-spec =
     (tie.spec
     Inv-loop
     μ-loop
-    least-requires
+    (λ c κs. search needs)
     loop-holds
-    shared-slice-read-b
-    add-line
-    is-continuation-requires
-    add-column
-    add-i
-    loop-less
+    (λ c. search needs)
+    (λ c. search needs)
+    (λ c κs. search needs)
+    (λ c. search needs)
+    (λ c. search needs)
+    (λ c. search needs)
     loop-again
     returns)

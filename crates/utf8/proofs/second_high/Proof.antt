@@ -1,4 +1,4 @@
--- `utf8::second_high` meets its contract. Assumes nothing.
+-- `utf8::second_high` meets its contract.
 use borrow.Author.Tests.{ne-eqb}
 use Rattle.utf8.proofs.second_high.Statement.{statement}
 use Rattle.utf8.proofs.second_high.Tie as tie

@@ -1,4 +1,4 @@
--- `utf8::second_low` meets its contract. Assumes nothing.
+-- `utf8::second_low` meets its contract.
 use borrow.Author.Tests.{ne-eqb}
 use Rattle.utf8.proofs.second_low.Statement.{statement}
 use Rattle.utf8.proofs.second_low.Tie as tie

@@ -1,5 +1,4 @@
 -- `utf8::sequence_length` meets its contract: each answer is the one that `steps` of `proofs/Rows.antt` has for the tests that led to it.
--- Assumes nothing.
 use mathlib.Core.Path.{_≡_, refl}
 use mathlib.Core.Bool.{Bool, cond}
 use Prim.Native.Nat.{ℕ, _+_}
@@ -7,7 +6,7 @@ use borrow.Author.Needs.{needs}
 use borrow.Author.Tests.{eq-eqb, ne-eqb, lt-ltb, le-ltb, not-true, not-false}
 use lib.Dec.{eqb}
 use lib.ListN.{drop, getD, drop-of-length-le}
-use Rattle.utf8.specs.Sequence.{begins, firstForm, forms, sequenceLength, to}
+use Rattle.utf8.specs.reference.Sequence.{begins, firstForm, forms, sequenceLength, to}
 use Rattle.utf8.proofs.Rows.{low, high, continuation, steps, standsIn, steps-at}
 use Rattle.utf8.proofs.sequence_length.Statement.{statement}
 use Rattle.utf8.proofs.sequence_length.Tie as tie
@@ -48,12 +47,6 @@ returns : tie.Need-returns
 unfolding sequenceLength firstForm forms begins
 returns c = rw (drop-of-length-le _ (c .if1 .taken))
 
-shared-slice-read-first : tie.Need-shared-slice-read-first
-shared-slice-read-first c = search needs
-
-leading-ones-requires : tie.Need-leading-ones-requires
-leading-ones-requires c κs = search needs
-
 returns-2 : tie.Need-returns-2
 returns-2 c = rw (first-read (c .before), eq-eqb _ 0 (c .if2 .taken))
 
@@ -63,41 +56,17 @@ returns-3 c = rw (first-read (c .before .before), ne-eqb _ 0 (c .before .if2 .le
 returns-4 : tie.Need-returns-4
 returns-4 c = rw (first-read (c .before .before .before), ne-eqb _ 0 (c .before .before .if2 .left), le-ltb _ _ (c .before .if3 .left), lt-ltb _ _ (c .if4 .taken))
 
-add-byte-within : tie.Need-add-byte-within
-add-byte-within c = search needs
-
-second-low-requires : tie.Need-second-low-requires
-second-low-requires c κs = search needs
-
-second-high-requires : tie.Need-second-high-requires
-second-high-requires c κs = search needs
-
-byte-within-requires : tie.Need-byte-within-requires
-byte-within-requires c κs = search needs
-
 returns-5 : tie.Need-returns-5
 returns-5 c = rw (second-read (c .before), not-true (c .before .byte-within .result) (c .if5 .taken))
 
 returns-6 : tie.Need-returns-6
 returns-6 c = rw (second-read (c .before .before), not-false (c .before .before .byte-within .result) (c .before .if5 .left), eq-eqb _ 2 (c .if6 .taken))
 
-add-byte-within-2 : tie.Need-add-byte-within-2
-add-byte-within-2 c = search needs
-
-byte-within-requires-2 : tie.Need-byte-within-requires-2
-byte-within-requires-2 c κs = search needs
-
 returns-7 : tie.Need-returns-7
 returns-7 c = rw (third-read (c .before), not-true (c .before .byte-within2 .result) (c .if7 .taken))
 
 returns-8 : tie.Need-returns-8
 returns-8 c = rw (third-read (c .before .before), not-false (c .before .before .byte-within2 .result) (c .before .if7 .left), eq-eqb _ 3 (c .if8 .taken))
-
-add-byte-within-3 : tie.Need-add-byte-within-3
-add-byte-within-3 c = search needs
-
-byte-within-requires-3 : tie.Need-byte-within-requires-3
-byte-within-requires-3 c κs = search needs
 
 returns-9 : tie.Need-returns-9
 returns-9 c = rw (third-read (c .before .before .before .before), not-false (c .before .before .before .before .byte-within2 .result) (c .before .before .before .if7 .left), ne-eqb _ 3 (c .before .before .if8 .left), ← c .before .byte-within3 .ensures, not-true (c .before .byte-within3 .result) (c .if9 .taken))
@@ -110,22 +79,22 @@ sequence-length-spec =
     tie.close
     (tie.spec
     returns
-    shared-slice-read-first
-    leading-ones-requires
+    (λ c. search needs)
+    (λ c κs. search needs)
     returns-2
     returns-3
     returns-4
-    add-byte-within
-    second-low-requires
-    second-high-requires
-    byte-within-requires
+    (λ c. search needs)
+    (λ c κs. search needs)
+    (λ c κs. search needs)
+    (λ c κs. search needs)
     returns-5
     returns-6
-    add-byte-within-2
-    byte-within-requires-2
+    (λ c. search needs)
+    (λ c κs. search needs)
     returns-7
     returns-8
-    add-byte-within-3
-    byte-within-requires-3
+    (λ c. search needs)
+    (λ c κs. search needs)
     returns-9
     returns-10)

@@ -1,12 +1,11 @@
 -- `utf8::valid_up_to` meets its contract. The loop's invariant: the answer is `i` and as many bytes more as are well formed from there on.
--- Assumes nothing.
 use mathlib.Core.Path.{_≡_, sym, _∙_}
 use Prim.Native.Nat.{_+_, _-_, _≤_}
 use native.Mathlib.Omega.{arith}
 use borrow.Author.Needs.{needs}
 use borrow.Author.Tests.{lt-ltb}
 use lib.ListN.{length, drop, drop-of-length-le}
-use Rattle.utf8.specs.Sequence.{validFrom, validUpTo}
+use Rattle.utf8.specs.reference.Sequence.{validFrom, validUpTo}
 use Rattle.utf8.proofs.Ascii.{ascii-byte, block-fits, block-last, block-turn}
 use Rattle.utf8.proofs.Walk.{stop, turn, turn-fits}
 use Rattle.utf8.proofs.valid_up_to.Statement.{statement}
@@ -21,9 +20,6 @@ abbrev μ-loop : tie.MeasureT-loop
 loop-holds : tie.Need-loop-holds Inv-loop μ-loop
 unfolding validUpTo
 loop-holds c = (omega arith, omega arith)
-
-ascii-16-requires : tie.Need-ascii-16-requires Inv-loop μ-loop
-ascii-16-requires c κs = search needs
 
 add-i : tie.Need-add-i Inv-loop μ-loop
 add-i c =
@@ -41,16 +37,10 @@ loop-again c =
     let ascii = c .before .ascii-16 .ensures in
     (block-fits _ _ 16 (inv .0) ascii (c .if1 .taken), block-turn _ _ 16 (inv .0) ascii (c .if1 .taken) ∙ inv .1)
 
-ascii-end-requires : tie.Need-ascii-end-requires Inv-loop μ-loop
-ascii-end-requires c κs = search needs
-
 returns : tie.Need-returns Inv-loop μ-loop
 returns c =
     let inv = c .before .before .before .before .before .loop .inv in
     block-last _ _ (inv .0) (c .before .ascii-end .ensures (c .if2 .taken)) ∙ inv .1
-
-ascii-8-at-requires : tie.Need-ascii-8-at-requires Inv-loop μ-loop
-ascii-8-at-requires c κs = search needs
 
 add-i-2 : tie.Need-add-i-2 Inv-loop μ-loop
 add-i-2 c =
@@ -69,23 +59,11 @@ loop-again-2 c =
     let ascii = c .before .ascii-8-at .ensures in
     (block-fits _ _ 8 (inv .0) ascii (c .if3 .taken), block-turn _ _ 8 (inv .0) ascii (c .if3 .taken) ∙ inv .1)
 
-shared-slice-read-if4 : tie.Need-shared-slice-read-if4 Inv-loop μ-loop
-shared-slice-read-if4 c = search needs
-
-add-i-3 : tie.Need-add-i-3 Inv-loop μ-loop
-add-i-3 c = search needs
-
-loop-less-3 : tie.Need-loop-less-3 Inv-loop μ-loop
-loop-less-3 c = search needs
-
 loop-again-3 : tie.Need-loop-again-3 Inv-loop μ-loop
 loop-again-3 c =
     let inv = c .before .before .before .before .before .before .before .before .before .loop .inv in
     let ascii = sym (ascii-byte _ _ (c .before .before .before .before .before .before .before .before .loop-test .taken)) in
     (omega arith, block-turn _ _ 1 (inv .0) ascii (lt-ltb _ _ (c .if4 .taken)) ∙ inv .1)
-
-sequence-length-requires : tie.Need-sequence-length-requires Inv-loop μ-loop
-sequence-length-requires c κs = search needs
 
 returns-2 : tie.Need-returns-2 Inv-loop μ-loop
 returns-2 c =
@@ -120,21 +98,21 @@ valid-up-to-spec =
     Inv-loop
     μ-loop
     loop-holds
-    ascii-16-requires
+    (λ c κs. search needs)
     add-i
     loop-less
     loop-again
-    ascii-end-requires
+    (λ c κs. search needs)
     returns
-    ascii-8-at-requires
+    (λ c κs. search needs)
     add-i-2
     loop-less-2
     loop-again-2
-    shared-slice-read-if4
-    add-i-3
-    loop-less-3
+    (λ c. search needs)
+    (λ c. search needs)
+    (λ c. search needs)
     loop-again-3
-    sequence-length-requires
+    (λ c κs. search needs)
     returns-2
     add-i-4
     loop-less-4

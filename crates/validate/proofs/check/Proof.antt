@@ -1,4 +1,4 @@
--- `validate::check` meets its contract. Assumes nothing.
+-- `validate::check` meets its contract.
 use native.Mathlib.Omega.{arith}
 use mathlib.Core.Path.{sym}
 use lib.Seq.{length-take-le}
@@ -7,9 +7,6 @@ use borrow.Author.Needs.{needs}
 use Rattle.validate.proofs.Refusals.{no-both, refused, few-nodes, node-fits, answered}
 use Rattle.validate.proofs.check.Statement.{statement}
 use Rattle.validate.proofs.check.Tie as tie
-
-mul-words : tie.Need-mul-words
-mul-words c = search needs
 
 returns : tie.Need-returns
 returns c = refused _ _ _ _ (λ hn hm d x. omega (arith, hn, c .if1 .taken))
@@ -22,9 +19,6 @@ slice-aggregate-table c = sym (length-take-le _ _ (c .before .before .if1 .left)
 
 slice-aggregate-strings : tie.Need-slice-aggregate-strings
 slice-aggregate-strings c = sym (length-take-le _ _ (c .before .before .if2 .left))
-
-is-draft-requires : tie.Need-is-draft-requires
-is-draft-requires c κs = search needs
 
 returns-3 : tie.Need-returns-3
 returns-3 c = refused _ _ _ _ (λ hn hm d x. no-both _ (c .if3 .taken) (c .before .is-draft .ensures .1 d x))
@@ -49,12 +43,12 @@ pub check-spec : {M : Type 1} → statement M
 check-spec =
     tie.close
     (tie.spec
-    mul-words
+    (λ c. search needs)
     returns
     returns-2
     slice-aggregate-table
     slice-aggregate-strings
-    is-draft-requires
+    (λ c κs. search needs)
     returns-3
     check-table-requires
     cast-t15

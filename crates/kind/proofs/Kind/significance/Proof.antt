@@ -1,6 +1,6 @@
--- `Kind::significance` meets its contract: a number that a test found decides the specification. Assumes nothing.
+-- `Kind::significance` meets its contract: a number that a test found decides the specification.
 use borrow.Author.Tests.{ne-eqb}
-use Rattle.elements.specs.Class.{significance}
+use Rattle.elements.specs.rules.Class.{significance}
 use Rattle.kind.proofs.Kind.significance.Statement.{statement}
 use Rattle.kind.proofs.Kind.significance.Tie as tie
 

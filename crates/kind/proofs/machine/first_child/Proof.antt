@@ -1,4 +1,4 @@
--- `machine::first_child` meets its contract. Assumes nothing.
+-- `machine::first_child` meets its contract.
 use mathlib.Core.Path.{_∙_, sym}
 use native.Mathlib.Omega.{arith}
 use borrow.Author.Needs.{needs}
@@ -10,17 +10,8 @@ use Rattle.kind.proofs.Children.{first-refused, first-taken}
 use Rattle.kind.proofs.machine.first_child.Statement.{statement}
 use Rattle.kind.proofs.machine.first_child.Tie as tie
 
-allowed-requires : tie.Need-allowed-requires
-allowed-requires c κs = search needs
-
-refused-requires : tie.Need-refused-requires
-refused-requires c κs = search needs
-
 returns : tie.Need-returns
 returns c = first-refused _ _ _ (c .refused .ensures) (sym (c .before .before .allowed .ensures) ∙ not-true _ (c .before .if1 .taken))
-
-significance-requires : tie.Need-significance-requires
-significance-requires c κs = search needs
 
 add-t8 : tie.Need-add-t8
 add-t8 c = omega (arith, c .significance .ensures, significance-small (c .before .before .before .args .class))
@@ -34,4 +25,4 @@ returns-2 c =
 pub first-child-spec : {M : Type 1} → statement M
 first-child-spec =
     tie.close
-    (tie.spec allowed-requires refused-requires returns significance-requires add-t8 returns-2)
+    (tie.spec (λ c κs. search needs) (λ c κs. search needs) returns (λ c κs. search needs) add-t8 returns-2)

@@ -1,4 +1,4 @@
--- `machine::id_type` meets its contract: the tests decide the specification. Assumes nothing.
+-- `machine::id_type` meets its contract: the tests decide the specification.
 use borrow.Author.Tests.{ne-eqb}
 use Rattle.kind.proofs.machine.id_type.Statement.{statement}
 use Rattle.kind.proofs.machine.id_type.Tie as tie

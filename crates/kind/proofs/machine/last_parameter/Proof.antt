@@ -1,8 +1,8 @@
--- `machine::last_parameter` meets its contract. Assumes nothing.
+-- `machine::last_parameter` meets its contract.
 use mathlib.Core.Path.{refl}
 use borrow.Author.Needs.{needs}
 use borrow.Author.Tests.{eq-eqb, ne-eqb}
-use Rattle.elements.specs.Inside.{nextParameter}
+use Rattle.elements.specs.rules.Inside.{nextParameter}
 use Rattle.kind.specs.Machine.{afterLast}
 use Rattle.kind.proofs.Steps.{taken, last-state}
 use Rattle.kind.proofs.machine.last_parameter.Statement.{statement}
@@ -12,12 +12,9 @@ returns : tie.Need-returns
 unfolding nextParameter afterLast
 returns c = rw (eq-eqb _ _ (c .if1 .taken)) (taken refl (rw last-state))
 
-first-child-requires : tie.Need-first-child-requires
-first-child-requires c κs = search needs
-
 returns-2 : tie.Need-returns-2
 unfolding nextParameter afterLast
 returns-2 c = rw (ne-eqb _ _ (c .before .if1 .left)) (c .first-child .ensures)
 
 pub last-parameter-spec : {M : Type 1} → statement M
-last-parameter-spec = tie.close (tie.spec returns first-child-requires returns-2)
+last-parameter-spec = tie.close (tie.spec returns (λ c κs. search needs) returns-2)

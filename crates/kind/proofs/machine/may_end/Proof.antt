@@ -1,4 +1,4 @@
--- `machine::may_end` meets its contract. Assumes nothing.
+-- `machine::may_end` meets its contract.
 use mathlib.Core.Path.{_∙_, sym}
 use borrow.Author.Needs.{needs}
 use borrow.Author.Tests.{not-true, not-false}
@@ -13,9 +13,6 @@ returns c = sym (ended-child _ _ (c .if1 .taken))
 returns-2 : tie.Need-returns-2
 returns-2 c = sym (ended-between _ _ (c .before .if2 .taken) (c .before .before .if1 .left) ∙ empty-but-verbatim _)
 
-none-required-requires : tie.Need-none-required-requires
-none-required-requires c κs = search needs
-
 returns-3 : tie.Need-returns-3
 returns-3 c = sym (unended-at _ _ (c .before .before .if2 .left) (sym (c .before .none-required .ensures) ∙ not-true _ (c .if3 .taken)))
 
@@ -26,4 +23,4 @@ returns-4 c =
     ∙ empty-but-verbatim _)
 
 pub may-end-spec : {M : Type 1} → statement M
-may-end-spec = tie.close (tie.spec returns returns-2 none-required-requires returns-3 returns-4)
+may-end-spec = tie.close (tie.spec returns returns-2 (λ c κs. search needs) returns-3 returns-4)

@@ -1,4 +1,4 @@
--- `machine::next_child` meets its contract. Assumes nothing.
+-- `machine::next_child` meets its contract.
 use mathlib.Core.Path.{_∙_, refl, sym, ap}
 use mathlib.Core.Bool.{not}
 use native.Mathlib.Omega.{arith}
@@ -10,12 +10,6 @@ use Rattle.kind.proofs.Children.{next-of-one, next-refused, next-other,
 use Rattle.kind.proofs.machine.next_child.Statement.{statement}
 use Rattle.kind.proofs.machine.next_child.Tie as tie
 
-allowed-requires : tie.Need-allowed-requires
-allowed-requires c κs = search needs
-
-refused-requires : tie.Need-refused-requires
-refused-requires c κs = search needs
-
 returns : tie.Need-returns
 returns c = next-refused _ _ _ (c .refused .ensures) (sym (c .before .before .allowed .ensures) ∙ not-true _ (c .before .if1 .taken)) _ _
 
@@ -23,12 +17,6 @@ returns-2 : tie.Need-returns-2
 returns-2 c =
     let stands = sym (c .before .before .before .allowed .ensures) ∙ not-false _ (c .before .before .if1 .left) in
     refused refl (λ z. omega arith) (next-of-one _ _ _ (no-include _ _ stands) (empty-but-verbatim _ ∙ ap not (eq-eqb _ _ (c .if2 .taken))))
-
-significance-requires : tie.Need-significance-requires
-significance-requires c κs = search needs
-
-sub-if3 : tie.Need-sub-if3
-sub-if3 c = search needs
 
 returns-3 : tie.Need-returns-3
 returns-3 c =
@@ -57,11 +45,11 @@ pub next-child-spec : {M : Type 1} → statement M
 next-child-spec =
     tie.close
     (tie.spec
-    allowed-requires
-    refused-requires
+    (λ c κs. search needs)
+    (λ c κs. search needs)
     returns
     returns-2
-    significance-requires
-    sub-if3
+    (λ c κs. search needs)
+    (λ c. search needs)
     returns-3
     returns-4)

@@ -1,12 +1,11 @@
 -- `machine::next_parameter` meets its contract. The loop's invariant: what the specification says from the place on is what it says from the state's on.
--- Assumes nothing.
 use Prim.Native.Nat.{_-_}
 use mathlib.Core.Path.{_∙_, refl, sym, ap}
 use native.Mathlib.Omega.{arith}
 use borrow.Author.Needs.{needs}
 use lib.ListN.{drop}
-use Rattle.elements.specs.Rules.{ruleOf}
-use Rattle.elements.specs.Inside.{go, nextParameter}
+use Rattle.elements.specs.rules.Rules.{ruleOf}
+use Rattle.elements.specs.rules.Inside.{go, nextParameter}
 use Rattle.kind.specs.Machine.{afterPlace}
 use Rattle.kind.proofs.Table.{past-four}
 use Rattle.kind.proofs.Steps.{taken, refused, alike, Leads, led-on, first-child, absent, required-taken, neither, either-taken, optional-taken, passed, first-child-end, place-state}
@@ -24,12 +23,6 @@ abbrev μ-loop : tie.MeasureT-loop
 
 loop-holds : tie.Need-loop-holds Inv-loop μ-loop
 loop-holds c = (refl, refl)
-
-slot-requires : tie.Need-slot-requires Inv-loop μ-loop
-slot-requires c κs = search needs
-
-first-child-requires : tie.Need-first-child-requires Inv-loop μ-loop
-first-child-requires c κs = search needs
 
 returns : tie.Need-returns Inv-loop μ-loop
 returns c =
@@ -50,9 +43,6 @@ returns-2 c =
     (c .if3 .taken))
     ∙ c .before .before .before .before .before .loop .inv .0)
 
-add-t9 : tie.Need-add-t9 Inv-loop μ-loop
-add-t9 c = search needs
-
 returns-3 : tie.Need-returns-3 Inv-loop μ-loop
 returns-3 c =
     let now = required-taken (ruleOf (c .before .before .before .before .before .before .args .kind) .parameters)
@@ -63,12 +53,6 @@ returns-3 c =
     (c .if3 .left) in
     let (step, number) = led-on now (c .before .before .before .before .before .loop .inv) in
     taken number (ap go (place-state _ _ (omega arith)) ∙ step)
-
-id-type-requires : tie.Need-id-type-requires Inv-loop μ-loop
-id-type-requires c κs = search needs
-
-first-child-requires-2 : tie.Need-first-child-requires-2 Inv-loop μ-loop
-first-child-requires-2 c κs = search needs
 
 returns-4 : tie.Need-returns-4 Inv-loop μ-loop
 returns-4 c =
@@ -91,9 +75,6 @@ returns-5 c =
     let (step, number) = led-on now (c .before .before .before .before .before .before .before .loop .inv) in
     taken number step
 
-add-t12 : tie.Need-add-t12 Inv-loop μ-loop
-add-t12 c = search needs
-
 returns-6 : tie.Need-returns-6 Inv-loop μ-loop
 returns-6 c =
     let now = optional-taken (ruleOf (c .before .before .before .before .before .before .before .args .kind) .parameters)
@@ -105,12 +86,6 @@ returns-6 c =
     let (step, number) = led-on now (c .before .before .before .before .before .before .loop .inv) in
     taken number (ap go (place-state _ _ (omega arith)) ∙ step)
 
-add-place : tie.Need-add-place Inv-loop μ-loop
-add-place c = search needs
-
-loop-less : tie.Need-loop-less Inv-loop μ-loop
-loop-less c = search needs
-
 loop-again : tie.Need-loop-again Inv-loop μ-loop
 loop-again c =
     let now = passed (ruleOf (c .before .before .before .before .before .before .before .args .kind) .parameters)
@@ -120,9 +95,6 @@ loop-again c =
     (c .before .if4 .left)
     (c .if6 .left) in
     led-on now (c .before .before .before .before .before .before .loop .inv)
-
-first-child-requires-3 : tie.Need-first-child-requires-3 Inv-loop μ-loop
-first-child-requires-3 c κs = search needs
 
 returns-7 : tie.Need-returns-7 Inv-loop μ-loop
 returns-7 c =
@@ -136,20 +108,20 @@ next-parameter-spec =
     Inv-loop
     μ-loop
     loop-holds
-    slot-requires
-    first-child-requires
+    (λ c κs. search needs)
+    (λ c κs. search needs)
     returns
     returns-2
-    add-t9
+    (λ c. search needs)
     returns-3
-    id-type-requires
-    first-child-requires-2
+    (λ c κs. search needs)
+    (λ c κs. search needs)
     returns-4
     returns-5
-    add-t12
+    (λ c. search needs)
     returns-6
-    add-place
-    loop-less
+    (λ c. search needs)
+    (λ c. search needs)
     loop-again
-    first-child-requires-3
+    (λ c κs. search needs)
     returns-7)

@@ -1,11 +1,10 @@
 -- `machine::none_required` meets its contract. The loop's invariant: what the specification says from the place on is what it says from the first one on.
--- Assumes nothing.
 use Prim.Native.Nat.{_-_}
 use mathlib.Core.Path.{_≡_, _∙_, refl, sym}
 use borrow.Author.Needs.{needs}
 use lib.ListN.{drop}
-use Rattle.elements.specs.Rules.{ruleOf}
-use Rattle.elements.specs.Inside.{noneRequired}
+use Rattle.elements.specs.rules.Rules.{ruleOf}
+use Rattle.elements.specs.rules.Inside.{noneRequired}
 use Rattle.kind.proofs.Table.{past-four}
 use Rattle.kind.proofs.Steps.{none-left, none-required-end, required-first, not-required}
 use Rattle.kind.proofs.machine.none_required.Statement.{statement}
@@ -21,9 +20,6 @@ abbrev μ-loop : tie.MeasureT-loop
 loop-holds : tie.Need-loop-holds Inv-loop μ-loop
 loop-holds c = refl
 
-slot-requires : tie.Need-slot-requires Inv-loop μ-loop
-slot-requires c κs = search needs
-
 returns : tie.Need-returns Inv-loop μ-loop
 returns c =
     let end = none-left (ruleOf (c .before .before .before .before .args .kind) .parameters)
@@ -37,12 +33,6 @@ returns-2 c =
     (c .before .before .before .before .loop .place) _ (c .before .before .slot .ensures)
     (c .before .if1 .left)
     (c .if2 .taken)) ∙ c .before .before .before .before .loop .inv
-
-add-place : tie.Need-add-place Inv-loop μ-loop
-add-place c = search needs
-
-loop-less : tie.Need-loop-less Inv-loop μ-loop
-loop-less c = search needs
 
 loop-again : tie.Need-loop-again Inv-loop μ-loop
 loop-again c =
@@ -60,10 +50,10 @@ none-required-spec =
     Inv-loop
     μ-loop
     loop-holds
-    slot-requires
+    (λ c κs. search needs)
     returns
     returns-2
-    add-place
-    loop-less
+    (λ c. search needs)
+    (λ c. search needs)
     loop-again
     returns-3)

@@ -1,10 +1,7 @@
--- `machine::refused` meets its contract: each branch is a case of the test. Assumes nothing.
+-- `machine::refused` meets its contract: each branch is a case of the test.
 use borrow.Author.Needs.{needs}
 use Rattle.kind.proofs.machine.refused.Statement.{statement}
 use Rattle.kind.proofs.machine.refused.Tie as tie
-
-is-include-requires : tie.Need-is-include-requires
-is-include-requires c κs = search needs
 
 returns : tie.Need-returns
 returns c = rw (← c .before .is-include .ensures, c .if1 .taken)
@@ -13,4 +10,4 @@ returns-2 : tie.Need-returns-2
 returns-2 c = rw (← c .before .is-include .ensures, c .if1 .left)
 
 pub refused-spec : {M : Type 1} → statement M
-refused-spec = tie.close (tie.spec is-include-requires returns returns-2)
+refused-spec = tie.close (tie.spec (λ c κs. search needs) returns returns-2)

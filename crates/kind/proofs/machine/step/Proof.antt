@@ -1,38 +1,26 @@
--- `machine::step` meets its contract: the state's number says which function goes on. Assumes nothing.
+-- `machine::step` meets its contract: the state's number says which function goes on.
 use Prim.Native.Nat.{ℕ, _<_, _≤_}
 use mathlib.Core.Path.{_≡_}
 use native.Mathlib.Omega.{arith}
 use borrow.Author.Needs.{needs}
 use borrow.Author.Tests.{lt-ltb}
-use Rattle.elements.specs.Inside.{step}
+use Rattle.elements.specs.rules.Inside.{step}
 use Rattle.kind.specs.Machine.{stateOf, nextState}
 use Rattle.kind.proofs.Steps.{place-state, child-state, child-stays}
 use Rattle.kind.proofs.machine.step.Statement.{statement}
 use Rattle.kind.proofs.machine.step.Tie as tie
 
-next-parameter-requires : tie.Need-next-parameter-requires
-next-parameter-requires c κs = search needs
-
 returns : tie.Need-returns
 unfolding step nextState
 returns c = rw (place-state _ _ (c .before .if1 .taken), lt-ltb _ 5 (c .before .if1 .taken)) (c .next-parameter .ensures)
-
-next-child-requires : tie.Need-next-child-requires
-next-child-requires c κs = search needs
 
 returns-2 : tie.Need-returns-2
 unfolding step
 returns-2 c = rw (child-state _ _ (c .before .if2 .taken), child-stays _ _ _ (c .before .if2 .taken)) (c .next-child .ensures)
 
-last-parameter-requires : tie.Need-last-parameter-requires
-last-parameter-requires c κs = search needs
-
 returns-3 : tie.Need-returns-3
 unfolding step stateOf nextState
 returns-3 c = rw (c .before .if3 .taken) (c .last-parameter .ensures)
-
-last-parameter-requires-2 : tie.Need-last-parameter-requires-2
-last-parameter-requires-2 c κs = search needs
 
 six : (n : ℕ) → 5 ≤ n → n < 7 → (n ≡ 5 → ⊥) → n ≡ 6
 six n low high other = omega arith
@@ -45,11 +33,11 @@ pub step-spec : {M : Type 1} → statement M
 step-spec =
     tie.close
     (tie.spec
-    next-parameter-requires
+    (λ c κs. search needs)
     returns
-    next-child-requires
+    (λ c κs. search needs)
     returns-2
-    last-parameter-requires
+    (λ c κs. search needs)
     returns-3
-    last-parameter-requires-2
+    (λ c κs. search needs)
     returns-4)

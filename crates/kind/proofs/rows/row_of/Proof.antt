@@ -1,9 +1,9 @@
--- `rows::row_of` meets its contract: each arm by computing its row, and past the arms there is no row. Assumes nothing.
+-- `rows::row_of` meets its contract: each arm by computing its row, and past the arms there is no row.
 use mathlib.Core.Path.{refl}
-use Rattle.elements.specs.Bytes.{among}
-use Rattle.elements.specs.Rules.{alternativesOf, rules, ruleIn, ruleOf}
-use Rattle.elements.specs.Inside.{someHas, allows}
-use Rattle.kind.specs.Table.{packed, code, bits}
+use Rattle.elements.specs.rules.Bytes.{among}
+use Rattle.elements.specs.rules.Rules.{alternativesOf, rules, ruleIn, ruleOf}
+use Rattle.elements.specs.rules.Inside.{someHas, allows}
+use Rattle.kind.specs.internal.Table.{packed, code, bits}
 use Rattle.kind.proofs.Table.{no-rule}
 use Rattle.kind.proofs.rows.row_of.Statement.{statement}
 use Rattle.kind.proofs.rows.row_of.Tie as tie

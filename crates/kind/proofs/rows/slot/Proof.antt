@@ -1,6 +1,6 @@
--- `rows::slot` meets its contract: the bytes of a row's number stand for its parameters, and no row has more than four. Assumes nothing.
+-- `rows::slot` meets its contract: the bytes of a row's number stand for its parameters, and no row has more than four.
 use borrow.Author.Needs.{needs}
-use Rattle.kind.specs.Table.{led}
+use Rattle.kind.specs.internal.Table.{led}
 use Rattle.kind.proofs.Table.{past-four, slot-at}
 use Rattle.kind.proofs.rows.slot.Statement.{statement}
 use Rattle.kind.proofs.rows.slot.Tie as tie
@@ -9,18 +9,6 @@ returns : tie.Need-returns
 unfolding led
 returns c = past-four _ _ (c .if1 .taken)
 
-row-of-requires : tie.Need-row-of-requires
-row-of-requires c κs = search needs
-
-mul-result : tie.Need-mul-result
-mul-result c = search needs
-
-shr-result : tie.Need-shr-result
-shr-result c = search needs
-
-cast-result : tie.Need-cast-result
-cast-result c = search needs
-
 returns-2 : tie.Need-returns-2
 returns-2 c =
     rw (c .before .row-of .ensures .0)
@@ -28,4 +16,4 @@ returns-2 c =
 
 pub slot-spec : {M : Type 1} → statement M
 slot-spec =
-    tie.close (tie.spec returns row-of-requires mul-result shr-result cast-result returns-2)
+    tie.close (tie.spec returns (λ c κs. search needs) (λ c. search needs) (λ c. search needs) (λ c. search needs) returns-2)

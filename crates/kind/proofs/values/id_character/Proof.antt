@@ -1,4 +1,4 @@
--- `values::id_character` meets its contract. Assumes nothing.
+-- `values::id_character` meets its contract.
 use borrow.Author.Needs.{needs}
 use Rattle.elements.proofs.Characters.{id-dash, id-point, id-type}
 use mathlib.Core.Path.{_∙_}
@@ -11,11 +11,8 @@ returns c = id-dash _ (c .if1 .taken)
 returns-2 : tie.Need-returns-2
 returns-2 c = id-point _ (c .if2 .taken)
 
-type-character-requires : tie.Need-type-character-requires
-type-character-requires c κs = search needs
-
 returns-3 : tie.Need-returns-3
 returns-3 c = c .type-character .ensures ∙ id-type _ (c .before .before .if1 .left) (c .before .if2 .left)
 
 pub id-character-spec : {M : Type 1} → statement M
-id-character-spec = tie.close (tie.spec returns returns-2 type-character-requires returns-3)
+id-character-spec = tie.close (tie.spec returns returns-2 (λ c κs. search needs) returns-3)

@@ -1,4 +1,4 @@
--- `values::type_character` meets its contract. Assumes nothing.
+-- `values::type_character` meets its contract.
 use Rattle.elements.proofs.Characters.{type-digit, type-upper, type-between, type-lower}
 use Rattle.kind.proofs.values.type_character.Statement.{statement}
 use Rattle.kind.proofs.values.type_character.Tie as tie

@@ -1,6 +1,6 @@
--- `values::uri_character` meets its contract. Assumes nothing.
+-- `values::uri_character` meets its contract.
 use borrow.Author.Tests.{le-leb, lt-leb}
-use Rattle.elements.specs.Characters.{uriCharacter}
+use Rattle.elements.specs.rules.Characters.{uriCharacter}
 use Rattle.kind.proofs.values.uri_character.Statement.{statement}
 use Rattle.kind.proofs.values.uri_character.Tie as tie
 

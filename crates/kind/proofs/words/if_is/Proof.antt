@@ -1,10 +1,7 @@
--- `words::if_is` meets its contract: each branch is a case of the test. Assumes nothing.
+-- `words::if_is` meets its contract: each branch is a case of the test.
 use borrow.Author.Needs.{needs}
 use Rattle.kind.proofs.words.if_is.Statement.{statement}
 use Rattle.kind.proofs.words.if_is.Tie as tie
-
-is-requires : tie.Need-is-requires
-is-requires c κs = search needs
 
 returns : tie.Need-returns
 returns c = rw (← c .before .is .ensures, c .if1 .taken)
@@ -13,4 +10,4 @@ returns-2 : tie.Need-returns-2
 returns-2 c = rw (← c .before .is .ensures, c .if1 .left)
 
 pub if-is-spec : {M : Type 1} → statement M
-if-is-spec = tie.close (tie.spec is-requires returns returns-2)
+if-is-spec = tie.close (tie.spec (λ c κs. search needs) returns returns-2)

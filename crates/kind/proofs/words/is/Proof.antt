@@ -1,10 +1,10 @@
 -- `words::is` meets its contract. The loop's invariant: up to `i` nothing told the two apart, so the test of the whole is that of what is left.
--- The measure is what is left of the length. Assumes nothing.
+-- The measure is what is left of the length.
 use Prim.Native.Nat.{_≤_, _-_}
 use mathlib.Core.Path.{_≡_, _∙_, refl, sym}
 use native.Mathlib.Omega.{arith}
 use lib.ListN.{length, drop}
-use Rattle.elements.specs.Bytes.{same}
+use Rattle.elements.specs.rules.Bytes.{same}
 use Rattle.elements.proofs.Same.{same-lengths, same-on, same-not, same-end}
 use Rattle.kind.proofs.words.is.Statement.{statement}
 use Rattle.kind.proofs.words.is.Tie as tie

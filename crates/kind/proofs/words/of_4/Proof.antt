@@ -1,77 +1,11 @@
--- `words::of_4` meets its contract: the first byte, and after `t` the second, leaves one word, or none. Assumes nothing.
+-- `words::of_4` meets its contract: the first byte, and after `t` the second, leaves one word, or none.
 use mathlib.Core.Path.{_∙_}
 use borrow.Author.Needs.{needs}
-use Rattle.elements.specs.Bytes.{codes}
-use Rattle.elements.specs.Class.{names, as-name, classIn}
+use Rattle.elements.specs.rules.Bytes.{codes}
+use Rattle.elements.specs.rules.Class.{names, as-name, classIn}
 use Rattle.kind.proofs.Chosen.{pick, only, others, by-byte, no-byte, by-bytes, no-second}
 use Rattle.kind.proofs.words.of_4.Statement.{statement}
 use Rattle.kind.proofs.words.of_4.Tie as tie
-
-shared-slice-read-match : tie.Need-shared-slice-read-match
-shared-slice-read-match c = search needs
-
-slice-aggregate-if-is : tie.Need-slice-aggregate-if-is
-slice-aggregate-if-is c = search needs
-
-if-is-requires : tie.Need-if-is-requires
-if-is-requires c κs = search needs
-
-shared-slice-read-match2 : tie.Need-shared-slice-read-match2
-shared-slice-read-match2 c = search needs
-
-slice-aggregate-if-is-2 : tie.Need-slice-aggregate-if-is-2
-slice-aggregate-if-is-2 c = search needs
-
-if-is-requires-2 : tie.Need-if-is-requires-2
-if-is-requires-2 c κs = search needs
-
-slice-aggregate-if-is-3 : tie.Need-slice-aggregate-if-is-3
-slice-aggregate-if-is-3 c = search needs
-
-if-is-requires-3 : tie.Need-if-is-requires-3
-if-is-requires-3 c κs = search needs
-
-slice-aggregate-if-is-4 : tie.Need-slice-aggregate-if-is-4
-slice-aggregate-if-is-4 c = search needs
-
-if-is-requires-4 : tie.Need-if-is-requires-4
-if-is-requires-4 c κs = search needs
-
-slice-aggregate-if-is-5 : tie.Need-slice-aggregate-if-is-5
-slice-aggregate-if-is-5 c = search needs
-
-if-is-requires-5 : tie.Need-if-is-requires-5
-if-is-requires-5 c κs = search needs
-
-slice-aggregate-if-is-6 : tie.Need-slice-aggregate-if-is-6
-slice-aggregate-if-is-6 c = search needs
-
-if-is-requires-6 : tie.Need-if-is-requires-6
-if-is-requires-6 c κs = search needs
-
-slice-aggregate-if-is-7 : tie.Need-slice-aggregate-if-is-7
-slice-aggregate-if-is-7 c = search needs
-
-if-is-requires-7 : tie.Need-if-is-requires-7
-if-is-requires-7 c κs = search needs
-
-slice-aggregate-if-is-8 : tie.Need-slice-aggregate-if-is-8
-slice-aggregate-if-is-8 c = search needs
-
-if-is-requires-8 : tie.Need-if-is-requires-8
-if-is-requires-8 c κs = search needs
-
-slice-aggregate-if-is-9 : tie.Need-slice-aggregate-if-is-9
-slice-aggregate-if-is-9 c = search needs
-
-if-is-requires-9 : tie.Need-if-is-requires-9
-if-is-requires-9 c κs = search needs
-
-slice-aggregate-if-is-10 : tie.Need-slice-aggregate-if-is-10
-slice-aggregate-if-is-10 c = search needs
-
-if-is-requires-10 : tie.Need-if-is-requires-10
-if-is-requires-10 c κs = search needs
 
 returns : tie.Need-returns
 unfolding pick only names as-name codes classIn
@@ -132,28 +66,28 @@ pub of-4-spec : {M : Type 1} → statement M
 of-4-spec =
     tie.close
     (tie.spec
-    shared-slice-read-match
-    slice-aggregate-if-is
-    if-is-requires
-    shared-slice-read-match2
-    slice-aggregate-if-is-2
-    if-is-requires-2
-    slice-aggregate-if-is-3
-    if-is-requires-3
-    slice-aggregate-if-is-4
-    if-is-requires-4
-    slice-aggregate-if-is-5
-    if-is-requires-5
-    slice-aggregate-if-is-6
-    if-is-requires-6
-    slice-aggregate-if-is-7
-    if-is-requires-7
-    slice-aggregate-if-is-8
-    if-is-requires-8
-    slice-aggregate-if-is-9
-    if-is-requires-9
-    slice-aggregate-if-is-10
-    if-is-requires-10
+    (λ c. search needs)
+    (λ c. search needs)
+    (λ c κs. search needs)
+    (λ c. search needs)
+    (λ c. search needs)
+    (λ c κs. search needs)
+    (λ c. search needs)
+    (λ c κs. search needs)
+    (λ c. search needs)
+    (λ c κs. search needs)
+    (λ c. search needs)
+    (λ c κs. search needs)
+    (λ c. search needs)
+    (λ c κs. search needs)
+    (λ c. search needs)
+    (λ c κs. search needs)
+    (λ c. search needs)
+    (λ c κs. search needs)
+    (λ c. search needs)
+    (λ c κs. search needs)
+    (λ c. search needs)
+    (λ c κs. search needs)
     returns
     returns-2
     returns-3

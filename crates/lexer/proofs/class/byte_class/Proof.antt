@@ -1,8 +1,8 @@
--- `class::byte_class` meets its contract, byte by byte and range by range. Assumes nothing.
+-- `class::byte_class` meets its contract, byte by byte and range by range.
 use mathlib.Core.Path.{sym}
 use mathlib.Core.Logic.{⊎-elim}
 use native.Mathlib.Omega.{arith}
-use Rattle.syntax.specs.Byte.{byteClass}
+use Rattle.syntax.specs.rules.Byte.{byteClass}
 use Rattle.lexer.specs.Token.{codeOf}
 use Rattle.lexer.proofs.Codes.{ordinary-byte, forbidden-byte, blank-byte}
 use Rattle.lexer.proofs.class.byte_class.Statement.{statement}

@@ -1,9 +1,9 @@
--- `escape::hex_digit` meets its contract. Assumes nothing.
+-- `escape::hex_digit` meets its contract.
 use Prim.Native.Nat.{ℕ}
 use native.Mathlib.Omega.{arith}
 use borrow.Author.Needs.{needs}
 use borrow.Author.Tests.{le-leb, lt-leb}
-use Rattle.syntax.specs.Syntax.{isHex, hexDigit}
+use Rattle.syntax.specs.rules.Syntax.{isHex, hexDigit}
 use Rattle.lexer.proofs.escape.hex_digit.Statement.{statement}
 use Rattle.lexer.proofs.escape.hex_digit.Tie as tie
 
@@ -25,9 +25,6 @@ returns-3 c =
     let b : ℕ = c .before .before .before .args .b in
     (rw (le-leb 0x30 b (omega arith), lt-leb b 0x39 (omega arith), lt-leb 0x41 b (omega arith), lt-leb 0x61 b (omega arith)), omega arith)
 
-sub-result : tie.Need-sub-result
-sub-result c = search needs
-
 returns-4 : tie.Need-returns-4
 unfolding isHex hexDigit
 returns-4 c =
@@ -39,9 +36,6 @@ unfolding isHex hexDigit
 returns-5 c =
     let b : ℕ = c .before .before .before .before .before .args .b in
     (rw (le-leb 0x30 b (omega arith), lt-leb b 0x39 (omega arith), le-leb 0x41 b (omega arith), lt-leb b 0x46 (omega arith), lt-leb 0x61 b (omega arith)), omega arith)
-
-sub-result-2 : tie.Need-sub-result-2
-sub-result-2 c = search needs
 
 returns-6 : tie.Need-returns-6
 unfolding isHex hexDigit
@@ -62,9 +56,9 @@ hex-digit-spec =
     returns
     returns-2
     returns-3
-    sub-result
+    (λ c. search needs)
     returns-4
     returns-5
-    sub-result-2
+    (λ c. search needs)
     returns-6
     returns-7)

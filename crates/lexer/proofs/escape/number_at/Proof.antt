@@ -1,12 +1,12 @@
--- `escape::number_at` meets its contract: four digits are two pairs. Assumes nothing.
+-- `escape::number_at` meets its contract: four digits are two pairs.
 use mathlib.Core.Path.{_≡_, refl, sym, _∙_}
 use mathlib.Core.List.{List}
 use Prim.Native.Nat.{ℕ, _+_, _*_, _≤_}
 use native.Mathlib.Omega.{arith}
 use borrow.Author.Needs.{needs}
 use lib.ListN.{drop, getD, drop-of-length-le}
-use Rattle.utf8.specs.Scalar.{isScalar}
-use Rattle.syntax.specs.Syntax.{isHex, isPiece, number, hexValue}
+use Rattle.utf8.specs.rules.Scalar.{isScalar}
+use Rattle.syntax.specs.rules.Syntax.{isHex, isPiece, number, hexValue}
 use Rattle.syntax.proofs.Escapes.{pairOr, pair-at, pairs, high-bad, low-bad, below-surrogates, surrogate, above-surrogates}
 use Rattle.lexer.proofs.escape.number_at.Statement.{statement}
 use Rattle.lexer.proofs.escape.number_at.Tie as tie
@@ -15,35 +15,17 @@ returns : tie.Need-returns
 unfolding isPiece isHex
 returns c = (rw (drop-of-length-le _ (c .if1 .taken)), refl, omega arith)
 
-add-hex-pair : tie.Need-add-hex-pair
-add-hex-pair c = search needs
-
-hex-pair-requires : tie.Need-hex-pair-requires
-hex-pair-requires c κs = search needs
-
 returns-2 : tie.Need-returns-2
 returns-2 c =
     let s : List ℕ = drop (c .before .before .before .before .args .place) (c .before .before .before .before .args .text .now) in
     let e = sym (c .before .hex-pair .ensures .0 ∙ pair-at (c .before .before .before .before .args .text .now) (c .before .before .before .before .args .place) 2) ∙ c .if2 .taken in
     (sym (high-bad (getD s 2 0) (getD s 3 0) (getD s 4 0) (getD s 5 0) e), refl, omega arith)
 
-add-hex-pair-2 : tie.Need-add-hex-pair-2
-add-hex-pair-2 c = search needs
-
-hex-pair-requires-2 : tie.Need-hex-pair-requires-2
-hex-pair-requires-2 c κs = search needs
-
 returns-3 : tie.Need-returns-3
 returns-3 c =
     let s : List ℕ = drop (c .before .before .before .before .before .before .args .place) (c .before .before .before .before .before .before .args .text .now) in
     let e = sym (c .before .hex-pair2 .ensures .0 ∙ pair-at (c .before .before .before .before .before .before .args .text .now) (c .before .before .before .before .before .before .args .place) 4) ∙ c .if3 .taken in
     (sym (low-bad (getD s 2 0) (getD s 3 0) (getD s 4 0) (getD s 5 0) e), refl, omega arith)
-
-mul-value : tie.Need-mul-value
-mul-value c = search needs
-
-add-value : tie.Need-add-value
-add-value c = search needs
 
 -- What two good pairs tell.
 two-pairs : (text : List ℕ) (place high low : ℕ) → high ≡ pairOr (getD text (place + 2) 0) (getD text (place + 2 + 1) 0)
@@ -75,14 +57,14 @@ number-at-spec =
     tie.close
     (tie.spec
     returns
-    add-hex-pair
-    hex-pair-requires
+    (λ c. search needs)
+    (λ c κs. search needs)
     returns-2
-    add-hex-pair-2
-    hex-pair-requires-2
+    (λ c. search needs)
+    (λ c κs. search needs)
     returns-3
-    mul-value
-    add-value
+    (λ c. search needs)
+    (λ c. search needs)
     returns-4
     returns-5
     returns-6)

@@ -1,4 +1,4 @@
--- `fit::string_fits` meets its contract. The loop's invariant is `StringLeft`. Assumes nothing.
+-- `fit::string_fits` meets its contract. The loop's invariant is `StringLeft`.
 use Prim.Native.Nat.{_-_}
 use native.Mathlib.Omega.{arith}
 use borrow.Author.Needs.{needs}
@@ -17,26 +17,14 @@ abbrev μ-loop : tie.MeasureT-loop
 returns : tie.Need-returns Inv-loop μ-loop
 returns c = string-none (c .before .before .args .text .now) (c .before .before .args .place) (c .before .before .args .sort) (c .if1 .taken)
 
-add-i : tie.Need-add-i Inv-loop μ-loop
-add-i c = search needs
-
 loop-holds : tie.Need-loop-holds Inv-loop μ-loop
 loop-holds c = string-start (c .before .before .args .text .now) (c .before .before .args .place) (c .before .before .args .sort)
-
-piece-requires : tie.Need-piece-requires Inv-loop μ-loop
-piece-requires c κs = search needs
 
 returns-2 : tie.Need-returns-2 Inv-loop μ-loop
 returns-2 c =
     let p = c .before .piece in
     string-stopped (c .before .before .before .before .before .before .args .text .now) (c .before .before .before .before .before .before .args .place) (c .before .before .before .before .before .before .args .sort) (c .before .before .before .loop .i) (c .before .before .before .loop .inv) (c .before .before .loop-test .taken) (p .result .next) (p .result .size) (p .result .first) (p .result .second) (p .result .third)
     (p .ensures (c .before .before .loop-test .taken)) (c .if2 .taken)
-
-character-requires : tie.Need-character-requires Inv-loop μ-loop
-character-requires c κs = search needs
-
-string-at-requires : tie.Need-string-at-requires Inv-loop μ-loop
-string-at-requires c κs = search needs
 
 returns-3 : tie.Need-returns-3 Inv-loop μ-loop
 returns-3 c =
@@ -69,12 +57,12 @@ string-fits-spec =
     Inv-loop
     μ-loop
     returns
-    add-i
+    (λ c. search needs)
     loop-holds
-    piece-requires
+    (λ c κs. search needs)
     returns-2
-    character-requires
-    string-at-requires
+    (λ c κs. search needs)
+    (λ c κs. search needs)
     returns-3
     loop-less
     loop-again

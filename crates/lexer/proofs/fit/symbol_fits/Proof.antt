@@ -1,10 +1,10 @@
--- `fit::symbol_fits` meets its contract. The loop's invariant: what is left of the symbol from `i` on fits if the whole does. Assumes nothing.
+-- `fit::symbol_fits` meets its contract. The loop's invariant: what is left of the symbol from `i` on fits if the whole does.
 use mathlib.Core.Path.{_≡_, refl, sym, _∙_}
 use Prim.Native.Nat.{_-_}
 use borrow.Author.Needs.{needs}
 use borrow.Author.Tests.{not-true, not-false}
 use lib.ListN.{length, drop, drop-of-length-le}
-use Rattle.syntax.specs.Scan.{ordinaryRun}
+use Rattle.syntax.specs.reference.Scan.{ordinaryRun}
 use Rattle.lexer.specs.Token.{fits}
 use Rattle.lexer.proofs.Characters.{symbol-done, symbol-turn, symbol-refused}
 use Rattle.lexer.proofs.fit.symbol_fits.Statement.{statement}
@@ -19,27 +19,12 @@ abbrev μ-loop : tie.MeasureT-loop
 loop-holds : tie.Need-loop-holds Inv-loop μ-loop
 loop-holds c = refl
 
-shared-slice-read-b : tie.Need-shared-slice-read-b Inv-loop μ-loop
-shared-slice-read-b c = search needs
-
-byte-class-requires : tie.Need-byte-class-requires Inv-loop μ-loop
-byte-class-requires c κs = search needs
-
-character-requires : tie.Need-character-requires Inv-loop μ-loop
-character-requires c κs = search needs
-
 returns : tie.Need-returns Inv-loop μ-loop
 returns c =
     symbol-refused _ _ (c .before .before .before .before .before .loop .i) _ (c .before .before .before .before .loop-test .taken) (c .before .before .byte-class .ensures) (sym (c .before .character .ensures) ∙ not-true _ (c .if1 .taken)) ∙ c .before .before .before .before .before .loop .inv
 
 returns-2 : tie.Need-returns-2 Inv-loop μ-loop
 returns-2 c = sym (symbol-done _ _ (c .before .before .before .before .before .before .loop .i) _ (c .before .before .before .before .before .loop-test .taken) (c .before .before .before .byte-class .ensures) (c .if2 .taken)) ∙ c .before .before .before .before .before .before .loop .inv
-
-add-i : tie.Need-add-i Inv-loop μ-loop
-add-i c = search needs
-
-loop-less : tie.Need-loop-less Inv-loop μ-loop
-loop-less c = search needs
 
 loop-again : tie.Need-loop-again Inv-loop μ-loop
 loop-again c =
@@ -57,12 +42,12 @@ symbol-fits-spec =
     Inv-loop
     μ-loop
     loop-holds
-    shared-slice-read-b
-    byte-class-requires
-    character-requires
+    (λ c. search needs)
+    (λ c κs. search needs)
+    (λ c κs. search needs)
     returns
     returns-2
-    add-i
-    loop-less
+    (λ c. search needs)
+    (λ c. search needs)
     loop-again
     returns-3)

@@ -1,4 +1,4 @@
--- `pieces::escape_at` meets its contract. Assumes nothing.
+-- `pieces::escape_at` meets its contract.
 use mathlib.Core.Path.{refl, sym, _∙_}
 use mathlib.Core.List.{List}
 use Prim.Native.Nat.{ℕ, _+_}
@@ -6,26 +6,11 @@ use native.Mathlib.Omega.{arith}
 use borrow.Author.Needs.{needs}
 use borrow.Author.Tests.{ne-eqb}
 use lib.ListN.{drop}
-use Rattle.syntax.specs.Syntax.{isPiece, letter, letterValue}
+use Rattle.syntax.specs.rules.Syntax.{isPiece, letter, letterValue}
 use Rattle.syntax.proofs.Escapes.{later, first-of}
 use Rattle.lexer.proofs.PieceAt.{numberIn, by-number, by-letter, told-none, told-number, told-letter}
 use Rattle.lexer.proofs.pieces.escape_at.Statement.{statement}
 use Rattle.lexer.proofs.pieces.escape_at.Tie as tie
-
-add-byte-at : tie.Need-add-byte-at
-add-byte-at c = search needs
-
-byte-at-requires : tie.Need-byte-at-requires
-byte-at-requires c κs = search needs
-
-number-at-requires : tie.Need-number-at-requires
-number-at-requires c κs = search needs
-
-add-encoded : tie.Need-add-encoded
-add-encoded c = search needs
-
-encoded-requires : tie.Need-encoded-requires
-encoded-requires c κs = search needs
 
 returns : tie.Need-returns
 returns c =
@@ -35,36 +20,6 @@ returns c =
     let (good, value, bound) = rw (later text place 1, later text place 2, later text place 3, later text place 4) at (c .before .before .number-at .ensures) in
     told-number s place _ _ _ _ _ _ (first-of text (place + 1) ∙ sym (c .before .before .before .before .byte-at .ensures) ∙ c .before .before .before .match .keys1)
     (sym good ∙ c .before .if1 .taken) (rw (c .before .if1 .taken) at value) (c .encoded .ensures)
-
-none-requires : tie.Need-none-requires
-none-requires c κs = search needs
-
-add-one : tie.Need-add-one
-add-one c = search needs
-
-one-requires : tie.Need-one-requires
-one-requires c κs = search needs
-
-add-one-2 : tie.Need-add-one-2
-add-one-2 c = search needs
-
-one-requires-2 : tie.Need-one-requires-2
-one-requires-2 c κs = search needs
-
-add-one-3 : tie.Need-add-one-3
-add-one-3 c = search needs
-
-one-requires-3 : tie.Need-one-requires-3
-one-requires-3 c κs = search needs
-
-add-one-4 : tie.Need-add-one-4
-add-one-4 c = search needs
-
-one-requires-4 : tie.Need-one-requires-4
-one-requires-4 c κs = search needs
-
-none-requires-2 : tie.Need-none-requires-2
-none-requires-2 c κs = search needs
 
 returns-2 : tie.Need-returns-2
 returns-2 c =
@@ -109,22 +64,22 @@ pub escape-at-spec : {M : Type 1} → statement M
 escape-at-spec =
     tie.close
     (tie.spec
-    add-byte-at
-    byte-at-requires
-    number-at-requires
-    add-encoded
-    encoded-requires
+    (λ c. search needs)
+    (λ c κs. search needs)
+    (λ c κs. search needs)
+    (λ c. search needs)
+    (λ c κs. search needs)
     returns
-    none-requires
-    add-one
-    one-requires
-    add-one-2
-    one-requires-2
-    add-one-3
-    one-requires-3
-    add-one-4
-    one-requires-4
-    none-requires-2
+    (λ c κs. search needs)
+    (λ c. search needs)
+    (λ c κs. search needs)
+    (λ c. search needs)
+    (λ c κs. search needs)
+    (λ c. search needs)
+    (λ c κs. search needs)
+    (λ c. search needs)
+    (λ c κs. search needs)
+    (λ c κs. search needs)
     returns-2
     returns-3
     returns-4

@@ -1,8 +1,8 @@
--- `run::plain` meets its contract. Assumes nothing.
+-- `run::plain` meets its contract.
 use mathlib.Core.Path.{_≡_, refl}
 use mathlib.Core.Bool.{Bool, true, false, not, _&&_, _||_}
 use lib.Dec.{eqb}
-use Rattle.syntax.specs.Byte.{isRaw}
+use Rattle.syntax.specs.rules.Byte.{isRaw}
 use Rattle.lexer.proofs.run.plain.Statement.{statement}
 use Rattle.lexer.proofs.run.plain.Tie as tie
 

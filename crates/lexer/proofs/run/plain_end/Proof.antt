@@ -1,4 +1,4 @@
--- `run::plain_end` meets its contract. The loop's invariant: from `i` on the run ends where it ends from `from` on. Assumes nothing.
+-- `run::plain_end` meets its contract. The loop's invariant: from `i` on the run ends where it ends from `from` on.
 use mathlib.Core.Path.{_≡_, sym, _∙_}
 use Prim.Native.Nat.{_+_, _-_}
 use native.Mathlib.Omega.{arith}
@@ -15,29 +15,11 @@ Inv-loop text from i₀ i = i + plains text i ≡ from + plains text from
 abbrev μ-loop : tie.MeasureT-loop
 μ-loop text from i₀ i = length text - i
 
-blocks-end-requires : tie.Need-blocks-end-requires Inv-loop μ-loop
-blocks-end-requires c κs = search needs
-
-block-end-requires : tie.Need-block-end-requires Inv-loop μ-loop
-block-end-requires c κs = search needs
-
 loop-holds : tie.Need-loop-holds Inv-loop μ-loop
 loop-holds c = c .block-end .ensures ∙ c .before .blocks-end .ensures
 
-shared-slice-read-plain : tie.Need-shared-slice-read-plain Inv-loop μ-loop
-shared-slice-read-plain c = search needs
-
-plain-requires : tie.Need-plain-requires Inv-loop μ-loop
-plain-requires c κs = search needs
-
 returns : tie.Need-returns Inv-loop μ-loop
 returns c = omega (arith, plain-stop (c .before .before .before .before .before .before .before .before .args .text .now) (c .before .before .before .before .loop .i) (c .before .before .before .loop-test .taken) (sym (c .before .plain .ensures) ∙ not-true _ (c .if1 .taken)), c .before .before .before .before .loop .inv)
-
-add-i : tie.Need-add-i Inv-loop μ-loop
-add-i c = search needs
-
-loop-less : tie.Need-loop-less Inv-loop μ-loop
-loop-less c = search needs
 
 loop-again : tie.Need-loop-again Inv-loop μ-loop
 loop-again c = plain-passed (c .before .before .before .before .before .before .before .before .args .text .now) (c .before .before .before .before .loop .i) 1 (sym (plain-one (c .before .before .before .before .before .before .before .before .args .text .now) (c .before .before .before .before .loop .i) (c .before .before .before .loop-test .taken)) ∙ sym (c .before .plain .ensures) ∙ not-false _ (c .if1 .left)) ∙ c .before .before .before .before .loop .inv
@@ -51,13 +33,13 @@ plain-end-spec =
     (tie.spec
     Inv-loop
     μ-loop
-    blocks-end-requires
-    block-end-requires
+    (λ c κs. search needs)
+    (λ c κs. search needs)
     loop-holds
-    shared-slice-read-plain
-    plain-requires
+    (λ c. search needs)
+    (λ c κs. search needs)
     returns
-    add-i
-    loop-less
+    (λ c. search needs)
+    (λ c. search needs)
     loop-again
     returns-2)

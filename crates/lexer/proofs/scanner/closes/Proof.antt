@@ -1,6 +1,6 @@
--- `scanner::closes` meets its contract. Assumes nothing.
+-- `scanner::closes` meets its contract.
 use borrow.Author.Tests.{eq-eqb, ne-eqb}
-use Rattle.lexer.specs.Step.{closesIt}
+use Rattle.lexer.specs.internal.Step.{closesIt}
 use Rattle.lexer.proofs.scanner.closes.Statement.{statement}
 use Rattle.lexer.proofs.scanner.closes.Tie as tie
 

@@ -1,38 +1,20 @@
--- `scanner::pass` meets its contract. Assumes nothing.
+-- `scanner::pass` meets its contract.
 use mathlib.Core.Path.{sym, _∙_}
 use Prim.Native.Nat.{ℕ}
 use borrow.Author.Needs.{needs}
 use borrow.Author.Tests.{eq-eqb, ne-eqb}
 use lib.Seq.{getD-drop}
-use Rattle.lexer.specs.Step.{passedAt, goesOn, stops, pastString}
+use Rattle.lexer.specs.internal.Step.{passedAt, goesOn, stops, pastString}
 use Rattle.lexer.proofs.scanner.pass.Statement.{statement}
 use Rattle.lexer.proofs.scanner.pass.Tie as tie
-
-add-byte-at : tie.Need-add-byte-at
-add-byte-at c = search needs
-
-byte-at-requires : tie.Need-byte-at-requires
-byte-at-requires c κs = search needs
-
-add-on : tie.Need-add-on
-add-on c = search needs
-
-on-requires : tie.Need-on-requires
-on-requires c κs = search needs
 
 returns : tie.Need-returns
 unfolding passedAt goesOn
 returns c = rw (eq-eqb _ _ (c .before .before .before .if1 .taken), getD-drop {A = ℕ} (c .before .before .before .before .before .args .place) (c .before .before .before .before .before .args .text .now) 1 0, eq-eqb _ _ (sym (c .before .before .byte-at .ensures) ∙ c .before .if2 .taken)) (c .on .ensures)
 
-bad-byte-requires : tie.Need-bad-byte-requires
-bad-byte-requires c κs = search needs
-
 returns-2 : tie.Need-returns-2
 unfolding passedAt stops
 returns-2 c = rw (eq-eqb _ _ (c .before .before .before .if1 .taken), getD-drop {A = ℕ} (c .before .before .before .before .before .args .place) (c .before .before .before .before .before .args .text .now) 1 0, ne-eqb _ _ (λ e. c .before .if2 .left (c .before .before .byte-at .ensures ∙ e))) (c .bad-byte .ensures)
-
-string-at-requires : tie.Need-string-at-requires
-string-at-requires c κs = search needs
 
 returns-3 : tie.Need-returns-3
 unfolding passedAt pastString
@@ -40,18 +22,9 @@ returns-3 c =
     let (number, place, next, length) = c .string-at .ensures in
     rw (ne-eqb _ _ (c .before .before .if1 .left), eq-eqb _ _ (c .before .if3 .taken)) (number, place, next)
 
-bad-byte-requires-2 : tie.Need-bad-byte-requires-2
-bad-byte-requires-2 c κs = search needs
-
 returns-4 : tie.Need-returns-4
 unfolding passedAt stops
 returns-4 c = rw (ne-eqb _ _ (c .before .before .before .if1 .left), ne-eqb _ _ (c .before .before .if3 .left), eq-eqb _ _ (c .before .if4 .taken)) (c .bad-byte2 .ensures)
-
-add-on-2 : tie.Need-add-on-2
-add-on-2 c = search needs
-
-on-requires-2 : tie.Need-on-requires-2
-on-requires-2 c κs = search needs
 
 returns-5 : tie.Need-returns-5
 unfolding passedAt goesOn
@@ -61,17 +34,17 @@ pub pass-spec : {M : Type 1} → statement M
 pass-spec =
     tie.close
     (tie.spec
-    add-byte-at
-    byte-at-requires
-    add-on
-    on-requires
+    (λ c. search needs)
+    (λ c κs. search needs)
+    (λ c. search needs)
+    (λ c κs. search needs)
     returns
-    bad-byte-requires
+    (λ c κs. search needs)
     returns-2
-    string-at-requires
+    (λ c κs. search needs)
     returns-3
-    bad-byte-requires-2
+    (λ c κs. search needs)
     returns-4
-    add-on-2
-    on-requires-2
+    (λ c. search needs)
+    (λ c κs. search needs)
     returns-5)

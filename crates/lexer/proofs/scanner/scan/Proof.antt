@@ -1,5 +1,4 @@
 -- `scanner::scan` meets its contract. The loop's invariant: what follows `i`, with the open brackets that stand in the arrays, has the whole text's answer.
--- Assumes nothing.
 use mathlib.Core.Path.{_≡_, refl, ap, sym, _∙_}
 use mathlib.Core.List.{List, []}
 use Prim.Native.Nat.{ℕ, _-_, _≤_, min}
@@ -7,7 +6,7 @@ use native.Mathlib.Omega.{arith}
 use borrow.Author.Needs.{needs}
 use borrow.Author.Tests.{not-true, not-false}
 use lib.ListN.{length, length-set}
-use Rattle.syntax.specs.Scan.{scan}
+use Rattle.syntax.specs.reference.Scan.{scan}
 use Rattle.lexer.specs.Token.{scanNumber, scanPlace}
 use Rattle.lexer.proofs.ScanWalk.{Answer, answer, answerAt, answerOf, stacked, ordinary-passed, blank-passed, passed-on, passed-fault, no-room, push, unopened, other-bracket, pop, none-open, left-open}
 use Rattle.lexer.proofs.scanner.scan.Statement.{statement}
@@ -27,48 +26,21 @@ said : (text : List ℕ) (room : ℕ) (a : Answer) {n p : ℕ} → (n ≡ a .num
 unfolding answerAt answer scan
 said text room a e f = (e .0 ∙ ap (λ (x : Answer). x .number) f, e .1 ∙ ap (λ (x : Answer). x .place) f)
 
-lesser-requires : tie.Need-lesser-requires Inv-loop μ-loop
-lesser-requires c κs = search needs
-
 loop-holds : tie.Need-loop-holds Inv-loop μ-loop
 unfolding stacked
 loop-holds c =
     let room : c .lesser .result - 0 ≡ min (c .before .before .args .room) 64 = omega (arith, c .lesser .ensures) in
     (omega arith, omega arith, refl, refl, ap (λ (n : ℕ). answerAt [] n (c .before .before .args .text .now) 0) room)
 
-shared-slice-read-byte-class : tie.Need-shared-slice-read-byte-class Inv-loop μ-loop
-shared-slice-read-byte-class c = search needs
-
-byte-class-requires : tie.Need-byte-class-requires Inv-loop μ-loop
-byte-class-requires c κs = search needs
-
-add-i : tie.Need-add-i Inv-loop μ-loop
-add-i c = search needs
-
-loop-less : tie.Need-loop-less Inv-loop μ-loop
-loop-less c = search needs
-
 loop-again : tie.Need-loop-again Inv-loop μ-loop
 loop-again c =
     let inv = c .before .before .before .before .loop .inv in
     (inv .0, inv .1, inv .2, inv .3, ordinary-passed _ _ _ _ (c .before .before .before .loop-test .taken) _ (c .before .byte-class .ensures) (c .if1 .taken) ∙ inv .4)
 
-add-i-2 : tie.Need-add-i-2 Inv-loop μ-loop
-add-i-2 c = search needs
-
-loop-less-2 : tie.Need-loop-less-2 Inv-loop μ-loop
-loop-less-2 c = search needs
-
 loop-again-2 : tie.Need-loop-again-2 Inv-loop μ-loop
 loop-again-2 c =
     let inv = c .before .before .before .before .before .loop .inv in
     (inv .0, inv .1, inv .2, inv .3, blank-passed _ _ _ _ (c .before .before .before .before .loop-test .taken) _ (c .before .before .byte-class .ensures) (c .if2 .taken) ∙ inv .4)
-
-pass-requires : tie.Need-pass-requires Inv-loop μ-loop
-pass-requires c κs = search needs
-
-answered-requires : tie.Need-answered-requires Inv-loop μ-loop
-answered-requires c κs = search needs
 
 returns : tie.Need-returns Inv-loop μ-loop
 returns c = said _ _ _ (c .answered .ensures) (sym (passed-fault _ _ _ _ (c .before .before .before .before .before .before .before .before .before .loop-test .taken) _ (c .before .before .before .before .before .before .before .byte-class .ensures) (c .before .before .before .before .if3 .taken) _ _ _ (c .before .before .before .pass .ensures .0) (c .before .before .before .pass .ensures .1) (c .before .before .before .pass .ensures .2) (c .before .if4 .taken)) ∙ c .before .before .before .before .before .before .before .before .before .before .loop .inv .4)
@@ -81,87 +53,27 @@ loop-again-3 c =
     let inv = c .before .before .before .before .before .before .before .before .before .loop .inv in
     (inv .0, inv .1, inv .2, inv .3, passed-on _ _ _ _ (c .before .before .before .before .before .before .before .before .loop-test .taken) _ (c .before .before .before .before .before .before .byte-class .ensures) (c .before .before .before .if3 .taken) _ _ _ (c .before .before .pass .ensures .0) (c .before .before .pass .ensures .1) (c .before .before .pass .ensures .2) (c .if4 .left) .1 ∙ inv .4)
 
-answered-requires-2 : tie.Need-answered-requires-2 Inv-loop μ-loop
-answered-requires-2 c κs = search needs
-
 returns-2 : tie.Need-returns-2 Inv-loop μ-loop
 returns-2 c = said _ _ _ (c .answered2 .ensures) (sym (no-room (c .before .before .before .before .before .before .before .before .before .before .lesser .result) _ _ _ _ _ (c .before .before .before .before .before .before .before .before .loop-test .taken) _ (c .before .before .before .before .before .before .byte-class .ensures) (c .before .before .before .if3 .left) (c .before .before .if5 .taken) (c .before .if6 .taken)) ∙ c .before .before .before .before .before .before .before .before .before .loop .inv .4)
-
-array-write-brackets : tie.Need-array-write-brackets Inv-loop μ-loop
-array-write-brackets c = search needs
-
-mul-places : tie.Need-mul-places Inv-loop μ-loop
-mul-places c = search needs
-
-array-write-places : tie.Need-array-write-places Inv-loop μ-loop
-array-write-places c = search needs
-
-add-depth : tie.Need-add-depth Inv-loop μ-loop
-add-depth c = search needs
-
-add-i-3 : tie.Need-add-i-3 Inv-loop μ-loop
-add-i-3 c = search needs
-
-loop-less-4 : tie.Need-loop-less-4 Inv-loop μ-loop
-loop-less-4 c = search needs
 
 loop-again-4 : tie.Need-loop-again-4 Inv-loop μ-loop
 loop-again-4 c =
     let inv = c .before .before .before .before .before .before .before .before .loop .inv in
     (inv .0, omega arith, simp length-set (inv .2), simp length-set (inv .3), push (c .before .before .before .before .before .before .before .before .before .lesser .result) _ _ _ _ _ (c .before .before .before .before .before .before .before .loop-test .taken) _ (c .before .before .before .before .before .byte-class .ensures) (c .before .before .if3 .left) (c .before .if5 .taken) (c .if6 .left) (omega arith) (omega arith) ∙ inv .4)
 
-answered-requires-3 : tie.Need-answered-requires-3 Inv-loop μ-loop
-answered-requires-3 c κs = search needs
-
 returns-3 : tie.Need-returns-3 Inv-loop μ-loop
 returns-3 c = said _ _ _ (c .answered3 .ensures) (sym (unopened (c .before .before .before .before .before .before .before .before .before .before .lesser .result) _ _ _ _ _ (c .before .before .before .before .before .before .before .before .loop-test .taken) _ (c .before .before .before .before .before .before .byte-class .ensures) (c .before .before .if5 .left) (c .before .if7 .taken)) ∙ c .before .before .before .before .before .before .before .before .before .loop .inv .4)
 
-sub-closes : tie.Need-sub-closes Inv-loop μ-loop
-sub-closes c = search needs
-
-array-read-closes : tie.Need-array-read-closes Inv-loop μ-loop
-array-read-closes c = search needs
-
-closes-requires : tie.Need-closes-requires Inv-loop μ-loop
-closes-requires c κs = search needs
-
-answered-requires-4 : tie.Need-answered-requires-4 Inv-loop μ-loop
-answered-requires-4 c κs = search needs
-
 returns-4 : tie.Need-returns-4 Inv-loop μ-loop
 returns-4 c = said _ _ _ (c .answered4 .ensures) (sym (other-bracket (c .before .before .before .before .before .before .before .before .before .before .before .before .lesser .result) _ _ _ _ _ (c .before .before .before .before .before .before .before .before .before .before .loop-test .taken) _ (c .before .before .before .before .before .before .before .before .byte-class .ensures) (c .before .before .before .before .if5 .left) (c .before .before .before .if7 .left) (sym (c .before .before .closes .ensures) ∙ not-true (c .before .before .closes .result) (c .before .if8 .taken))) ∙ c .before .before .before .before .before .before .before .before .before .before .before .loop .inv .4)
-
-sub-depth : tie.Need-sub-depth Inv-loop μ-loop
-sub-depth c = search needs
-
-add-i-4 : tie.Need-add-i-4 Inv-loop μ-loop
-add-i-4 c = search needs
-
-loop-less-5 : tie.Need-loop-less-5 Inv-loop μ-loop
-loop-less-5 c = search needs
 
 loop-again-5 : tie.Need-loop-again-5 Inv-loop μ-loop
 loop-again-5 c =
     let inv = c .before .before .before .before .before .before .before .before .before .before .loop .inv in
     (inv .0, omega arith, inv .2, inv .3, pop (c .before .before .before .before .before .before .before .before .before .before .before .lesser .result) _ _ _ _ _ (c .before .before .before .before .before .before .before .before .before .loop-test .taken) _ (c .before .before .before .before .before .before .before .byte-class .ensures) (c .before .before .before .if5 .left) (c .before .before .if7 .left) (inv .1) (sym (c .before .closes .ensures) ∙ not-false (c .before .closes .result) (c .if8 .left)) ∙ inv .4)
 
-answered-requires-5 : tie.Need-answered-requires-5 Inv-loop μ-loop
-answered-requires-5 c κs = search needs
-
 returns-5 : tie.Need-returns-5 Inv-loop μ-loop
 returns-5 c = said _ _ _ (c .answered5 .ensures) (sym (none-open (c .before .before .before .before .lesser .result) _ _ _ _ _ (c .before .before .loop-test .left) (c .before .if9 .taken)) ∙ c .before .before .before .loop .inv .4)
-
-sub-answered : tie.Need-sub-answered Inv-loop μ-loop
-sub-answered c = search needs
-
-mul-answered : tie.Need-mul-answered Inv-loop μ-loop
-mul-answered c = search needs
-
-array-read-answered : tie.Need-array-read-answered Inv-loop μ-loop
-array-read-answered c = search needs
-
-answered-requires-6 : tie.Need-answered-requires-6 Inv-loop μ-loop
-answered-requires-6 c κs = search needs
 
 returns-6 : tie.Need-returns-6 Inv-loop μ-loop
 returns-6 c = said _ _ _ (c .answered6 .ensures) (sym (left-open (c .before .before .before .before .lesser .result) _ _ _ _ _ (c .before .before .loop-test .left) (c .before .if9 .left)) ∙ c .before .before .before .loop .inv .4)
@@ -172,45 +84,45 @@ scan-spec =
     (tie.spec
     Inv-loop
     μ-loop
-    lesser-requires
+    (λ c κs. search needs)
     loop-holds
-    shared-slice-read-byte-class
-    byte-class-requires
-    add-i
-    loop-less
+    (λ c. search needs)
+    (λ c κs. search needs)
+    (λ c. search needs)
+    (λ c. search needs)
     loop-again
-    add-i-2
-    loop-less-2
+    (λ c. search needs)
+    (λ c. search needs)
     loop-again-2
-    pass-requires
-    answered-requires
+    (λ c κs. search needs)
+    (λ c κs. search needs)
     returns
     loop-less-3
     loop-again-3
-    answered-requires-2
+    (λ c κs. search needs)
     returns-2
-    array-write-brackets
-    mul-places
-    array-write-places
-    add-depth
-    add-i-3
-    loop-less-4
+    (λ c. search needs)
+    (λ c. search needs)
+    (λ c. search needs)
+    (λ c. search needs)
+    (λ c. search needs)
+    (λ c. search needs)
     loop-again-4
-    answered-requires-3
+    (λ c κs. search needs)
     returns-3
-    sub-closes
-    array-read-closes
-    closes-requires
-    answered-requires-4
+    (λ c. search needs)
+    (λ c. search needs)
+    (λ c κs. search needs)
+    (λ c κs. search needs)
     returns-4
-    sub-depth
-    add-i-4
-    loop-less-5
+    (λ c. search needs)
+    (λ c. search needs)
+    (λ c. search needs)
     loop-again-5
-    answered-requires-5
+    (λ c κs. search needs)
     returns-5
-    sub-answered
-    mul-answered
-    array-read-answered
-    answered-requires-6
+    (λ c. search needs)
+    (λ c. search needs)
+    (λ c. search needs)
+    (λ c κs. search needs)
     returns-6)

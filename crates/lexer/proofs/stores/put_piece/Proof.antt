@@ -1,40 +1,16 @@
--- `stores::put_piece` meets its contract. Assumes nothing.
+-- `stores::put_piece` meets its contract.
 use borrow.Author.Needs.{needs}
 use Rattle.lexer.proofs.Written.{put-one, put-two, put-three}
 use Rattle.lexer.proofs.stores.put_piece.Statement.{statement}
 use Rattle.lexer.proofs.stores.put_piece.Tie as tie
 
-store-requires : tie.Need-store-requires
-store-requires c κs = search needs
-
-same-length : tie.Need-same-length
-same-length c = search needs
-
 returns : tie.Need-returns
 returns c = put-one (c .before .before .before .before .before .before .before .args .out .now) (c .before .before .before .before .before .before .before .args .at) (c .before .before .before .before .before .before .before .args .k) (c .before .before .before .before .before .before .before .args .p .size) (c .before .before .before .before .before .before .before .args .p .first) (c .before .before .before .before .before .before .before .args .p .second) (c .before .before .before .before .before .before .before .args .p .third) (c .before .before .before .before .store .last .0) (c .if1 .taken) (c .before .before .before .before .store .ensures)
-
-add-store : tie.Need-add-store
-add-store c = search needs
-
-store-requires-2 : tie.Need-store-requires-2
-store-requires-2 c κs = search needs
-
-same-length-2 : tie.Need-same-length-2
-same-length-2 c = search needs
 
 returns-2 : tie.Need-returns-2
 returns-2 c =
     put-two (c .before .before .before .before .before .before .before .before .before .before .before .before .before .args .out .now) (c .before .before .before .before .before .before .before .before .before .before .before .before .before .args .at) (c .before .before .before .before .before .before .before .before .before .before .before .before .before .args .k) (c .before .before .before .before .before .before .before .before .before .before .before .before .before .args .p .size) (c .before .before .before .before .before .before .before .before .before .before .before .before .before .args .p .first) (c .before .before .before .before .before .before .before .before .before .before .before .before .before .args .p .second) (c .before .before .before .before .before .before .before .before .before .before .before .before .before .args .p .third)
     (c .before .before .before .before .before .before .before .before .before .before .store .last .0) (c .before .before .before .before .store2 .last .0) (c .before .before .before .before .before .before .if1 .left) (c .if2 .taken) (c .before .before .before .before .before .before .before .before .before .before .store .ensures) (c .before .before .before .before .store2 .ensures)
-
-add-store-2 : tie.Need-add-store-2
-add-store-2 c = search needs
-
-store-requires-3 : tie.Need-store-requires-3
-store-requires-3 c κs = search needs
-
-same-length-3 : tie.Need-same-length-3
-same-length-3 c = search needs
 
 returns-3 : tie.Need-returns-3
 returns-3 c =
@@ -45,14 +21,14 @@ pub put-piece-spec : {M : Type 1} → statement M
 put-piece-spec =
     tie.close
     (tie.spec
-    store-requires
-    same-length
+    (λ c κs. search needs)
+    (λ c. search needs)
     returns
-    add-store
-    store-requires-2
-    same-length-2
+    (λ c. search needs)
+    (λ c κs. search needs)
+    (λ c. search needs)
     returns-2
-    add-store-2
-    store-requires-3
-    same-length-3
+    (λ c. search needs)
+    (λ c κs. search needs)
+    (λ c. search needs)
     returns-3)

@@ -1,4 +1,4 @@
--- `stores::put_runs` meets its contract. The loop's invariant is `Content`. Assumes nothing.
+-- `stores::put_runs` meets its contract. The loop's invariant is `Content`.
 use mathlib.Core.Path.{_≡_, refl, sym, _∙_}
 use Prim.Native.Nat.{_-_, _+_, _<_}
 use native.Mathlib.Omega.{arith}
@@ -20,22 +20,10 @@ add-i c = omega (arith, string-inside (c .before .before .args .text .now) (c .b
 loop-holds : tie.Need-loop-holds Inv-loop μ-loop
 loop-holds c = (refl, content-start (c .before .before .args .text .now) (c .before .before .args .place) _ refl (c .before .before .pre) (c .before .before .args .out .now) (c .before .before .args .at))
 
-plain-end-requires : tie.Need-plain-end-requires Inv-loop μ-loop
-plain-end-requires c κs = search needs
-
-sub-put-run : tie.Need-sub-put-run Inv-loop μ-loop
-sub-put-run c = search needs
-
-part-put-run-start : tie.Need-part-put-run-start Inv-loop μ-loop
-part-put-run-start c = search needs
-
 part-put-run-end : tie.Need-part-put-run-end Inv-loop μ-loop
 part-put-run-end c =
     let over = quoted-over (c .before .before .before .before .before .args .text .now) (c .before .before .loop .i) (c .before .before .loop .inv .1 .ends) (c .before .plain-end .result) (c .before .plain-end .ensures) in
     omega (arith, quoted-inside (c .before .before .before .before .before .args .text .now) (c .before .plain-end .result) (over .0))
-
-put-run-requires : tie.Need-put-run-requires Inv-loop μ-loop
-put-run-requires c κs = search needs
 
 -- With the run written.
 after-run : (c : tie.After-slice-known2 Inv-loop μ-loop)
@@ -49,23 +37,11 @@ after-run c =
     let end = c .before .before .before .before .before .plain-end in
     content-run (args .text .now) (args .place) (args .out .now) (args .at) (loop .out) (loop .i) (loop .k) (loop .inv .1) _ (end .result) (end .ensures) (c .before .before .put-run .ensures)
 
-sub-k : tie.Need-sub-k Inv-loop μ-loop
-sub-k c = search needs
-
 add-k : tie.Need-add-k Inv-loop μ-loop
 add-k c = omega (arith, after-run c .fits)
 
-byte-at-requires : tie.Need-byte-at-requires Inv-loop μ-loop
-byte-at-requires c κs = search needs
-
-same-length : tie.Need-same-length Inv-loop μ-loop
-same-length c = search needs
-
 returns : tie.Need-returns Inv-loop μ-loop
 returns c = content-done (c .before .before .before .before .before .before .before .before .before .before .before .args .text .now) (c .before .before .before .before .before .before .before .before .before .before .before .args .place) (c .before .before .before .before .before .before .before .before .before .before .before .args .out .now) (c .before .before .before .before .before .before .before .before .before .before .before .args .at) _ _ _ (after-run (c .before .before)) (sym (c .before .byte-at .ensures) ∙ c .if1 .taken)
-
-piece-requires : tie.Need-piece-requires Inv-loop μ-loop
-piece-requires c κs = search needs
 
 put-piece-requires : tie.Need-put-piece-requires Inv-loop μ-loop
 put-piece-requires c κs = omega (arith, after-run (c .before .before .before .before) .fits, quoted-inside (c .before .before .before .before .before .before .before .before .before .before .before .before .before .args .text .now) (c .before .before .before .before .before .before .before .before .before .plain-end .result) (after-run (c .before .before .before .before) .ends))
@@ -106,17 +82,17 @@ put-runs-spec =
     μ-loop
     add-i
     loop-holds
-    plain-end-requires
-    sub-put-run
-    part-put-run-start
+    (λ c κs. search needs)
+    (λ c. search needs)
+    (λ c. search needs)
     part-put-run-end
-    put-run-requires
-    sub-k
+    (λ c κs. search needs)
+    (λ c. search needs)
     add-k
-    byte-at-requires
-    same-length
+    (λ c κs. search needs)
+    (λ c. search needs)
     returns
-    piece-requires
+    (λ c κs. search needs)
     put-piece-requires
     add-k-2
     loop-less

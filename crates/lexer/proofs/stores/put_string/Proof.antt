@@ -1,4 +1,4 @@
--- `stores::put_string` meets its contract. Assumes nothing.
+-- `stores::put_string` meets its contract.
 use mathlib.Core.Path.{refl, sym, _∙_}
 use Prim.Native.Nat.{_-_, _+_, _≤_}
 use native.Mathlib.Nat.{add-zero}
@@ -10,9 +10,6 @@ use Rattle.lexer.proofs.Contents.{fault-nothing, string-inside}
 use Rattle.lexer.proofs.Unescaped.{string-span, Between, unescaped}
 use Rattle.lexer.proofs.stores.put_string.Statement.{statement}
 use Rattle.lexer.proofs.stores.put_string.Tie as tie
-
-string-at-requires : tie.Need-string-at-requires
-string-at-requires c κs = search needs
 
 returns : tie.Need-returns
 returns c = rw (fault-nothing (c .before .before .before .before .before .args .text .now) (c .before .before .before .before .before .args .place) (c .before .before .string-at .result .number) (c .before .before .string-at .ensures .0) (c .if1 .taken)) (refl, refl)
@@ -52,14 +49,8 @@ part-put-run-start c = omega (arith, span (c .before .before .before .before))
 part-put-run-end : tie.Need-part-put-run-end
 part-put-run-end c = between (c .before) .within
 
-put-run-requires : tie.Need-put-run-requires
-put-run-requires c κs = search needs
-
 sub-result : tie.Need-sub-result
 sub-result c = omega (arith, span (c .before .before .before .before .before .before .before .before))
-
-same-length : tie.Need-same-length
-same-length c = search needs
 
 returns-2 : tie.Need-returns-2
 returns-2 c =
@@ -73,17 +64,11 @@ returns-2 c =
 put-runs-requires : tie.Need-put-runs-requires
 put-runs-requires c κs = sym (c .before .before .before .before .before .before .string-at .ensures .0) ∙ c .before .before .before .before .if1 .left
 
-same-length-2 : tie.Need-same-length-2
-same-length-2 c = search needs
-
-returns-3 : tie.Need-returns-3
-returns-3 c = search needs
-
 pub put-string-spec : {M : Type 1} → statement M
 put-string-spec =
     tie.close
     (tie.spec
-    string-at-requires
+    (λ c κs. search needs)
     returns
     add-from
     sub-end
@@ -91,10 +76,10 @@ put-string-spec =
     sub-put-run
     part-put-run-start
     part-put-run-end
-    put-run-requires
+    (λ c κs. search needs)
     sub-result
-    same-length
+    (λ c. search needs)
     returns-2
     put-runs-requires
-    same-length-2
-    returns-3)
+    (λ c. search needs)
+    (λ c. search needs))

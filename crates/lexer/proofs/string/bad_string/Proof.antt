@@ -1,6 +1,6 @@
--- `string::bad_string` meets its contract. Assumes nothing.
+-- `string::bad_string` meets its contract.
 use mathlib.Core.Path.{refl}
-use Rattle.lexer.specs.Step.{badString}
+use Rattle.lexer.specs.internal.Step.{badString}
 use Rattle.lexer.proofs.string.bad_string.Statement.{statement}
 use Rattle.lexer.proofs.string.bad_string.Tie as tie
 

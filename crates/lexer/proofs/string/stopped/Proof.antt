@@ -1,40 +1,25 @@
--- `string::stopped` meets its contract. Assumes nothing.
+-- `string::stopped` meets its contract.
 use mathlib.Core.Path.{refl}
 use Prim.Native.Nat.{ℕ}
 use borrow.Author.Needs.{needs}
 use borrow.Author.Tests.{eq-eqb, ne-eqb}
 use lib.ListN.{drop-of-length-le}
 use lib.Seq.{drop-cons}
-use Rattle.lexer.specs.Step.{stoppedAt}
+use Rattle.lexer.specs.internal.Step.{stoppedAt}
 use Rattle.lexer.proofs.string.stopped.Statement.{statement}
 use Rattle.lexer.proofs.string.stopped.Tie as tie
-
-bad-string-requires : tie.Need-bad-string-requires
-bad-string-requires c κs = search needs
 
 returns : tie.Need-returns
 unfolding stoppedAt
 returns c = rw (drop-of-length-le _ (c .before .if1 .taken)) (c .bad-string .ensures)
 
-shared-slice-read-if2 : tie.Need-shared-slice-read-if2
-shared-slice-read-if2 c = search needs
-
-bad-string-requires-2 : tie.Need-bad-string-requires-2
-bad-string-requires-2 c κs = search needs
-
 returns-2 : tie.Need-returns-2
 unfolding stoppedAt
 returns-2 c = rw (drop-cons {A = ℕ} _ _ 0 (c .before .before .before .if1 .left), ne-eqb _ _ (c .before .if2 .taken)) (c .bad-string2 .ensures)
 
-bad-string-requires-3 : tie.Need-bad-string-requires-3
-bad-string-requires-3 c κs = search needs
-
 returns-3 : tie.Need-returns-3
 unfolding stoppedAt
 returns-3 c = rw (drop-cons {A = ℕ} _ _ 0 (c .before .before .before .before .if1 .left), eq-eqb _ _ (c .before .before .if2 .left), eq-eqb _ _ (c .before .if3 .taken)) (c .bad-string3 .ensures)
-
-add-t5 : tie.Need-add-t5
-add-t5 c = search needs
 
 returns-4 : tie.Need-returns-4
 unfolding stoppedAt
@@ -44,12 +29,12 @@ pub stopped-spec : {M : Type 1} → statement M
 stopped-spec =
     tie.close
     (tie.spec
-    bad-string-requires
+    (λ c κs. search needs)
     returns
-    shared-slice-read-if2
-    bad-string-requires-2
+    (λ c. search needs)
+    (λ c κs. search needs)
     returns-2
-    bad-string-requires-3
+    (λ c κs. search needs)
     returns-3
-    add-t5
+    (λ c. search needs)
     returns-4)

@@ -1,10 +1,10 @@
--- `string::string_at` meets its contract. The loop's invariant: what follows `i` finishes the string with the answer. Assumes nothing.
+-- `string::string_at` meets its contract. The loop's invariant: what follows `i` finishes the string with the answer.
 use mathlib.Core.Path.{_≡_, sym, _∙_}
 use Prim.Native.Nat.{_+_, _-_, _≤_}
 use native.Mathlib.Omega.{arith}
 use borrow.Author.Needs.{needs}
 use lib.ListN.{drop}
-use Rattle.syntax.specs.Scan.{quotedFrom}
+use Rattle.syntax.specs.reference.Scan.{quotedFrom}
 use Rattle.lexer.specs.Token.{stringAt}
 use Rattle.lexer.proofs.StringWalk.{finish, Turned, walk, at-start, past-end, RunEnd, run-end, escape-inside, run-stopped, run-bad}
 use Rattle.lexer.proofs.string.string_at.Statement.{statement}
@@ -16,20 +16,11 @@ Inv-loop text place i₀ length₀ i length = (length ≤ i) × (finish place i 
 abbrev μ-loop : tie.MeasureT-loop
 μ-loop text place i₀ length₀ i length = lib.ListN.length text - i
 
-bad-string-requires : tie.Need-bad-string-requires Inv-loop μ-loop
-bad-string-requires c κs = search needs
-
 returns : tie.Need-returns Inv-loop μ-loop
 returns c = rw (past-end (c .before .before .before .args .text .now) _ (c .before .if1 .taken)) at (c .bad-string .ensures)
 
-add-i : tie.Need-add-i Inv-loop μ-loop
-add-i c = search needs
-
 loop-holds : tie.Need-loop-holds Inv-loop μ-loop
 loop-holds c = (omega arith, at-start _ _)
-
-plain-end-requires : tie.Need-plain-end-requires Inv-loop μ-loop
-plain-end-requires c κs = search needs
 
 -- After a run.
 ended : (c : tie.After-byte-at Inv-loop μ-loop)
@@ -42,26 +33,8 @@ ended c =
     let args = c .before .before .before .before .before .args in
     run-end (args .text .now) (args .place) (loop .i) (loop .length) (c .before .plain-end .result) _ (c .before .plain-end .ensures) (loop .inv .1)
 
-sub-length : tie.Need-sub-length Inv-loop μ-loop
-sub-length c = search needs
-
-add-length : tie.Need-add-length Inv-loop μ-loop
-add-length c = search needs
-
-byte-at-requires : tie.Need-byte-at-requires Inv-loop μ-loop
-byte-at-requires c κs = search needs
-
-stopped-requires : tie.Need-stopped-requires Inv-loop μ-loop
-stopped-requires c κs = search needs
-
 returns-2 : tie.Need-returns-2 Inv-loop μ-loop
 returns-2 c = rw (run-stopped (ended (c .before .before)) (λ e. c .before .if2 .taken (c .before .before .byte-at .ensures ∙ e))) at (c .stopped .ensures)
-
-piece-requires : tie.Need-piece-requires Inv-loop μ-loop
-piece-requires c κs = search needs
-
-bad-string-requires-2 : tie.Need-bad-string-requires-2 Inv-loop μ-loop
-bad-string-requires-2 c κs = search needs
 
 returns-3 : tie.Need-returns-3 Inv-loop μ-loop
 returns-3 c =
@@ -96,18 +69,18 @@ string-at-spec =
     (tie.spec
     Inv-loop
     μ-loop
-    bad-string-requires
+    (λ c κs. search needs)
     returns
-    add-i
+    (λ c. search needs)
     loop-holds
-    plain-end-requires
-    sub-length
-    add-length
-    byte-at-requires
-    stopped-requires
+    (λ c κs. search needs)
+    (λ c. search needs)
+    (λ c. search needs)
+    (λ c κs. search needs)
+    (λ c κs. search needs)
     returns-2
-    piece-requires
-    bad-string-requires-2
+    (λ c κs. search needs)
+    (λ c κs. search needs)
     returns-3
     add-length-2
     loop-less

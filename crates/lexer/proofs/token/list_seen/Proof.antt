@@ -1,4 +1,4 @@
--- `token::list_seen` meets its contract. Assumes nothing.
+-- `token::list_seen` meets its contract.
 use mathlib.Core.Path.{refl}
 use Prim.Native.Nat.{_+_}
 use native.Mathlib.Omega.{arith}
@@ -7,26 +7,8 @@ use Rattle.lexer.proofs.Looks.{name-fits, name-class, name-end}
 use Rattle.lexer.proofs.token.list_seen.Statement.{statement}
 use Rattle.lexer.proofs.token.list_seen.Tie as tie
 
-add-skip-blanks : tie.Need-add-skip-blanks
-add-skip-blanks c = search needs
-
-skip-blanks-requires : tie.Need-skip-blanks-requires
-skip-blanks-requires c κs = search needs
-
-symbol-end-requires : tie.Need-symbol-end-requires
-symbol-end-requires c κs = search needs
-
-sub-class-of : tie.Need-sub-class-of
-sub-class-of c = search needs
-
-part-class-of-start : tie.Need-part-class-of-start
-part-class-of-start c = search needs
-
 part-class-of-end : tie.Need-part-class-of-end
 part-class-of-end c = omega (arith, name-fits (c .before .before .before .args .text .now) (c .before .before .before .args .place + 1) (c .before .skip-blanks .result) (c .symbol-end .result) (c .before .skip-blanks .ensures) (c .symbol-end .ensures) (omega arith))
-
-class-of-requires : tie.Need-class-of-requires
-class-of-requires c κs = search needs
 
 returns : tie.Need-returns
 returns c =
@@ -36,11 +18,11 @@ pub list-seen-spec : {M : Type 1} → statement M
 list-seen-spec =
     tie.close
     (tie.spec
-    add-skip-blanks
-    skip-blanks-requires
-    symbol-end-requires
-    sub-class-of
-    part-class-of-start
+    (λ c. search needs)
+    (λ c κs. search needs)
+    (λ c κs. search needs)
+    (λ c. search needs)
+    (λ c. search needs)
     part-class-of-end
-    class-of-requires
+    (λ c κs. search needs)
     returns)

@@ -1,4 +1,4 @@
--- `token::skip_blanks` meets its contract. The loop's invariant: what is left of the white space from `at` on ends where the whole does. Assumes nothing.
+-- `token::skip_blanks` meets its contract. The loop's invariant: what is left of the white space from `at` on ends where the whole does.
 use mathlib.Core.Path.{_≡_, refl, _∙_}
 use mathlib.Core.Logic.{⊎-elim}
 use Prim.Native.Nat.{_+_, _-_}
@@ -20,9 +20,6 @@ abbrev μ-loop : tie.MeasureT-loop
 loop-holds : tie.Need-loop-holds Inv-loop μ-loop
 loop-holds c = refl
 
-shared-slice-read-b : tie.Need-shared-slice-read-b Inv-loop μ-loop
-shared-slice-read-b c = search needs
-
 returns : tie.Need-returns Inv-loop μ-loop
 returns c =
     let args = c .before .before .before .before .before .args in
@@ -30,21 +27,12 @@ returns c =
     let not-blank = above-space _ (c .if1 .taken) in
     omega (arith, blank-stop (args .text .now) (loop .at) _ (c .before .before .loop-test .taken) refl (λ f. omega arith) (λ f. omega arith), loop .inv)
 
-byte-class-requires : tie.Need-byte-class-requires Inv-loop μ-loop
-byte-class-requires c κs = search needs
-
 returns-2 : tie.Need-returns-2 Inv-loop μ-loop
 returns-2 c =
     let args = c .before .before .before .before .before .before .before .before .args in
     let loop = c .before .before .before .before .before .before .loop in
     let class = c .before .before .byte-class in
     omega (arith, blank-stop (args .text .now) (loop .at) (class .result) (c .before .before .before .before .before .loop-test .taken) (class .ensures) (c .before .if2 .taken) (c .if3 .taken), loop .inv)
-
-add-byte-at : tie.Need-add-byte-at Inv-loop μ-loop
-add-byte-at c = search needs
-
-byte-at-requires : tie.Need-byte-at-requires Inv-loop μ-loop
-byte-at-requires c κs = search needs
 
 returns-3 : tie.Need-returns-3 Inv-loop μ-loop
 returns-3 c =
@@ -55,12 +43,6 @@ returns-3 c =
     let if2 = c .before .before .before .if2 in
     let next = c .before .byte-at in
     omega (arith, return-stop (args .text .now) (loop .at) (class .result) (loop-test .taken) (class .ensures) (next .result) (if2 .taken) (c .before .before .if3 .left) (next .ensures) (c .if4 .taken), loop .inv)
-
-add-at : tie.Need-add-at Inv-loop μ-loop
-add-at c = search needs
-
-loop-less : tie.Need-loop-less Inv-loop μ-loop
-loop-less c = search needs
 
 loop-again : tie.Need-loop-again Inv-loop μ-loop
 loop-again c =
@@ -83,14 +65,14 @@ skip-blanks-spec =
     Inv-loop
     μ-loop
     loop-holds
-    shared-slice-read-b
+    (λ c. search needs)
     returns
-    byte-class-requires
+    (λ c κs. search needs)
     returns-2
-    add-byte-at
-    byte-at-requires
+    (λ c. search needs)
+    (λ c κs. search needs)
     returns-3
-    add-at
-    loop-less
+    (λ c. search needs)
+    (λ c. search needs)
     loop-again
     returns-4)

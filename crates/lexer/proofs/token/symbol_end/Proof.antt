@@ -1,10 +1,10 @@
--- `token::symbol_end` meets its contract. The loop's invariant: what is left of the symbol from `i` on ends where the whole does. Assumes nothing.
+-- `token::symbol_end` meets its contract. The loop's invariant: what is left of the symbol from `i` on ends where the whole does.
 use mathlib.Core.Path.{_≡_, refl, ap}
 use Prim.Native.Nat.{_+_, _-_}
 use native.Mathlib.Omega.{arith}
 use borrow.Author.Needs.{needs}
 use lib.ListN.{length, drop, drop-of-length-le}
-use Rattle.syntax.specs.Scan.{ordinaryRun}
+use Rattle.syntax.specs.reference.Scan.{ordinaryRun}
 use Rattle.lexer.proofs.Blanks.{run-turn, run-stop}
 use Rattle.lexer.proofs.Codes.{ordinary-yes, ordinary-no}
 use Rattle.lexer.proofs.token.symbol_end.Statement.{statement}
@@ -19,20 +19,8 @@ abbrev μ-loop : tie.MeasureT-loop
 loop-holds : tie.Need-loop-holds Inv-loop μ-loop
 loop-holds c = refl
 
-shared-slice-read-byte-class : tie.Need-shared-slice-read-byte-class Inv-loop μ-loop
-shared-slice-read-byte-class c = search needs
-
-byte-class-requires : tie.Need-byte-class-requires Inv-loop μ-loop
-byte-class-requires c κs = search needs
-
 returns : tie.Need-returns Inv-loop μ-loop
 returns c = omega (arith, ap length (run-stop (c .before .before .before .before .before .before .args .text .now) (c .before .before .before .before .loop .i) (c .before .before .before .loop-test .taken) (ordinary-no _ _ (c .before .byte-class .ensures) (c .if1 .taken))), c .before .before .before .before .loop .inv)
-
-add-i : tie.Need-add-i Inv-loop μ-loop
-add-i c = search needs
-
-loop-less : tie.Need-loop-less Inv-loop μ-loop
-loop-less c = search needs
 
 loop-again : tie.Need-loop-again Inv-loop μ-loop
 loop-again c = omega (arith, ap length (run-turn (c .before .before .before .before .before .before .args .text .now) (c .before .before .before .before .loop .i) (c .before .before .before .loop-test .taken) (ordinary-yes _ _ (c .before .byte-class .ensures) (c .if1 .left))), c .before .before .before .before .loop .inv)
@@ -48,10 +36,10 @@ symbol-end-spec =
     Inv-loop
     μ-loop
     loop-holds
-    shared-slice-read-byte-class
-    byte-class-requires
+    (λ c. search needs)
+    (λ c κs. search needs)
     returns
-    add-i
-    loop-less
+    (λ c. search needs)
+    (λ c. search needs)
     loop-again
     returns-2)

@@ -1,19 +1,13 @@
--- `put::digit` meets its contract. Assumes nothing.
+-- `put::digit` meets its contract.
 use mathlib.Core.Path.{refl}
-use Rattle.document.specs.Canonical.{digit}
+use Rattle.document.specs.rules.Canonical.{digit}
 use borrow.Author.Needs.{needs}
 use Rattle.printer.proofs.put.digit.Statement.{statement}
 use Rattle.printer.proofs.put.digit.Tie as tie
-
-cast-result : tie.Need-cast-result
-cast-result c = search needs
-
-add-result : tie.Need-add-result
-add-result c = search needs
 
 returns : tie.Need-returns
 unfolding digit
 returns c = refl
 
 pub digit-spec : {M : Type 1} → statement M
-digit-spec = tie.close (tie.spec cast-result add-result returns)
+digit-spec = tie.close (tie.spec (λ c. search needs) (λ c. search needs) returns)

@@ -1,4 +1,4 @@
--- `put::is_coded` meets its contract. Assumes nothing.
+-- `put::is_coded` meets its contract.
 use borrow.Author.Tests.{eq-eqb, ne-eqb, lt-ltb, le-ltb}
 use Rattle.printer.proofs.put.is_coded.Statement.{statement}
 use Rattle.printer.proofs.put.is_coded.Tie as tie

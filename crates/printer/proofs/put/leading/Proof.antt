@@ -1,6 +1,6 @@
--- `put::leading` meets its contract. Assumes nothing.
+-- `put::leading` meets its contract.
 use borrow.Author.Tests.{lt-ltb, le-ltb}
-use Rattle.printer.specs.Pieces.{leadingOf}
+use Rattle.printer.specs.internal.Pieces.{leadingOf}
 use Rattle.printer.proofs.put.leading.Statement.{statement}
 use Rattle.printer.proofs.put.leading.Tie as tie
 

@@ -1,6 +1,6 @@
--- `put::letter` meets its contract. Assumes nothing.
+-- `put::letter` meets its contract.
 use borrow.Author.Tests.{eq-eqb, ne-eqb}
-use Rattle.printer.specs.Pieces.{letterOf}
+use Rattle.printer.specs.internal.Pieces.{letterOf}
 use Rattle.printer.proofs.put.letter.Statement.{statement}
 use Rattle.printer.proofs.put.letter.Tie as tie
 

@@ -1,21 +1,9 @@
--- `put::put_byte` meets its contract. Assumes nothing.
+-- `put::put_byte` meets its contract.
 use Rattle.printer.proofs.Adding.{adds-as}
 use Rattle.printer.proofs.Pieces.{byte-lettered, byte-coded, byte-raw}
 use borrow.Author.Needs.{needs}
 use Rattle.printer.proofs.put.put_byte.Statement.{statement}
 use Rattle.printer.proofs.put.put_byte.Tie as tie
-
-letter-requires : tie.Need-letter-requires
-letter-requires c κs = search needs
-
-slice-aggregate-put-bytes : tie.Need-slice-aggregate-put-bytes
-slice-aggregate-put-bytes c = search needs
-
-put-bytes-requires : tie.Need-put-bytes-requires
-put-bytes-requires c κs = search needs
-
-same-length : tie.Need-same-length
-same-length c = search needs
 
 returns : tie.Need-returns
 returns c =
@@ -23,24 +11,6 @@ returns c =
     let letter = c .before .before .before .before .before .before .letter in
     let if1 = c .before .before .before .before .before .if1 in
     adds-as (byte-lettered (args .b) (letter .result) (letter .ensures) (if1 .taken)) (c .before .before .put-bytes .ensures)
-
-is-coded-requires : tie.Need-is-coded-requires
-is-coded-requires c κs = search needs
-
-hex-requires : tie.Need-hex-requires
-hex-requires c κs = search needs
-
-hex-requires-2 : tie.Need-hex-requires-2
-hex-requires-2 c κs = search needs
-
-slice-aggregate-put-bytes-2 : tie.Need-slice-aggregate-put-bytes-2
-slice-aggregate-put-bytes-2 c = search needs
-
-put-bytes-requires-2 : tie.Need-put-bytes-requires-2
-put-bytes-requires-2 c κs = search needs
-
-same-length-2 : tie.Need-same-length-2
-same-length-2 c = search needs
 
 returns-2 : tie.Need-returns-2
 returns-2 c =
@@ -52,12 +22,6 @@ returns-2 c =
     let hex = c .before .before .before .before .before .before .hex in
     let hex2 = c .before .before .before .before .before .hex2 in
     adds-as (byte-coded (args .b) (letter .result) (letter .ensures) (if1 .left) (is-coded .result) (is-coded .ensures) (if2 .taken) (hex .result) (hex2 .result) (hex .ensures) (hex2 .ensures)) (c .before .before .put-bytes2 .ensures)
-
-put-requires : tie.Need-put-requires
-put-requires c κs = search needs
-
-same-length-3 : tie.Need-same-length-3
-same-length-3 c = search needs
 
 returns-3 : tie.Need-returns-3
 returns-3 c =
@@ -71,18 +35,18 @@ pub put-byte-spec : {M : Type 1} → statement M
 put-byte-spec =
     tie.close
     (tie.spec
-    letter-requires
-    slice-aggregate-put-bytes
-    put-bytes-requires
-    same-length
+    (λ c κs. search needs)
+    (λ c. search needs)
+    (λ c κs. search needs)
+    (λ c. search needs)
     returns
-    is-coded-requires
-    hex-requires
-    hex-requires-2
-    slice-aggregate-put-bytes-2
-    put-bytes-requires-2
-    same-length-2
+    (λ c κs. search needs)
+    (λ c κs. search needs)
+    (λ c κs. search needs)
+    (λ c. search needs)
+    (λ c κs. search needs)
+    (λ c. search needs)
     returns-2
-    put-requires
-    same-length-3
+    (λ c κs. search needs)
+    (λ c. search needs)
     returns-3)

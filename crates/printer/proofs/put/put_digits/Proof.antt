@@ -1,28 +1,10 @@
--- `put::put_digits` meets its contract. Assumes nothing.
+-- `put::put_digits` meets its contract.
 use native.Mathlib.Omega.{arith}
 use Rattle.printer.proofs.Adding.{adds-as}
 use Rattle.printer.proofs.Pieces.{leading-most, last-digits}
 use borrow.Author.Needs.{needs}
 use Rattle.printer.proofs.put.put_digits.Statement.{statement}
 use Rattle.printer.proofs.put.put_digits.Tie as tie
-
-digit-requires : tie.Need-digit-requires
-digit-requires c κs = search needs
-
-digit-requires-2 : tie.Need-digit-requires-2
-digit-requires-2 c κs = search needs
-
-digit-requires-3 : tie.Need-digit-requires-3
-digit-requires-3 c κs = search needs
-
-digit-requires-4 : tie.Need-digit-requires-4
-digit-requires-4 c κs = search needs
-
-digit-requires-5 : tie.Need-digit-requires-5
-digit-requires-5 c κs = search needs
-
-leading-requires : tie.Need-leading-requires
-leading-requires c κs = search needs
 
 sub-put-bytes : tie.Need-sub-put-bytes
 sub-put-bytes c =
@@ -33,15 +15,6 @@ part-put-bytes-start : tie.Need-part-put-bytes-start
 part-put-bytes-start c =
     let args = c .before .before .before .before .before .before .before .before .before .args in
     omega (arith, leading-most (args .n), c .before .before .leading .ensures)
-
-part-put-bytes-end : tie.Need-part-put-bytes-end
-part-put-bytes-end c = search needs
-
-put-bytes-requires : tie.Need-put-bytes-requires
-put-bytes-requires c κs = search needs
-
-same-length : tie.Need-same-length
-same-length c = search needs
 
 returns : tie.Need-returns
 returns c =
@@ -58,15 +31,15 @@ pub put-digits-spec : {M : Type 1} → statement M
 put-digits-spec =
     tie.close
     (tie.spec
-    digit-requires
-    digit-requires-2
-    digit-requires-3
-    digit-requires-4
-    digit-requires-5
-    leading-requires
+    (λ c κs. search needs)
+    (λ c κs. search needs)
+    (λ c κs. search needs)
+    (λ c κs. search needs)
+    (λ c κs. search needs)
+    (λ c κs. search needs)
     sub-put-bytes
     part-put-bytes-start
-    part-put-bytes-end
-    put-bytes-requires
-    same-length
+    (λ c. search needs)
+    (λ c κs. search needs)
+    (λ c. search needs)
     returns)

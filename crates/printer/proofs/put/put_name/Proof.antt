@@ -1,6 +1,6 @@
--- `put::put_name` meets its contract: in each arm the bytes are the name of the class, and a class without an arm has no name. Assumes nothing.
-use Rattle.elements.specs.Bytes.{codes}
-use Rattle.elements.specs.Class.{names, nameIn, nameOf, as-name}
+-- `put::put_name` meets its contract: in each arm the bytes are the name of the class, and a class without an arm has no name.
+use Rattle.elements.specs.rules.Bytes.{codes}
+use Rattle.elements.specs.rules.Class.{names, nameIn, nameOf, as-name}
 use Rattle.printer.proofs.Names.{adds-name, adds-unnamed}
 use borrow.Author.Needs.{needs}
 use Rattle.printer.proofs.put.put_name.Statement.{statement}

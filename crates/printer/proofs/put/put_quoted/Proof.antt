@@ -1,21 +1,9 @@
--- `put::put_quoted` meets its contract. Assumes nothing.
+-- `put::put_quoted` meets its contract.
 use Rattle.printer.proofs.Adding.{adds-as, adds-join}
 use Rattle.printer.proofs.Pieces.{quoted-parts}
 use borrow.Author.Needs.{needs}
 use Rattle.printer.proofs.put.put_quoted.Statement.{statement}
 use Rattle.printer.proofs.put.put_quoted.Tie as tie
-
-put-requires : tie.Need-put-requires
-put-requires c κs = search needs
-
-put-escaped-requires : tie.Need-put-escaped-requires
-put-escaped-requires c κs = search needs
-
-put-requires-2 : tie.Need-put-requires-2
-put-requires-2 c κs = search needs
-
-same-length : tie.Need-same-length
-same-length c = search needs
 
 returns : tie.Need-returns
 returns c =
@@ -27,4 +15,4 @@ returns c =
 
 pub put-quoted-spec : {M : Type 1} → statement M
 put-quoted-spec =
-    tie.close (tie.spec put-requires put-escaped-requires put-requires-2 same-length returns)
+    tie.close (tie.spec (λ c κs. search needs) (λ c κs. search needs) (λ c κs. search needs) (λ c. search needs) returns)

@@ -1,26 +1,14 @@
--- `put::put_string` meets its contract. Assumes nothing.
+-- `put::put_string` meets its contract.
 use Rattle.printer.proofs.Adding.{adds-as}
 use Rattle.printer.proofs.Pieces.{string-target, string-symbol}
 use borrow.Author.Needs.{needs}
 use Rattle.printer.proofs.put.put_string.Statement.{statement}
 use Rattle.printer.proofs.put.put_string.Tie as tie
 
-put-quoted-requires : tie.Need-put-quoted-requires
-put-quoted-requires c κs = search needs
-
-same-length : tie.Need-same-length
-same-length c = search needs
-
 returns : tie.Need-returns
 returns c =
     let args = c .before .before .before .before .before .before .before .args in
     adds-as (string-target (args .class) (args .bytes .now) (c .before .before .before .before .if1 .taken)) (c .before .before .put-quoted .ensures .1)
-
-put-bytes-requires : tie.Need-put-bytes-requires
-put-bytes-requires c κs = search needs
-
-same-length-2 : tie.Need-same-length-2
-same-length-2 c = search needs
 
 returns-2 : tie.Need-returns-2
 returns-2 c =
@@ -30,4 +18,4 @@ returns-2 c =
 pub put-string-spec : {M : Type 1} → statement M
 put-string-spec =
     tie.close
-    (tie.spec put-quoted-requires same-length returns put-bytes-requires same-length-2 returns-2)
+    (tie.spec (λ c κs. search needs) (λ c. search needs) returns (λ c κs. search needs) (λ c. search needs) returns-2)

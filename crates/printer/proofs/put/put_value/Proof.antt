@@ -1,4 +1,4 @@
--- `put::put_value` meets its contract. Assumes nothing.
+-- `put::put_value` meets its contract.
 use Rattle.printer.proofs.Adding.{adds-as, adds-none, adds-join}
 use Rattle.printer.proofs.Pieces.{value-none, value-parts}
 use borrow.Author.Needs.{needs}
@@ -9,27 +9,6 @@ returns : tie.Need-returns
 returns c =
     let args = c .before .before .before .args in
     adds-as (value-none (args .class) (args .bytes .now) (c .if1 .taken)) (adds-none (args .at) (args .out .now))
-
-slice-aggregate-put-bytes : tie.Need-slice-aggregate-put-bytes
-slice-aggregate-put-bytes c = search needs
-
-put-bytes-requires : tie.Need-put-bytes-requires
-put-bytes-requires c κs = search needs
-
-put-name-requires : tie.Need-put-name-requires
-put-name-requires c κs = search needs
-
-put-requires : tie.Need-put-requires
-put-requires c κs = search needs
-
-put-string-requires : tie.Need-put-string-requires
-put-string-requires c κs = search needs
-
-put-requires-2 : tie.Need-put-requires-2
-put-requires-2 c κs = search needs
-
-same-length : tie.Need-same-length
-same-length c = search needs
 
 returns-2 : tie.Need-returns-2
 returns-2 c =
@@ -47,11 +26,11 @@ put-value-spec =
     tie.close
     (tie.spec
     returns
-    slice-aggregate-put-bytes
-    put-bytes-requires
-    put-name-requires
-    put-requires
-    put-string-requires
-    put-requires-2
-    same-length
+    (λ c. search needs)
+    (λ c κs. search needs)
+    (λ c κs. search needs)
+    (λ c κs. search needs)
+    (λ c κs. search needs)
+    (λ c κs. search needs)
+    (λ c. search needs)
     returns-2)

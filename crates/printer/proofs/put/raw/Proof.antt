@@ -1,4 +1,4 @@
--- `put::raw` meets its contract. Assumes nothing.
+-- `put::raw` meets its contract.
 use Rattle.printer.proofs.Raw.{raw-tested}
 use Rattle.printer.proofs.put.raw.Statement.{statement}
 use Rattle.printer.proofs.put.raw.Tie as tie

@@ -1,4 +1,4 @@
--- `put::raw_8` meets its contract: each test adds a byte to those before it. Assumes nothing.
+-- `put::raw_8` meets its contract: each test adds a byte to those before it.
 use Prim.Native.Nat.{ℕ, _+_, _<_, _≤_}
 use native.Mathlib.Nat.{add-zero}
 use native.Mathlib.Omega.{arith}
@@ -8,75 +8,6 @@ use Rattle.printer.proofs.Raw.{raw-first, raw-more}
 use borrow.Author.Needs.{needs}
 use Rattle.printer.proofs.put.raw_8.Statement.{statement}
 use Rattle.printer.proofs.put.raw_8.Tie as tie
-
-shared-slice-read-raw : tie.Need-shared-slice-read-raw
-shared-slice-read-raw c = search needs
-
-raw-requires : tie.Need-raw-requires
-raw-requires c κs = search needs
-
-add-raw : tie.Need-add-raw
-add-raw c = search needs
-
-shared-slice-read-raw-2 : tie.Need-shared-slice-read-raw-2
-shared-slice-read-raw-2 c = search needs
-
-raw-requires-2 : tie.Need-raw-requires-2
-raw-requires-2 c κs = search needs
-
-add-raw-2 : tie.Need-add-raw-2
-add-raw-2 c = search needs
-
-shared-slice-read-raw-3 : tie.Need-shared-slice-read-raw-3
-shared-slice-read-raw-3 c = search needs
-
-raw-requires-3 : tie.Need-raw-requires-3
-raw-requires-3 c κs = search needs
-
-add-raw-3 : tie.Need-add-raw-3
-add-raw-3 c = search needs
-
-shared-slice-read-raw-4 : tie.Need-shared-slice-read-raw-4
-shared-slice-read-raw-4 c = search needs
-
-raw-requires-4 : tie.Need-raw-requires-4
-raw-requires-4 c κs = search needs
-
-add-raw-4 : tie.Need-add-raw-4
-add-raw-4 c = search needs
-
-shared-slice-read-raw-5 : tie.Need-shared-slice-read-raw-5
-shared-slice-read-raw-5 c = search needs
-
-raw-requires-5 : tie.Need-raw-requires-5
-raw-requires-5 c κs = search needs
-
-add-raw-5 : tie.Need-add-raw-5
-add-raw-5 c = search needs
-
-shared-slice-read-raw-6 : tie.Need-shared-slice-read-raw-6
-shared-slice-read-raw-6 c = search needs
-
-raw-requires-6 : tie.Need-raw-requires-6
-raw-requires-6 c κs = search needs
-
-add-raw-6 : tie.Need-add-raw-6
-add-raw-6 c = search needs
-
-shared-slice-read-raw-7 : tie.Need-shared-slice-read-raw-7
-shared-slice-read-raw-7 c = search needs
-
-raw-requires-7 : tie.Need-raw-requires-7
-raw-requires-7 c κs = search needs
-
-add-raw-7 : tie.Need-add-raw-7
-add-raw-7 c = search needs
-
-shared-slice-read-raw-8 : tie.Need-shared-slice-read-raw-8
-shared-slice-read-raw-8 c = search needs
-
-raw-requires-8 : tie.Need-raw-requires-8
-raw-requires-8 c κs = search needs
 
 within : (i l : ℕ) → i + 8 ≤ l → (n : ℕ) → T (ltb n 8) → i + n < l
 within i l h n t =
@@ -109,27 +40,27 @@ pub raw-8-spec : {M : Type 1} → statement M
 raw-8-spec =
     tie.close
     (tie.spec
-    shared-slice-read-raw
-    raw-requires
-    add-raw
-    shared-slice-read-raw-2
-    raw-requires-2
-    add-raw-2
-    shared-slice-read-raw-3
-    raw-requires-3
-    add-raw-3
-    shared-slice-read-raw-4
-    raw-requires-4
-    add-raw-4
-    shared-slice-read-raw-5
-    raw-requires-5
-    add-raw-5
-    shared-slice-read-raw-6
-    raw-requires-6
-    add-raw-6
-    shared-slice-read-raw-7
-    raw-requires-7
-    add-raw-7
-    shared-slice-read-raw-8
-    raw-requires-8
+    (λ c. search needs)
+    (λ c κs. search needs)
+    (λ c. search needs)
+    (λ c. search needs)
+    (λ c κs. search needs)
+    (λ c. search needs)
+    (λ c. search needs)
+    (λ c κs. search needs)
+    (λ c. search needs)
+    (λ c. search needs)
+    (λ c κs. search needs)
+    (λ c. search needs)
+    (λ c. search needs)
+    (λ c κs. search needs)
+    (λ c. search needs)
+    (λ c. search needs)
+    (λ c κs. search needs)
+    (λ c. search needs)
+    (λ c. search needs)
+    (λ c κs. search needs)
+    (λ c. search needs)
+    (λ c. search needs)
+    (λ c κs. search needs)
     returns)

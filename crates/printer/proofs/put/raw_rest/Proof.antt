@@ -1,9 +1,9 @@
--- `put::raw_rest` meets its contract. Assumes nothing.
+-- `put::raw_rest` meets its contract.
 use native.Mathlib.Omega.{arith}
 use Prim.Native.Nat.{_+_, _-_, _≤_}
 use mathlib.Core.Path.{_≡_}
 use lib.ListN.{length}
-use Rattle.laws.proofs.Booleans.{true-T}
+use Rattle.base.proofs.Booleans.{true-T}
 use Rattle.printer.proofs.RawTail.{raw-over}
 use borrow.Author.Needs.{needs}
 use Rattle.printer.proofs.put.raw_rest.Statement.{statement}
@@ -12,20 +12,11 @@ use Rattle.printer.proofs.put.raw_rest.Tie as tie
 returns : tie.Need-returns
 returns c = λ e. absurd (true-T e)
 
-sub-if2 : tie.Need-sub-if2
-sub-if2 c = search needs
-
 returns-2 : tie.Need-returns-2
 returns-2 c = λ e. absurd (true-T e)
 
-lesser-requires : tie.Need-lesser-requires
-lesser-requires c κs = search needs
-
 raw-8-requires : tie.Need-raw-8-requires
 raw-8-requires c κs = omega (arith, c .lesser .ensures)
-
-raw-8-requires-2 : tie.Need-raw-8-requires-2
-raw-8-requires-2 c κs = search needs
 
 returns-3 : tie.Need-returns-3
 returns-3 c =
@@ -40,4 +31,4 @@ returns-3 c =
 
 pub raw-rest-spec : {M : Type 1} → statement M
 raw-rest-spec =
-    tie.close (tie.spec returns sub-if2 returns-2 lesser-requires raw-8-requires raw-8-requires-2 returns-3)
+    tie.close (tie.spec returns (λ c. search needs) returns-2 (λ c κs. search needs) raw-8-requires (λ c κs. search needs) returns-3)

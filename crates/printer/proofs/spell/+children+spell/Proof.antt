@@ -1,6 +1,5 @@
 -- `spell::children` and `spell::spell` meet their contracts. The measures: twice the span of nodes from number to end, and one more for `children`,
 -- which calls `spell` for one node of the same span. The loop's invariant: what is written of the nodes that are left completes the spelling of all.
--- Assumes nothing.
 use mathlib.Core.Path.{_≡_, refl, _∙_}
 use native.Mathlib.Omega.{arith}
 use borrow.Author.Needs.{needs}
@@ -21,7 +20,7 @@ use Rattle.printer.proofs.put.put.Reads as put-reads
 use Rattle.printer.proofs.put.put_name.Reads as put-name-reads
 use Rattle.printer.proofs.put.put_quoted.Reads as put-quoted-reads
 use Rattle.printer.proofs.spell.first_end.Reads as first-end-reads
-use Rattle.store.proofs.lesser.Reads as lesser-reads
+use Rattle.base.proofs.lesser.Reads as lesser-reads
 use Rattle.table.proofs.string.Reads as string-reads
 use Rattle.printer.proofs.spell.values.Reads as values-reads
 use Rattle.table.proofs.word.Reads as word-reads
@@ -93,9 +92,6 @@ children-loop-holds t c =
     let args = c .before .before .before .args in
     (search needs, refl, upto-start (args .nodes .now) (args .pool .now) (args .from) (args .end) (args .at) (args .out .now))
 
-children-word-requires : (t : ℕ) → children-lts.Need-word-requires (children-calls t) (children-at t) children.Post children-Inv-loop children-μ-loop
-children-word-requires t c κs = search needs
-
 children-same-length : (t : ℕ) → children-lts.Need-same-length (children-calls t) (children-at t) children.Post children-Inv-loop children-μ-loop
 children-same-length t c = c .before .before .before .loop .inv .1
 
@@ -116,23 +112,11 @@ children-returns-2 t c =
     let word = c .before .before .word in
     upto-never (args .nodes .now) (args .pool .now) (args .from) (args .end) (args .at) (args .out .now) (loop .i) (loop .k) (word .result) (loop .out) (loop .inv .2) (c .before .before .before .loop-test .taken) (word .ensures) (λ l g. omega (arith, c .if2 .taken))
 
-children-put-requires : (t : ℕ) → children-lts.Need-put-requires (children-calls t) (children-at t) children.Post children-Inv-loop children-μ-loop
-children-put-requires t c κs = search needs
-
-children-lesser-requires : (t : ℕ) → children-lts.Need-lesser-requires (children-calls t) (children-at t) children.Post children-Inv-loop children-μ-loop
-children-lesser-requires t c κs = search needs
-
 children-sub-spell : (t : ℕ) → children-lts.Need-sub-spell (children-calls t) (children-at t) children.Post children-Inv-loop children-μ-loop
 children-sub-spell t c = omega (arith, c .lesser .ensures)
 
 children-part-spell-start : (t : ℕ) → children-lts.Need-part-spell-start (children-calls t) (children-at t) children.Post children-Inv-loop children-μ-loop
 children-part-spell-start t c = omega (arith, c .lesser .ensures)
-
-children-part-spell-end : (t : ℕ) → children-lts.Need-part-spell-end (children-calls t) (children-at t) children.Post children-Inv-loop children-μ-loop
-children-part-spell-end t c = search needs
-
-children-spell-requires : (t : ℕ) → children-lts.Need-spell-requires (children-calls t) (children-at t) children.Post children-Inv-loop children-μ-loop
-children-spell-requires t c κs = search needs
 
 children-add-k : (t : ℕ) → children-lts.Need-add-k (children-calls t) (children-at t) children.Post children-Inv-loop children-μ-loop
 children-add-k t c =
@@ -172,21 +156,6 @@ spell-returns t c =
     let args = c .before .before .before .before .args in
     (search needs, none-spelled (args .nodes .now) (args .pool .now) (args .i) (args .end) (args .out .now) 0 (args .out .now) (c .if1 .taken))
 
-spell-word-requires : (t : ℕ) → spell-lts.Need-word-requires (spell-calls t) (spell-at t) spell.Post
-spell-word-requires t c κs = search needs
-
-spell-cast-if2 : (t : ℕ) → spell-lts.Need-cast-if2 (spell-calls t) (spell-at t) spell.Post
-spell-cast-if2 t c = search needs
-
-spell-string-requires : (t : ℕ) → spell-lts.Need-string-requires (spell-calls t) (spell-at t) spell.Post
-spell-string-requires t c κs = search needs
-
-spell-put-quoted-requires : (t : ℕ) → spell-lts.Need-put-quoted-requires (spell-calls t) (spell-at t) spell.Post
-spell-put-quoted-requires t c κs = search needs
-
-spell-same-length : (t : ℕ) → spell-lts.Need-same-length (spell-calls t) (spell-at t) spell.Post
-spell-same-length t c = search needs
-
 spell-returns-2 : (t : ℕ) → spell-lts.Need-returns-2 (spell-calls t) (spell-at t) spell.Post
 spell-returns-2 t c =
     let args = c .before .before .before .before .before .before .before .before .before .before .before .before .args in
@@ -195,33 +164,6 @@ spell-returns-2 t c =
     let string = c .before .before .before .string in
     let put-quoted = c .before .before .put-quoted in
     (put-quoted .ensures .0, text-spelled (args .nodes .now) (args .pool .now) (args .i) (args .end) (args .out .now) (word .result) (put-quoted .result) (string .result .now) (put-quoted .last .0) (word .ensures) (if2 .taken) (string .ensures) (put-quoted .ensures .1))
-
-spell-first-end-requires : (t : ℕ) → spell-lts.Need-first-end-requires (spell-calls t) (spell-at t) spell.Post
-spell-first-end-requires t c κs = search needs
-
-spell-put-requires : (t : ℕ) → spell-lts.Need-put-requires (spell-calls t) (spell-at t) spell.Post
-spell-put-requires t c κs = search needs
-
-spell-put-name-requires : (t : ℕ) → spell-lts.Need-put-name-requires (spell-calls t) (spell-at t) spell.Post
-spell-put-name-requires t c κs = search needs
-
-spell-add-children : (t : ℕ) → spell-lts.Need-add-children (spell-calls t) (spell-at t) spell.Post
-spell-add-children t c = search needs
-
-spell-children-requires : (t : ℕ) → spell-lts.Need-children-requires (spell-calls t) (spell-at t) spell.Post
-spell-children-requires t c κs = search needs
-
-spell-values-requires : (t : ℕ) → spell-lts.Need-values-requires (spell-calls t) (spell-at t) spell.Post
-spell-values-requires t c κs = search needs
-
-spell-children-requires-2 : (t : ℕ) → spell-lts.Need-children-requires-2 (spell-calls t) (spell-at t) spell.Post
-spell-children-requires-2 t c κs = search needs
-
-spell-put-requires-2 : (t : ℕ) → spell-lts.Need-put-requires-2 (spell-calls t) (spell-at t) spell.Post
-spell-put-requires-2 t c κs = search needs
-
-spell-same-length-2 : (t : ℕ) → spell-lts.Need-same-length-2 (spell-calls t) (spell-at t) spell.Post
-spell-same-length-2 t c = search needs
 
 spell-returns-3 : (t : ℕ) → spell-lts.Need-returns-3 (spell-calls t) (spell-at t) spell.Post
 spell-returns-3 t c =
@@ -244,17 +186,17 @@ pub +children+spell-spec : {M : Type 1} → statement M
     children-Inv-loop
     children-μ-loop
     (children-loop-holds t)
-    (children-word-requires t)
+    (λ c κs. search needs)
     (children-same-length t)
     (children-returns t)
     (children-same-length-2 t)
     (children-returns-2 t)
-    (children-put-requires t)
-    (children-lesser-requires t)
+    (λ c κs. search needs)
+    (λ c κs. search needs)
     (children-sub-spell t)
     (children-part-spell-start t)
-    (children-part-spell-end t)
-    (children-spell-requires t)
+    (λ c. search needs)
+    (λ c κs. search needs)
     (children-add-k t)
     (children-loop-less t)
     (children-loop-again t)
@@ -281,19 +223,19 @@ pub +children+spell-spec : {M : Type 1} → statement M
     (spell-at t)
     spell.Post
     (spell-returns t)
-    (spell-word-requires t)
-    (spell-cast-if2 t)
-    (spell-string-requires t)
-    (spell-put-quoted-requires t)
-    (spell-same-length t)
+    (λ c κs. search needs)
+    (λ c. search needs)
+    (λ c κs. search needs)
+    (λ c κs. search needs)
+    (λ c. search needs)
     (spell-returns-2 t)
-    (spell-first-end-requires t)
-    (spell-put-requires t)
-    (spell-put-name-requires t)
-    (spell-add-children t)
-    (spell-children-requires t)
-    (spell-values-requires t)
-    (spell-children-requires-2 t)
-    (spell-put-requires-2 t)
-    (spell-same-length-2 t)
+    (λ c κs. search needs)
+    (λ c κs. search needs)
+    (λ c κs. search needs)
+    (λ c. search needs)
+    (λ c κs. search needs)
+    (λ c κs. search needs)
+    (λ c κs. search needs)
+    (λ c κs. search needs)
+    (λ c. search needs)
     (spell-returns-3 t)

@@ -1,4 +1,4 @@
--- `spell::first_end` meets its contract. Assumes nothing.
+-- `spell::first_end` meets its contract.
 use native.Mathlib.Omega.{arith}
 use borrow.Author.Tests.{not-true, not-false}
 use Rattle.printer.proofs.Standing.{first-childless, first-untitled, first-titled, first-ends}
@@ -6,19 +6,10 @@ use borrow.Author.Needs.{needs}
 use Rattle.printer.proofs.spell.first_end.Statement.{statement}
 use Rattle.printer.proofs.spell.first_end.Tie as tie
 
-add-from : tie.Need-add-from
-add-from c = search needs
-
 returns : tie.Need-returns
 returns c =
     let args = c .before .before .args in
     (omega arith, omega arith, first-childless (args .nodes .now) (args .i) (args .end) (c .if1 .taken))
-
-word-requires : tie.Need-word-requires
-word-requires c κs = search needs
-
-is-titled-requires : tie.Need-is-titled-requires
-is-titled-requires c κs = search needs
 
 returns-2 : tie.Need-returns-2
 returns-2 c =
@@ -26,9 +17,6 @@ returns-2 c =
     let word = c .before .before .word in
     let is-titled = c .before .is-titled in
     (omega arith, omega arith, first-untitled (args .nodes .now) (args .i) (args .end) (word .result) (is-titled .result) (word .ensures) (is-titled .ensures) (not-true (is-titled .result) (c .if2 .taken)))
-
-word-requires-2 : tie.Need-word-requires-2
-word-requires-2 c κs = search needs
 
 returns-3 : tie.Need-returns-3
 returns-3 c =
@@ -57,12 +45,12 @@ pub first-end-spec : {M : Type 1} → statement M
 first-end-spec =
     tie.close
     (tie.spec
-    add-from
+    (λ c. search needs)
     returns
-    word-requires
-    is-titled-requires
+    (λ c κs. search needs)
+    (λ c κs. search needs)
     returns-2
-    word-requires-2
+    (λ c κs. search needs)
     returns-3
     returns-4
     returns-5)

@@ -1,17 +1,8 @@
--- `spell::lacks_values` meets its contract. Assumes nothing.
+-- `spell::lacks_values` meets its contract.
 use Rattle.printer.proofs.Valueless.{valueless-tested}
 use borrow.Author.Needs.{needs}
 use Rattle.printer.proofs.spell.lacks_values.Statement.{statement}
 use Rattle.printer.proofs.spell.lacks_values.Tie as tie
-
-word-requires : tie.Need-word-requires
-word-requires c κs = search needs
-
-word-requires-2 : tie.Need-word-requires-2
-word-requires-2 c κs = search needs
-
-word-requires-3 : tie.Need-word-requires-3
-word-requires-3 c κs = search needs
 
 returns : tie.Need-returns
 returns c =
@@ -21,4 +12,4 @@ returns c =
     valueless-tested (args .nodes .now) (args .i) (key .result) (type .result) (c .word3 .result) (key .ensures) (type .ensures) (c .word3 .ensures)
 
 pub lacks-values-spec : {M : Type 1} → statement M
-lacks-values-spec = tie.close (tie.spec word-requires word-requires-2 word-requires-3 returns)
+lacks-values-spec = tie.close (tie.spec (λ c κs. search needs) (λ c κs. search needs) (λ c κs. search needs) returns)

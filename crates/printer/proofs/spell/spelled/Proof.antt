@@ -1,18 +1,9 @@
--- `spell::spelled` meets its contract. Assumes nothing.
+-- `spell::spelled` meets its contract.
 use mathlib.Core.Path.{_∙_}
 use Rattle.printer.proofs.Standing.{end-word}
 use borrow.Author.Needs.{needs}
 use Rattle.printer.proofs.spell.spelled.Statement.{statement}
 use Rattle.printer.proofs.spell.spelled.Tie as tie
-
-word-requires : tie.Need-word-requires
-word-requires c κs = search needs
-
-spell-requires : tie.Need-spell-requires
-spell-requires c κs = search needs
-
-same-length : tie.Need-same-length
-same-length c = search needs
 
 returns : tie.Need-returns
 returns c =
@@ -21,4 +12,4 @@ returns c =
     (spell .ensures .0, λ d parent p s. spell .ensures .1 d parent p s (c .before .before .before .before .word .ensures ∙ end-word d (args .nodes .now) (args .pool .now) 0 parent p s))
 
 pub spelled-spec : {M : Type 1} → statement M
-spelled-spec = tie.close (tie.spec word-requires spell-requires same-length returns)
+spelled-spec = tie.close (tie.spec (λ c κs. search needs) (λ c κs. search needs) (λ c. search needs) returns)

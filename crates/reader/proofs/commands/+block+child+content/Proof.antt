@@ -1,12 +1,11 @@
 -- The walks over blocks meet their contracts. The invariant of each loop is `Gone`; each way through a loop's body is one law of `BlockLoops`.
 -- The measure is twice the bytes left, and one for `child`, which hands them on to `block`.
--- Assumes nothing.
 use mathlib.Core.Path.{sym, _∙_}
 use Prim.Native.Nat.{_+_, _*_, _-_}
 use native.Mathlib.Omega.{arith}
 use borrow.Author.Needs.{needs}
 use lib.ListN.{length}
-use Rattle.reader.specs.Blocks.{InCommand, InContent}
+use Rattle.reader.specs.internal.Blocks.{InCommand, InContent}
 use Rattle.reader.proofs.Blocks.{not-ended}
 use Rattle.reader.proofs.BlockLoops.{Gone, begun, answered, gone-on, later, place-from, place-within, past-bounded}
 use Rattle.reader.proofs.BlockLoops.{command-end, command-cut, content-end}
@@ -80,20 +79,11 @@ block-μ-loop text at from kind nodes pool node tape₀ i₀ state₀ n₀ p₀ 
 block-loop-holds : (t : ℕ) → block-lts.Need-loop-holds (block-claims t) (block-at t) block.Post block-Inv-loop block-μ-loop
 block-loop-holds t c = begun (c .before .pre .1 .0) (c .before .pre .1 .1) (c .before .pre .1 .2)
 
-block-look-requires : (t : ℕ) → block-lts.Need-look-requires (block-claims t) (block-at t) block.Post block-Inv-loop block-μ-loop
-block-look-requires t c κs = search needs
-
-block-refusal-requires : (t : ℕ) → block-lts.Need-refusal-requires (block-claims t) (block-at t) block.Post block-Inv-loop block-μ-loop
-block-refusal-requires t c κs = search needs
-
 block-returns : (t : ℕ) → block-lts.Need-returns (block-claims t) (block-at t) block.Post block-Inv-loop block-μ-loop
 block-returns t c =
     let a = command-cut (c .before .before .before .before .look .ensures) (c .before .before .if1 .taken) (c .before .if2 .taken)
     (c .refusal .ensures) in
     answered (c .before .before .before .before .before .loop .inv) (a .0) (a .1)
-
-block-add-content : (t : ℕ) → block-lts.Need-add-content (block-claims t) (block-at t) block.Post block-Inv-loop block-μ-loop
-block-add-content t c = search needs
 
 block-content-requires : (t : ℕ) → block-lts.Need-content-requires (block-claims t) (block-at t) block.Post block-Inv-loop block-μ-loop
 block-content-requires t c κs =
@@ -116,9 +106,6 @@ block-returns-2 t c =
     answered inv (later (omega (arith, h)) (c .content .ensures .0))
     (command-end (c .before .before .before .before .before .look .ensures) (c .before .before .before .if1 .taken) (c .content .ensures .1))
 
-block-in-command-requires : (t : ℕ) → block-lts.Need-in-command-requires (block-claims t) (block-at t) block.Post block-Inv-loop block-μ-loop
-block-in-command-requires t c κs = search needs
-
 block-turn-as-requires : (t : ℕ) → block-lts.Need-turn-as-requires (block-claims t) (block-at t) block.Post block-Inv-loop block-μ-loop
 block-turn-as-requires t c κs =
     let inv = c .before .before .before .before .before .loop .inv in (
@@ -134,9 +121,6 @@ block-turn-as-requires t c κs =
       c .before .before .before .before .before .before .before .pre .1 .4,
     )
 
-block-enum-known-t : (t : ℕ) → block-lts.Need-enum-known-t (block-claims t) (block-at t) block.Post block-Inv-loop block-μ-loop
-block-enum-known-t t c = search needs
-
 block-returns-3 : (t : ℕ) → block-lts.Need-returns-3 (block-claims t) (block-at t) block.Post block-Inv-loop block-μ-loop
 block-returns-3 t c =
     let inv = c .before .before .before .before .before .before .before .before .before .loop .inv in
@@ -145,9 +129,6 @@ block-returns-3 t c =
     answered inv (refused-bounded turned)
     (command-refused _ _ (c .before .before .before .before .before .before .before .before .look .ensures) (inv .within)
     (c .before .before .before .before .before .before .if1 .left) turned)
-
-block-enum-known-t-2 : (t : ℕ) → block-lts.Need-enum-known-t-2 (block-claims t) (block-at t) block.Post block-Inv-loop block-μ-loop
-block-enum-known-t-2 t c = search needs
 
 block-loop-less : (t : ℕ) → block-lts.Need-loop-less (block-claims t) (block-at t) block.Post block-Inv-loop block-μ-loop
 block-loop-less t c =
@@ -170,9 +151,6 @@ block-loop-again t c =
     (command-atom _ _ (c .before .before .before .before .before .before .before .before .look .ensures) (inv .within)
     (c .before .before .before .before .before .before .if1 .left) (turned .0) (turned .1))
 
-block-enum-known-t-3 : (t : ℕ) → block-lts.Need-enum-known-t-3 (block-claims t) (block-at t) block.Post block-Inv-loop block-μ-loop
-block-enum-known-t-3 t c = search needs
-
 block-inside-requires : (t : ℕ) → block-lts.Need-inside-requires (block-claims t) (block-at t) block.Post block-Inv-loop block-μ-loop
 block-inside-requires t c κs =
     let inv = c .before .before .before .before .before .before .before .before .before .before .loop .inv in
@@ -192,9 +170,6 @@ block-inside-requires t c κs =
             (inv .within),
       ),
     )
-
-block-past-bracket-requires : (t : ℕ) → block-lts.Need-past-bracket-requires (block-claims t) (block-at t) block.Post block-Inv-loop block-μ-loop
-block-past-bracket-requires t c κs = search needs
 
 block-returns-4 : (t : ℕ) → block-lts.Need-returns-4 (block-claims t) (block-at t) block.Post block-Inv-loop block-μ-loop
 block-returns-4 t c =
@@ -256,9 +231,6 @@ child-claims t = (
   past-bracket-reads.Learnt,
 )
 
-child-is-command-requires : (t : ℕ) → child-lts.Need-is-command-requires (child-claims t) (child-at t) child.Post
-child-is-command-requires t c κs = search needs
-
 child-enter-requires : (t : ℕ) → child-lts.Need-enter-requires (child-claims t) (child-at t) child.Post
 child-enter-requires t c κs = (omega (arith, c .before .before .before .before .pre .1), c .before .before .before .before .pre .1 .4, omega arith)
 
@@ -298,9 +270,6 @@ child-returns t c = (
 child-inside-requires : (t : ℕ) → child-lts.Need-inside-requires (child-claims t) (child-at t) child.Post
 child-inside-requires t c κs = let pre = c .before .before .before .before .pre .1 in (pre .0, pre .1, pre .2, pre .3, pre .4, pre .5)
 
-child-past-bracket-requires : (t : ℕ) → child-lts.Need-past-bracket-requires (child-claims t) (child-at t) child.Post
-child-past-bracket-requires t c κs = search needs
-
 child-returns-2 : (t : ℕ) → child-lts.Need-returns-2 (child-claims t) (child-at t) child.Post
 child-returns-2 t c = (
   past-bounded (c .before .inside .ensures .0) (c .past-bracket .ensures),
@@ -322,24 +291,12 @@ content-μ-loop text at from kind read nodes pool node tape₀ i₀ state₀ n�
 content-loop-holds : (t : ℕ) → content-lts.Need-loop-holds (content-claims t) (content-at t) content.Post content-Inv-loop content-μ-loop
 content-loop-holds t c = begun (c .before .pre .1 .0) (c .before .pre .1 .1) (c .before .pre .1 .2)
 
-content-look-requires : (t : ℕ) → content-lts.Need-look-requires (content-claims t) (content-at t) content.Post content-Inv-loop content-μ-loop
-content-look-requires t c κs = search needs
-
-content-ends-requires : (t : ℕ) → content-lts.Need-ends-requires (content-claims t) (content-at t) content.Post content-Inv-loop content-μ-loop
-content-ends-requires t c κs = search needs
-
-content-at-end-requires : (t : ℕ) → content-lts.Need-at-end-requires (content-claims t) (content-at t) content.Post content-Inv-loop content-μ-loop
-content-at-end-requires t c κs = search needs
-
 content-returns : (t : ℕ) → content-lts.Need-returns (content-claims t) (content-at t) content.Post content-Inv-loop content-μ-loop
 content-returns t c =
     let inv = c .before .before .before .before .loop .inv in
     let a = content-end (c .before .before .before .look .ensures) (inv .within) (inv .nodes-within) (inv .pool-within)
     (sym (c .before .before .ends .ensures) ∙ c .before .if1 .taken) (c .at-end .ensures) in
     answered inv (a .0) (a .1)
-
-content-loose-requires : (t : ℕ) → content-lts.Need-loose-requires (content-claims t) (content-at t) content.Post content-Inv-loop content-μ-loop
-content-loose-requires t c κs = search needs
 
 content-turn-as-requires : (t : ℕ) → content-lts.Need-turn-as-requires (content-claims t) (content-at t) content.Post content-Inv-loop content-μ-loop
 content-turn-as-requires t c κs =
@@ -357,9 +314,6 @@ content-turn-as-requires t c κs =
       c .before .before .before .before .before .before .before .pre .1 .4,
     )
 
-content-enum-known-t : (t : ℕ) → content-lts.Need-enum-known-t (content-claims t) (content-at t) content.Post content-Inv-loop content-μ-loop
-content-enum-known-t t c = search needs
-
 content-returns-2 : (t : ℕ) → content-lts.Need-returns-2 (content-claims t) (content-at t) content.Post content-Inv-loop content-μ-loop
 content-returns-2 t c =
     let inv = c .before .before .before .before .before .before .before .before .before .loop .inv in
@@ -370,9 +324,6 @@ content-returns-2 t c =
     answered inv (refused-bounded turned)
     (content-refused _ _ (c .before .before .before .before .before .before .before .before .look .ensures) (inv .within) (goes-on .0)
     (goes-on .1) turned)
-
-content-enum-known-t-2 : (t : ℕ) → content-lts.Need-enum-known-t-2 (content-claims t) (content-at t) content.Post content-Inv-loop content-μ-loop
-content-enum-known-t-2 t c = search needs
 
 content-loop-less : (t : ℕ) → content-lts.Need-loop-less (content-claims t) (content-at t) content.Post content-Inv-loop content-μ-loop
 content-loop-less t c =
@@ -398,9 +349,6 @@ content-loop-again t c =
     (turned .0) (inv .nodes-within) (inv .pool-within) (turned .2) (turned .3))
     (content-atom _ _ (c .before .before .before .before .before .before .before .before .look .ensures) (inv .within) (goes-on .0) (turned .0)
     (turned .1) (turned .2) (turned .3) (turned .4))
-
-content-enum-known-t-3 : (t : ℕ) → content-lts.Need-enum-known-t-3 (content-claims t) (content-at t) content.Post content-Inv-loop content-μ-loop
-content-enum-known-t-3 t c = search needs
 
 content-child-requires : (t : ℕ) → content-lts.Need-child-requires (content-claims t) (content-at t) content.Post content-Inv-loop content-μ-loop
 content-child-requires t c κs =
@@ -476,53 +424,53 @@ pub +block+child+content-spec : {M : Type 1} → statement M
     block-Inv-loop
     block-μ-loop
     (block-loop-holds t)
-    (block-look-requires t)
-    (block-refusal-requires t)
+    (λ c κs. search needs)
+    (λ c κs. search needs)
     (block-returns t)
-    (block-add-content t)
+    (λ c. search needs)
     (block-content-requires t)
     (block-returns-2 t)
-    (block-in-command-requires t)
+    (λ c κs. search needs)
     (block-turn-as-requires t)
-    (block-enum-known-t t)
+    (λ c. search needs)
     (block-returns-3 t)
-    (block-enum-known-t-2 t)
+    (λ c. search needs)
     (block-loop-less t)
     (block-loop-again t)
-    (block-enum-known-t-3 t)
+    (λ c. search needs)
     (block-inside-requires t)
-    (block-past-bracket-requires t)
+    (λ c κs. search needs)
     (block-returns-4 t)
     (block-loop-less-2 t)
     (block-loop-again-2 t))
     (λ t. child-lts.spec (child-claims t) (child-at t)
     child.Post
-    (child-is-command-requires t)
+    (λ c κs. search needs)
     (child-enter-requires t)
     (child-add-block t)
     (child-block-requires t)
     (child-leave-requires t)
     (child-returns t)
     (child-inside-requires t)
-    (child-past-bracket-requires t)
+    (λ c κs. search needs)
     (child-returns-2 t))
     λ t. content-lts.spec (content-claims t) (content-at t)
     content.Post
     content-Inv-loop
     content-μ-loop
     (content-loop-holds t)
-    (content-look-requires t)
-    (content-ends-requires t)
-    (content-at-end-requires t)
+    (λ c κs. search needs)
+    (λ c κs. search needs)
+    (λ c κs. search needs)
     (content-returns t)
-    (content-loose-requires t)
+    (λ c κs. search needs)
     (content-turn-as-requires t)
-    (content-enum-known-t t)
+    (λ c. search needs)
     (content-returns-2 t)
-    (content-enum-known-t-2 t)
+    (λ c. search needs)
     (content-loop-less t)
     (content-loop-again t)
-    (content-enum-known-t-3 t)
+    (λ c. search needs)
     (content-child-requires t)
     (content-returns-3 t)
     (content-loop-less-2 t)

@@ -1,8 +1,8 @@
--- `ends` meets its contract, by the tests on the way. Assumes nothing.
+-- `ends` meets its contract, by the tests on the way.
 use mathlib.Core.Path.{sym, _∙_}
 use borrow.Author.Tests.{not-true, not-false}
 use borrow.Author.Tests.{eq-eqb, ne-eqb}
-use Rattle.reader.specs.Blocks.{endsAt}
+use Rattle.reader.specs.internal.Blocks.{endsAt}
 use borrow.Author.Needs.{needs}
 use Rattle.reader.proofs.commands.ends.Statement.{statement}
 use Rattle.reader.proofs.commands.ends.Tie as tie
@@ -11,18 +11,9 @@ returns : tie.Need-returns
 unfolding endsAt
 returns c = rw (eq-eqb _ 0 (c .if1 .taken))
 
-is-command-requires : tie.Need-is-command-requires
-is-command-requires c κs = search needs
-
 returns-2 : tie.Need-returns-2
 unfolding endsAt
 returns-2 c = rw (ne-eqb _ 0 (c .before .before .if1 .left), sym (c .before .is-command .ensures) ∙ not-true _ (c .if2 .taken))
-
-significance-requires : tie.Need-significance-requires
-significance-requires c κs = search needs
-
-significance-requires-2 : tie.Need-significance-requires-2
-significance-requires-2 c κs = search needs
 
 returns-3 : tie.Need-returns-3
 unfolding endsAt
@@ -33,8 +24,8 @@ ends-spec =
     tie.close
     (tie.spec
     returns
-    is-command-requires
+    (λ c κs. search needs)
     returns-2
-    significance-requires
-    significance-requires-2
+    (λ c κs. search needs)
+    (λ c κs. search needs)
     returns-3)

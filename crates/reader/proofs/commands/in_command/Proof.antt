@@ -1,12 +1,9 @@
--- `in_command` meets its contract. Assumes nothing.
+-- `in_command` meets its contract.
 use mathlib.Core.Path.{sym, _∙_}
-use Rattle.reader.specs.Blocks.{commandClass}
+use Rattle.reader.specs.internal.Blocks.{commandClass}
 use borrow.Author.Needs.{needs}
 use Rattle.reader.proofs.commands.in_command.Statement.{statement}
 use Rattle.reader.proofs.commands.in_command.Tie as tie
-
-is-parameter-requires : tie.Need-is-parameter-requires
-is-parameter-requires c κs = search needs
 
 returns : tie.Need-returns
 unfolding commandClass
@@ -17,4 +14,4 @@ unfolding commandClass
 returns-2 c = rw (sym (c .before .is-parameter .ensures) ∙ c .if1 .left)
 
 pub in-command-spec : {M : Type 1} → statement M
-in-command-spec = tie.close (tie.spec is-parameter-requires returns returns-2)
+in-command-spec = tie.close (tie.spec (λ c κs. search needs) returns returns-2)

@@ -1,4 +1,4 @@
--- `is_command` meets its contract. Assumes nothing.
+-- `is_command` meets its contract.
 use mathlib.Core.Path.{sym}
 use Rattle.reader.proofs.Blocks.{command-low, command-high}
 use Rattle.reader.proofs.commands.is_command.Statement.{statement}

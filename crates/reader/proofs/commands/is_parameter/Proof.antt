@@ -1,6 +1,6 @@
--- `is_parameter` meets its contract, by the tests on the way. Assumes nothing.
+-- `is_parameter` meets its contract, by the tests on the way.
 use borrow.Author.Tests.{eq-eqb, ne-eqb}
-use Rattle.document.specs.Spelling.{isBlockParameter}
+use Rattle.document.specs.rules.Spelling.{isBlockParameter}
 use Rattle.reader.proofs.commands.is_parameter.Statement.{statement}
 use Rattle.reader.proofs.commands.is_parameter.Tie as tie
 

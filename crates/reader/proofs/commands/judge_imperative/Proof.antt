@@ -1,4 +1,4 @@
--- `judge_imperative` meets its contract: each way out is one law of `Imperatives`. Assumes nothing.
+-- `judge_imperative` meets its contract: each way out is one law of `Imperatives`.
 use native.Mathlib.Omega.{arith}
 use Rattle.reader.proofs.BlockLoops.{turn-within, place-within}
 use Rattle.reader.proofs.Imperatives.{nothing-seen, no-document, nothing-passed, document-fault, document-fine}
@@ -11,25 +11,13 @@ use Rattle.reader.proofs.tape.enter.Reads as enter-reads
 use Rattle.reader.proofs.walk.leave.Reads as leave-reads
 use Rattle.reader.proofs.walk.refusal.Reads as refusal-reads
 
-look-requires : tie.Need-look-requires
-look-requires c κs = search needs
-
-refusal-requires : tie.Need-refusal-requires
-refusal-requires c κs = search needs
-
 returns : tie.Need-returns
 returns c = nothing-seen _ (c .before .before .before .before .before .args .tape .now) (c .before .before .before .look .ensures)
     (c .before .if1 .taken) (c .refusal .ensures)
 
-refusal-requires-2 : tie.Need-refusal-requires-2
-refusal-requires-2 c κs = search needs
-
 returns-2 : tie.Need-returns-2
 returns-2 c = no-document _ (c .before .before .before .before .before .before .before .args .tape .now)
     (c .before .before .before .before .before .look .ensures) (c .before .before .before .if1 .left) (c .before .if2 .taken) (c .refusal2 .ensures)
-
-refusal-requires-3 : tie.Need-refusal-requires-3
-refusal-requires-3 c κs = search needs
 
 returns-3 : tie.Need-returns-3
 returns-3 c = nothing-passed _ (c .before .before .before .before .before .before .before .before .args .tape .now)
@@ -90,12 +78,12 @@ pub judge-imperative-spec : {M : Type 1} → statement M
 judge-imperative-spec =
     tie.close
     (tie.spec
-    look-requires
-    refusal-requires
+    (λ c κs. search needs)
+    (λ c κs. search needs)
     returns
-    refusal-requires-2
+    (λ c κs. search needs)
     returns-2
-    refusal-requires-3
+    (λ c κs. search needs)
     returns-3
     enter-requires
     block-requires

@@ -1,13 +1,10 @@
--- `loose` meets its contract. Assumes nothing.
+-- `loose` meets its contract.
 use mathlib.Core.Path.{sym, _∙_}
 use borrow.Author.Tests.{eq-eqb, ne-eqb}
-use Rattle.reader.specs.Blocks.{looseClass}
+use Rattle.reader.specs.internal.Blocks.{looseClass}
 use borrow.Author.Needs.{needs}
 use Rattle.reader.proofs.commands.loose.Statement.{statement}
 use Rattle.reader.proofs.commands.loose.Tie as tie
-
-is-parameter-requires : tie.Need-is-parameter-requires
-is-parameter-requires c κs = search needs
 
 returns : tie.Need-returns
 unfolding looseClass
@@ -22,4 +19,4 @@ unfolding looseClass
 returns-3 c = rw (sym (c .before .before .is-parameter .ensures) ∙ c .before .if1 .left, ne-eqb _ 1 (c .if2 .left))
 
 pub loose-spec : {M : Type 1} → statement M
-loose-spec = tie.close (tie.spec is-parameter-requires returns returns-2 returns-3)
+loose-spec = tie.close (tie.spec (λ c κs. search needs) returns returns-2 returns-3)

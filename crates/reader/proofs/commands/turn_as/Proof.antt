@@ -1,7 +1,7 @@
--- `turn_as` meets its contract. Assumes nothing.
+-- `turn_as` meets its contract.
 use mathlib.Core.Path.{refl}
 use native.Mathlib.Omega.{arith}
-use Rattle.reader.specs.Blocks.{by-step, stuck}
+use Rattle.reader.specs.internal.Blocks.{by-step, stuck}
 use Rattle.reader.proofs.Turns.{step-goes, step-bad}
 use borrow.Author.Needs.{needs}
 use Rattle.reader.proofs.commands.turn_as.Statement.{statement}
@@ -11,17 +11,8 @@ use Rattle.reader.proofs.tape.enter.Reads as enter-reads
 use Rattle.reader.proofs.walk.fault_at.Reads as fault-at-reads
 use Rattle.reader.proofs.walk.refusal.Reads as refusal-reads
 
-step-requires : tie.Need-step-requires
-step-requires c κs = search needs
-
-fault-at-requires : tie.Need-fault-at-requires
-fault-at-requires c κs = search needs
-
 returns : tie.Need-returns
 returns c = by-step _ (c .before .if1 .taken) (step-bad _ _ _ _ (c .before .if1 .taken) (c .before .before .before .step .ensures .stands)) (c .fault-at .ensures)
-
-refusal-requires : tie.Need-refusal-requires
-refusal-requires c κs = search needs
 
 returns-2 : tie.Need-returns-2
 returns-2 c = stuck (c .before .if2 .taken) (c .refusal .ensures)
@@ -39,15 +30,6 @@ returns-3 c = (
   refl,
   refl,
 )
-
-add-enter : tie.Need-add-enter
-add-enter c = search needs
-
-enter-requires : tie.Need-enter-requires
-enter-requires c κs = search needs
-
-add-t19 : tie.Need-add-t19
-add-t19 c = search needs
 
 add-t20 : tie.Need-add-t20
 add-t20 c = omega (
@@ -75,14 +57,14 @@ pub turn-as-spec : {M : Type 1} → statement M
 turn-as-spec =
     tie.close
     (tie.spec
-    step-requires
-    fault-at-requires
+    (λ c κs. search needs)
+    (λ c κs. search needs)
     returns
-    refusal-requires
+    (λ c κs. search needs)
     returns-2
     returns-3
-    add-enter
-    enter-requires
-    add-t19
+    (λ c. search needs)
+    (λ c κs. search needs)
+    (λ c. search needs)
     add-t20
     returns-4)

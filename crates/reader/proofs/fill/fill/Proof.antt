@@ -1,10 +1,9 @@
 -- `fill::fill` meets its contract. The loop's invariant: the rows of the entries passed are written.
--- Assumes nothing.
 use Prim.Native.Nat.{_+_, _-_, _≤_}
 use mathlib.Core.Path.{_≡_, refl, _∙_}
 use native.Mathlib.Omega.{arith}
 use lib.ListN.{length}
-use Rattle.reader.specs.Filling.{Filling}
+use Rattle.reader.specs.internal.Filling.{Filling}
 use Rattle.reader.proofs.Rows.{Written, written-none, written-on}
 use Rattle.reader.proofs.Wholes.{filled-whole}
 use Rattle.reader.proofs.fill.fill.Statement.{statement}

@@ -1,5 +1,4 @@
 -- `fill::head` meets its contract.
--- Assumes nothing.
 use Rattle.reader.proofs.Stores.{offset-word, length-word, sets-on}
 use Rattle.lexer.specs.Token.{atomValue}
 use lib.ListN.{drop, length}
@@ -10,48 +9,6 @@ use Prim.Native.Nat.{_+_, _≤_}
 use borrow.Author.Needs.{needs}
 use Rattle.reader.proofs.fill.head.Statement.{statement}
 use Rattle.reader.proofs.fill.head.Tie as tie
-
-put-atom-requires : tie.Need-put-atom-requires
-put-atom-requires c κs = search needs
-
-plus-requires : tie.Need-plus-requires
-plus-requires c κs = search needs
-
-put-atom-requires-2 : tie.Need-put-atom-requires-2
-put-atom-requires-2 c κs = search needs
-
-cast-put : tie.Need-cast-put
-cast-put c = search needs
-
-put-requires : tie.Need-put-requires
-put-requires c κs = search needs
-
-offset-word-requires : tie.Need-offset-word-requires
-offset-word-requires c κs = search needs
-
-offset-word-requires-2 : tie.Need-offset-word-requires-2
-offset-word-requires-2 c κs = search needs
-
-word-requires : tie.Need-word-requires
-word-requires c κs = search needs
-
-word-requires-2 : tie.Need-word-requires-2
-word-requires-2 c κs = search needs
-
-put-row-requires : tie.Need-put-row-requires
-put-row-requires c κs = search needs
-
-plus-requires-2 : tie.Need-plus-requires-2
-plus-requires-2 c κs = search needs
-
-same-length : tie.Need-same-length
-same-length c = search needs
-
-same-length-2 : tie.Need-same-length-2
-same-length-2 c = search needs
-
-same-length-3 : tie.Need-same-length-3
-same-length-3 c = search needs
 
 returns : tie.Need-returns
 returns c = (
@@ -77,18 +34,18 @@ pub head-spec : {M : Type 1} → statement M
 head-spec =
     tie.close
     (tie.spec
-    put-atom-requires
-    plus-requires
-    put-atom-requires-2
-    cast-put
-    put-requires
-    offset-word-requires
-    offset-word-requires-2
-    word-requires
-    word-requires-2
-    put-row-requires
-    plus-requires-2
-    same-length
-    same-length-2
-    same-length-3
+    (λ c κs. search needs)
+    (λ c κs. search needs)
+    (λ c κs. search needs)
+    (λ c. search needs)
+    (λ c κs. search needs)
+    (λ c κs. search needs)
+    (λ c κs. search needs)
+    (λ c κs. search needs)
+    (λ c κs. search needs)
+    (λ c κs. search needs)
+    (λ c κs. search needs)
+    (λ c. search needs)
+    (λ c. search needs)
+    (λ c. search needs)
     returns)

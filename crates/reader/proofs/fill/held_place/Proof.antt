@@ -1,11 +1,10 @@
 -- `fill::held_place` meets its contract: nothing stands at the end of the text.
--- Assumes nothing.
 use borrow.Author.Tests.{ne-eqb}
 use mathlib.Core.Path.{_≡_}
 use lib.Seq.{drop-length}
 use Rattle.lexer.specs.Token.{atomValue}
-use Rattle.syntax.specs.Scan.{ordinaryRun}
-use Rattle.reader.specs.Filling.{heldAt}
+use Rattle.syntax.specs.reference.Scan.{ordinaryRun}
+use Rattle.reader.specs.internal.Filling.{heldAt}
 use Rattle.reader.proofs.fill.held_place.Statement.{statement}
 use Rattle.reader.proofs.fill.held_place.Tie as tie
 

@@ -1,5 +1,4 @@
 -- `fill::offset_word` meets its contract.
--- Assumes nothing.
 use borrow.Author.Tests.{eq-eqb, ne-eqb}
 use borrow.Author.Needs.{needs}
 use Rattle.reader.proofs.fill.offset_word.Statement.{statement}
@@ -8,11 +7,8 @@ use Rattle.reader.proofs.fill.offset_word.Tie as tie
 returns : tie.Need-returns
 returns c = λ h. rw (eq-eqb _ 0 (c .if1 .taken))
 
-word-requires : tie.Need-word-requires
-word-requires c κs = search needs
-
 returns-2 : tie.Need-returns-2
 returns-2 c = λ h. rw (ne-eqb _ 0 (c .before .if1 .left)) (c .word .ensures h)
 
 pub offset-word-spec : {M : Type 1} → statement M
-offset-word-spec = tie.close (tie.spec returns word-requires returns-2)
+offset-word-spec = tie.close (tie.spec returns (λ c κs. search needs) returns-2)

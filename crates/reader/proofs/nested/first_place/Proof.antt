@@ -1,11 +1,8 @@
--- `first_place` meets its contract: each way out is one law of `Tops`. Assumes nothing.
+-- `first_place` meets its contract: each way out is one law of `Tops`.
 use Rattle.reader.proofs.Tops.{first-missing, first-there}
 use borrow.Author.Needs.{needs}
 use Rattle.reader.proofs.nested.first_place.Statement.{statement}
 use Rattle.reader.proofs.nested.first_place.Tie as tie
-
-look-requires : tie.Need-look-requires
-look-requires c κs = search needs
 
 returns : tie.Need-returns
 returns c = first-missing (c .before .before .look .ensures) (c .if1 .taken)
@@ -14,4 +11,4 @@ returns-2 : tie.Need-returns-2
 returns-2 c = first-there (c .before .before .look .ensures) (c .if1 .left)
 
 pub first-place-spec : {M : Type 1} → statement M
-first-place-spec = tie.close (tie.spec look-requires returns returns-2)
+first-place-spec = tie.close (tie.spec (λ c κs. search needs) returns returns-2)

@@ -1,4 +1,4 @@
--- `judge_first` meets its contract: each way out is one law of `Tops`. Assumes nothing.
+-- `judge_first` meets its contract: each way out is one law of `Tops`.
 use native.Mathlib.Omega.{arith}
 use Rattle.reader.proofs.Tops.{first-none, first-other, first-stuck, first-root, first-tape, refused-number, looked-within}
 use Rattle.reader.proofs.Loops.{to-start}
@@ -6,20 +6,11 @@ use borrow.Author.Needs.{needs}
 use Rattle.reader.proofs.nested.judge_first.Statement.{statement}
 use Rattle.reader.proofs.nested.judge_first.Tie as tie
 
-look-requires : tie.Need-look-requires
-look-requires c κs = search needs
-
-refusal-requires : tie.Need-refusal-requires
-refusal-requires c κs = search needs
-
 returns : tie.Need-returns
 returns c = (
   rw (c .refusal .ensures) (first-none (c .before .before .before .look .ensures) (c .before .if1 .taken)),
   λ e es u y full. absurd (refused-number 7 _ (c .refusal .ensures) (omega arith) y),
 )
-
-refusal-requires-2 : tie.Need-refusal-requires-2
-refusal-requires-2 c κs = search needs
 
 returns-2 : tie.Need-returns-2
 returns-2 c = (
@@ -27,9 +18,6 @@ returns-2 c = (
       (c .before .if2 .taken)),
   λ e es u y full. absurd (refused-number 8 _ (c .refusal2 .ensures) (omega arith) y),
 )
-
-refusal-requires-3 : tie.Need-refusal-requires-3
-refusal-requires-3 c κs = search needs
 
 returns-3 : tie.Need-returns-3
 returns-3 c = (
@@ -61,9 +49,6 @@ leave-requires c κs = λ y. omega (
   c .before .before .before .before .before .before .before .before .before .before .before .before .pre,
 )
 
-past-bracket-requires : tie.Need-past-bracket-requires
-past-bracket-requires c κs = search needs
-
 returns-4 : tie.Need-returns-4
 returns-4 c = (
   first-root (c .before .before .before .before .before .before .before .before .before .before .before .before .look .ensures)
@@ -82,15 +67,15 @@ pub judge-first-spec : {M : Type 1} → statement M
 judge-first-spec =
     tie.close
     (tie.spec
-    look-requires
-    refusal-requires
+    (λ c κs. search needs)
+    (λ c κs. search needs)
     returns
-    refusal-requires-2
+    (λ c κs. search needs)
     returns-2
-    refusal-requires-3
+    (λ c κs. search needs)
     returns-3
     enter-requires
     inline-requires
     leave-requires
-    past-bracket-requires
+    (λ c κs. search needs)
     returns-4)

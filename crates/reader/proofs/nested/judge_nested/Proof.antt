@@ -1,19 +1,10 @@
--- `judge_nested` meets its contract: each way out is one law of `Tops`. Assumes nothing.
+-- `judge_nested` meets its contract: each way out is one law of `Tops`.
 use native.Mathlib.Omega.{arith}
-use Rattle.syntax.specs.Expression.{none}
+use Rattle.syntax.specs.rules.Expression.{none}
 use Rattle.reader.proofs.Tops.{judge-two, judge-one, refused-number}
 use borrow.Author.Needs.{needs}
 use Rattle.reader.proofs.nested.judge_nested.Statement.{statement}
 use Rattle.reader.proofs.nested.judge_nested.Tie as tie
-
-judge-first-requires : tie.Need-judge-first-requires
-judge-first-requires c κs = search needs
-
-second-after-requires : tie.Need-second-after-requires
-second-after-requires c κs = search needs
-
-refusal-requires : tie.Need-refusal-requires
-refusal-requires c κs = search needs
 
 returns : tie.Need-returns
 returns c = (
@@ -31,4 +22,4 @@ returns-2 c = (
 pub judge-nested-spec : {M : Type 1} → statement M
 judge-nested-spec =
     tie.close
-    (tie.spec judge-first-requires second-after-requires refusal-requires returns returns-2)
+    (tie.spec (λ c κs. search needs) (λ c κs. search needs) (λ c κs. search needs) returns returns-2)

@@ -1,12 +1,9 @@
--- `past_first` meets its contract, by what was seen first. Assumes nothing.
+-- `past_first` meets its contract, by what was seen first.
 use native.Mathlib.Omega.{arith}
 use Rattle.reader.proofs.Tops.{past-atom, past-cut, past-list}
 use borrow.Author.Needs.{needs}
 use Rattle.reader.proofs.nested.past_first.Statement.{statement}
 use Rattle.reader.proofs.nested.past_first.Tie as tie
-
-look-requires : tie.Need-look-requires
-look-requires c κs = search needs
 
 returns : tie.Need-returns
 returns c = past-atom (c .before .before .look .ensures) (c .if1 .taken)
@@ -14,17 +11,8 @@ returns c = past-atom (c .before .before .look .ensures) (c .if1 .taken)
 returns-2 : tie.Need-returns-2
 returns-2 c = λ x es e t. absurd (past-cut (c .before .before .before .look .ensures) (c .before .if1 .left) (c .if2 .taken) x es e t)
 
-add-run-end : tie.Need-add-run-end
-add-run-end c = search needs
-
-run-end-requires : tie.Need-run-end-requires
-run-end-requires c κs = search needs
-
 returns-3 : tie.Need-returns-3
 returns-3 c = λ x es e t. absurd (omega (arith, past-list (c .before .before .before .before .before .look .ensures) (c .before .before .before .if1 .left) (c .before .run-end .ensures) x es e t .0, c .if3 .taken))
-
-add-result : tie.Need-add-result
-add-result c = search needs
 
 returns-4 : tie.Need-returns-4
 returns-4 c = λ x es e t. past-list (c .before .before .before .before .before .look .ensures) (c .before .before .before .if1 .left) (c .before .run-end .ensures) x es e t .1
@@ -33,11 +21,11 @@ pub past-first-spec : {M : Type 1} → statement M
 past-first-spec =
     tie.close
     (tie.spec
-    look-requires
+    (λ c κs. search needs)
     returns
     returns-2
-    add-run-end
-    run-end-requires
+    (λ c. search needs)
+    (λ c κs. search needs)
     returns-3
-    add-result
+    (λ c. search needs)
     returns-4)

@@ -1,4 +1,4 @@
--- `run_end` meets its contract: each way through the loop is one law of `Tops`. Assumes nothing.
+-- `run_end` meets its contract: each way through the loop is one law of `Tops`.
 use Prim.Native.Nat.{_-_}
 use native.Mathlib.Omega.{arith}
 use borrow.Author.Needs.{needs}
@@ -16,20 +16,11 @@ abbrev μ-loop : tie.MeasureT-loop
 loop-holds : tie.Need-loop-holds Inv-loop μ-loop
 loop-holds c = running _ _
 
-look-requires : tie.Need-look-requires Inv-loop μ-loop
-look-requires c κs = search needs
-
 returns : tie.Need-returns Inv-loop μ-loop
 returns c = run-ends (c .before .before .before .look .ensures) (c .before .before .before .before .before .loop .inv) (c .before .if1 .taken) (c .if2 .taken)
 
 returns-2 : tie.Need-returns-2 Inv-loop μ-loop
 returns-2 c = run-unclosed (c .before .before .before .before .look .ensures) (c .before .before .before .before .before .before .loop .inv) (c .before .before .if1 .taken) (c .before .if2 .left) (c .if3 .taken)
-
-sub-depth : tie.Need-sub-depth Inv-loop μ-loop
-sub-depth c = search needs
-
-add-i : tie.Need-add-i Inv-loop μ-loop
-add-i c = search needs
 
 loop-less : tie.Need-loop-less Inv-loop μ-loop
 loop-less c = omega (arith, looked-within (c .before .before .before .before .before .before .before .before .args .text .now) (c .before .before .before .before .before .before .loop .i) (c .before .before .before .before .look .ensures) (omega arith) .0)
@@ -68,11 +59,11 @@ run-end-spec =
     Inv-loop
     μ-loop
     loop-holds
-    look-requires
+    (λ c κs. search needs)
     returns
     returns-2
-    sub-depth
-    add-i
+    (λ c. search needs)
+    (λ c. search needs)
     loop-less
     loop-again
     returns-3

@@ -1,4 +1,4 @@
--- `decimal` meets its contract: the invariant is `Counting`, and each way is one law of `Decimals`. Assumes nothing.
+-- `decimal` meets its contract: the invariant is `Counting`, and each way is one law of `Decimals`.
 use Prim.Native.Nat.{_+_, _-_}
 use native.Mathlib.Omega.{arith}
 use borrow.Author.Needs.{needs}
@@ -19,14 +19,8 @@ returns c = decimal-empty _ _ _ (c .before .pre) (c .if1 .taken)
 returns-2 : tie.Need-returns-2 Inv-loop μ-loop
 returns-2 c = decimal-long _ _ _ (c .before .before .pre) (c .if2 .taken)
 
-add-end : tie.Need-add-end Inv-loop μ-loop
-add-end c = search needs
-
 loop-holds : tie.Need-loop-holds Inv-loop μ-loop
 loop-holds c = decimal-start _ _ _ (c .before .before .pre) (c .before .if1 .left) (c .if2 .left)
-
-shared-slice-read-b : tie.Need-shared-slice-read-b Inv-loop μ-loop
-shared-slice-read-b c = search needs
 
 returns-3 : tie.Need-returns-3 Inv-loop μ-loop
 returns-3 c =
@@ -43,19 +37,10 @@ mul-number c =
     let at = c .before .before .before .before in
     omega (arith, decimal-small _ _ _ (at .before .before .before .pre) (at .loop .inv) (at .before .if2 .left))
 
-cast-number : tie.Need-cast-number Inv-loop μ-loop
-cast-number c = search needs
-
 add-number : tie.Need-add-number Inv-loop μ-loop
 add-number c =
     let at = c .before .before .before .before in
     omega (arith, decimal-small _ _ _ (at .before .before .before .pre) (at .loop .inv) (at .before .if2 .left))
-
-add-i : tie.Need-add-i Inv-loop μ-loop
-add-i c = search needs
-
-loop-less : tie.Need-loop-less Inv-loop μ-loop
-loop-less c = search needs
 
 loop-again : tie.Need-loop-again Inv-loop μ-loop
 loop-again c =
@@ -73,15 +58,15 @@ decimal-spec =
     μ-loop
     returns
     returns-2
-    add-end
+    (λ c. search needs)
     loop-holds
-    shared-slice-read-b
+    (λ c. search needs)
     returns-3
     returns-4
     mul-number
-    cast-number
+    (λ c. search needs)
     add-number
-    add-i
-    loop-less
+    (λ c. search needs)
+    (λ c. search needs)
     loop-again
     returns-5)

@@ -1,25 +1,13 @@
--- `is_value` meets its contract: each way out is one law of `Values`. Assumes nothing.
+-- `is_value` meets its contract: each way out is one law of `Values`.
 use Rattle.reader.proofs.Values.{value-id, value-type, value-target, value-none}
 use borrow.Author.Needs.{needs}
 use Rattle.reader.proofs.value.is_value.Statement.{statement}
 use Rattle.reader.proofs.value.is_value.Tie as tie
 
 -- src/value.rt:75:15
-atom-fits-requires : tie.Need-atom-fits-requires
-atom-fits-requires c κs = search needs
-
 -- src/value.rt:76:15
-atom-fits-requires-2 : tie.Need-atom-fits-requires-2
-atom-fits-requires-2 c κs = search needs
-
 -- src/value.rt:77:38
-target-sort-requires : tie.Need-target-sort-requires
-target-sort-requires c κs = search needs
-
 -- src/value.rt:77:15
-atom-fits-requires-3 : tie.Need-atom-fits-requires-3
-atom-fits-requires-3 c κs = search needs
-
 -- src/value.rt:71:1
 returns : tie.Need-returns
 returns c = value-id _ _ _ _ (c .before .match .keys1) (c .atom-fits .ensures)
@@ -40,10 +28,10 @@ pub is-value-spec : {M : Type 1} → statement M
 is-value-spec =
     tie.close
     (tie.spec
-    atom-fits-requires
-    atom-fits-requires-2
-    target-sort-requires
-    atom-fits-requires-3
+    (λ c κs. search needs)
+    (λ c κs. search needs)
+    (λ c κs. search needs)
+    (λ c κs. search needs)
     returns
     returns-2
     returns-3

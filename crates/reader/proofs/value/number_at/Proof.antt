@@ -1,11 +1,8 @@
--- `number_at` meets its contract: each way out is one law of `Measures`. Assumes nothing.
+-- `number_at` meets its contract: each way out is one law of `Measures`.
 use Rattle.reader.proofs.Measures.{read-other, read-stuck, read-within, read-number}
 use borrow.Author.Needs.{needs}
 use Rattle.reader.proofs.value.number_at.Statement.{statement}
 use Rattle.reader.proofs.value.number_at.Tie as tie
-
-look-requires : tie.Need-look-requires
-look-requires c κs = search needs
 
 returns : tie.Need-returns
 returns c = read-other _ _ (c .before .before .look .ensures) (c .before .before .before .before .pre) (c .if1 .taken)
@@ -26,4 +23,4 @@ returns-3 c =
     read-number _ _ (at .look .ensures) (at .before .before .pre) (c .before .before .if1 .left) (c .before .if2 .left) (c .decimal .ensures)
 
 pub number-at-spec : {M : Type 1} → statement M
-number-at-spec = tie.close (tie.spec look-requires returns returns-2 decimal-requires returns-3)
+number-at-spec = tie.close (tie.spec (λ c κs. search needs) returns returns-2 decimal-requires returns-3)

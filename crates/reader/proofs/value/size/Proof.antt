@@ -1,4 +1,4 @@
--- `size` meets its contract: each way out is one law of `Measures`. Assumes nothing.
+-- `size` meets its contract: each way out is one law of `Measures`.
 use Rattle.reader.proofs.Measures.{size-unfit, size-unfit-height, size-unfit-third, size-good}
 use borrow.Author.Needs.{needs}
 use Rattle.reader.proofs.value.size.Statement.{statement}
@@ -8,31 +8,16 @@ use Rattle.reader.proofs.tape.note.Reads as note-reads
 use Rattle.reader.proofs.value.number_at.Reads as number-at-reads
 use Rattle.reader.proofs.walk.refusal.Reads as refusal-reads
 
-number-at-requires : tie.Need-number-at-requires
-number-at-requires c κs = search needs
-
-refusal-requires : tie.Need-refusal-requires
-refusal-requires c κs = search needs
-
 returns : tie.Need-returns
 returns c = rw (c .refusal .ensures) (size-unfit _ _ _ _ (c .before .before .before .number-at .ensures) (c .before .if1 .taken))
 
 number-at-requires-2 : tie.Need-number-at-requires-2
 number-at-requires-2 c κs = c .before .before .number-at .ensures .within (c .if1 .left) .1
 
-refusal-requires-2 : tie.Need-refusal-requires-2
-refusal-requires-2 c κs = search needs
-
 returns-2 : tie.Need-returns-2
 returns-2 c = rw (c .refusal2 .ensures)
     (size-unfit-height _ _ _ _ (c .before .before .before .before .before .before .number-at .ensures) (c .before .before .before .before .if1 .left)
     (c .before .before .before .number-at2 .ensures) (c .before .if2 .taken))
-
-look-requires : tie.Need-look-requires
-look-requires c κs = search needs
-
-refusal-requires-3 : tie.Need-refusal-requires-3
-refusal-requires-3 c κs = search needs
 
 returns-3 : tie.Need-returns-3
 returns-3 c = rw (c .refusal3 .ensures)
@@ -40,12 +25,6 @@ returns-3 c = rw (c .refusal3 .ensures)
     (c .before .before .before .before .before .before .before .if1 .left)
     (c .before .before .before .before .before .before .number-at2 .ensures) (c .before .before .before .before .if2 .left)
     (c .before .before .before .look .ensures) (c .before .if3 .taken))
-
-note-requires : tie.Need-note-requires
-note-requires c κs = search needs
-
-note-requires-2 : tie.Need-note-requires-2
-note-requires-2 c κs = search needs
 
 returns-4 : tie.Need-returns-4
 returns-4 c = size-good _ _ _ _
@@ -62,15 +41,15 @@ pub size-spec : {M : Type 1} → statement M
 size-spec =
     tie.close
     (tie.spec
-    number-at-requires
-    refusal-requires
+    (λ c κs. search needs)
+    (λ c κs. search needs)
     returns
     number-at-requires-2
-    refusal-requires-2
+    (λ c κs. search needs)
     returns-2
-    look-requires
-    refusal-requires-3
+    (λ c κs. search needs)
+    (λ c κs. search needs)
     returns-3
-    note-requires
-    note-requires-2
+    (λ c κs. search needs)
+    (λ c κs. search needs)
     returns-4)

@@ -1,6 +1,6 @@
--- `target_sort` meets its contract, by the tests on the way. Assumes nothing.
+-- `target_sort` meets its contract, by the tests on the way.
 use borrow.Author.Tests.{eq-eqb, ne-eqb}
-use Rattle.document.specs.Value.{namesBlock}
+use Rattle.document.specs.rules.Value.{namesBlock}
 use Rattle.reader.proofs.value.target_sort.Statement.{statement}
 use Rattle.reader.proofs.value.target_sort.Tie as tie
 

@@ -1,4 +1,4 @@
--- `value` meets its contract: each way out is one law of `Values`. Assumes nothing.
+-- `value` meets its contract: each way out is one law of `Values`.
 use native.Mathlib.Omega.{arith}
 use borrow.Author.Tests.{not-true, not-false}
 use Rattle.reader.proofs.Values.{value-size, value-nothing, value-bad, value-good, word-small}
@@ -12,36 +12,18 @@ use Rattle.reader.proofs.value.size.Reads as size-reads
 use Rattle.reader.proofs.value.word_of.Reads as word-of-reads
 use Rattle.reader.proofs.walk.refusal.Reads as refusal-reads
 
-size-requires : tie.Need-size-requires
-size-requires c κs = search needs
-
 returns : tie.Need-returns
 returns c = value-size _ _ _ _ (c .before .before .if1 .taken) (c .size .ensures)
-
-only-requires : tie.Need-only-requires
-only-requires c κs = search needs
-
-refusal-requires : tie.Need-refusal-requires
-refusal-requires c κs = search needs
 
 returns-2 : tie.Need-returns-2
 returns-2 c = rw (c .refusal .ensures)
     (value-nothing _ _ _ _ (c .before .before .before .before .if1 .left) (c .before .before .before .only .ensures)
     (not-true _ (c .before .if2 .taken)))
 
-is-value-requires : tie.Need-is-value-requires
-is-value-requires c κs = search needs
-
-refusal-requires-2 : tie.Need-refusal-requires-2
-refusal-requires-2 c κs = search needs
-
 returns-3 : tie.Need-returns-3
 returns-3 c = rw (c .refusal2 .ensures)
     (value-bad _ _ _ _ (c .before .before .before .before .before .before .if1 .left) (c .before .before .before .before .before .only .ensures)
     (not-false _ (c .before .before .before .if2 .left)) (not-true _ (c .before .if3 .taken)) (c .before .before .is-value .ensures))
-
-word-of-requires : tie.Need-word-of-requires
-word-of-requires c κs = search needs
 
 note-requires : tie.Need-note-requires
 note-requires c κs = (
@@ -76,15 +58,15 @@ pub value-spec : {M : Type 1} → statement M
 value-spec =
     tie.close
     (tie.spec
-    size-requires
+    (λ c κs. search needs)
     returns
-    only-requires
-    refusal-requires
+    (λ c κs. search needs)
+    (λ c κs. search needs)
     returns-2
-    is-value-requires
-    refusal-requires-2
+    (λ c κs. search needs)
+    (λ c κs. search needs)
     returns-3
-    word-of-requires
+    (λ c κs. search needs)
     note-requires
     add-t16
     returns-4)

@@ -1,4 +1,4 @@
--- `word_of` meets its contract. Assumes nothing.
+-- `word_of` meets its contract.
 use borrow.Author.Tests.{eq-eqb, ne-eqb}
 use Rattle.reader.proofs.value.word_of.Statement.{statement}
 use Rattle.reader.proofs.value.word_of.Tie as tie

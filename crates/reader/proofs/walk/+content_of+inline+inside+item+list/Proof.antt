@@ -1,6 +1,5 @@
 -- The walks over an element's content meet their contracts. The invariant of a loop is `Walking`; each way through a loop's body is one law of `Loops`.
 -- The measure is five times the bytes left, and a rank: `inside` hands the bytes on to `content_of`, that to a walk, and `item` to `inline`.
--- Assumes nothing.
 use mathlib.Core.Path.{_≡_, refl, sym, _∙_}
 use mathlib.Core.Logic.{⊎-elim}
 use Prim.Native.Nat.{_+_, _*_, _-_, _≤_}
@@ -9,8 +8,8 @@ use borrow.Author.Needs.{needs}
 use borrow.Author.Tests.{not-true, not-false}
 use lib.ListN.{length}
 use Rattle.kind.specs.Machine.{stateOf}
-use Rattle.reader.specs.Walked.{Bounded}
-use Rattle.reader.specs.Turn.{Opens, Judges}
+use Rattle.reader.specs.internal.Walked.{Bounded}
+use Rattle.reader.specs.internal.Turn.{Opens, Judges}
 use Rattle.reader.proofs.Loops.{Walking, begun, answered, passed, list-answered, list-forward, list-gone-on}
 use Rattle.reader.proofs.Loops.{to-start, element-judges, item-judges, list-judges, value-judges}
 use Rattle.reader.proofs.Items.{Bare, is-list, bare-start, item-taken}
@@ -145,15 +144,9 @@ inline-next-turn-requires t c κs = (
   c .before .before .before .pre .1 .4,
 )
 
-inline-enum-known-t : (t : ℕ) → inline-lts.Need-enum-known-t (inline-claims t) (inline-at t) inline.Post inline-Inv-loop inline-μ-loop
-inline-enum-known-t t c = search needs
-
 inline-returns : (t : ℕ) → inline-lts.Need-returns (inline-claims t) (inline-at t) inline.Post inline-Inv-loop inline-μ-loop
 inline-returns t c = answered (c .before .before .before .before .before .loop .inv)
     (rw (c .before .t .given .1) at (c .before .before .before .next-turn .ensures))
-
-inline-enum-known-t-2 : (t : ℕ) → inline-lts.Need-enum-known-t-2 (inline-claims t) (inline-at t) inline.Post inline-Inv-loop inline-μ-loop
-inline-enum-known-t-2 t c = search needs
 
 inline-loop-less : (t : ℕ) → inline-lts.Need-loop-less (inline-claims t) (inline-at t) inline.Post inline-Inv-loop inline-μ-loop
 inline-loop-less t c =
@@ -164,9 +157,6 @@ inline-loop-again : (t : ℕ) → inline-lts.Need-loop-again (inline-claims t) (
 inline-loop-again t c =
     let turn = rw (c .before .t2 .given .1) at (c .before .before .before .next-turn .ensures) in
     passed (c .before .before .before .before .before .loop .inv) turn
-
-inline-enum-known-t-3 : (t : ℕ) → inline-lts.Need-enum-known-t-3 (inline-claims t) (inline-at t) inline.Post inline-Inv-loop inline-μ-loop
-inline-enum-known-t-3 t c = search needs
 
 inline-enter-requires : (t : ℕ) → inline-lts.Need-enter-requires (inline-claims t) (inline-at t) inline.Post inline-Inv-loop inline-μ-loop
 inline-enter-requires t c κs =
@@ -274,9 +264,6 @@ inside-claims t = (
   leave-reads.Learnt,
 )
 
-inside-is-element-requires : (t : ℕ) → inside-lts.Need-is-element-requires (inside-claims t) (inside-at t) inside.Post
-inside-is-element-requires t c κs = search needs
-
 inside-value-requires : (t : ℕ) → inside-lts.Need-value-requires (inside-claims t) (inside-at t) inside.Post
 inside-value-requires t c κs = (
   c .before .before .before .before .pre .1 .0,
@@ -364,28 +351,13 @@ list-μ-loop text at from kind nodes pool node tape₀ i₀ state₀ n₀ p₀ t
 list-loop-holds : (t : ℕ) → list-lts.Need-loop-holds (list-claims t) (list-at t) list.Post list-Inv-loop list-μ-loop
 list-loop-holds t c = (begun (c .before .pre .1 .0) (c .before .pre .1 .1) (c .before .pre .1 .2), bare-start (c .before .args .kind) (c .before .pre .1 .5))
 
-list-look-requires : (t : ℕ) → list-lts.Need-look-requires (list-claims t) (list-at t) list.Post list-Inv-loop list-μ-loop
-list-look-requires t c κs = search needs
-
-list-at-end-requires : (t : ℕ) → list-lts.Need-at-end-requires (list-claims t) (list-at t) list.Post list-Inv-loop list-μ-loop
-list-at-end-requires t c κs = search needs
-
 list-returns : (t : ℕ) → list-lts.Need-returns (list-claims t) (list-at t) list.Post list-Inv-loop list-μ-loop
 list-returns t c = answered (c .before .before .before .before .loop .inv .0)
     (rw (c .at-end .ensures) (turn-end (c .before .before .before .look .ensures) (c .before .before .before .before .loop .inv .0 .within) (c .before .before .before .before .loop .inv .0 .nodes-within) (c .before .before .before .before .loop .inv .0 .pool-within) (c .before .if1 .taken)))
 
-list-step-requires : (t : ℕ) → list-lts.Need-step-requires (list-claims t) (list-at t) list.Post list-Inv-loop list-μ-loop
-list-step-requires t c κs = search needs
-
-list-fault-at-requires : (t : ℕ) → list-lts.Need-fault-at-requires (list-claims t) (list-at t) list.Post list-Inv-loop list-μ-loop
-list-fault-at-requires t c κs = search needs
-
 list-returns-2 : (t : ℕ) → list-lts.Need-returns-2 (list-claims t) (list-at t) list.Post list-Inv-loop list-μ-loop
 list-returns-2 t c = answered (c .before .before .before .before .before .before .before .loop .inv .0)
     (rw (c .fault-at .ensures) (turn-fault (c .before .before .before .before .before .before .look .ensures) (c .before .before .before .before .before .before .before .loop .inv .0 .within) _ _ (c .before .before .before .step .ensures .stands) (c .before .before .before .before .if1 .left) (c .before .if2 .taken)))
-
-list-refusal-requires : (t : ℕ) → list-lts.Need-refusal-requires (list-claims t) (list-at t) list.Post list-Inv-loop list-μ-loop
-list-refusal-requires t c κs = search needs
 
 list-returns-3 : (t : ℕ) → list-lts.Need-returns-3 (list-claims t) (list-at t) list.Post list-Inv-loop list-μ-loop
 list-returns-3 t c = answered (c .before .before .before .before .before .before .before .before .loop .inv .0)
@@ -433,9 +405,6 @@ list-item-requires t c κs =
 list-leave-requires : (t : ℕ) → list-lts.Need-leave-requires (list-claims t) (list-at t) list.Post list-Inv-loop list-μ-loop
 list-leave-requires t c κs = λ y. omega (arith, c .before .item .ensures .0 .bounds y, c .before .before .before .before .before .before .before .before .before .before .before .before .before .before .pre .1)
 
-list-past-bracket-requires : (t : ℕ) → list-lts.Need-past-bracket-requires (list-claims t) (list-at t) list.Post list-Inv-loop list-μ-loop
-list-past-bracket-requires t c κs = search needs
-
 -- It is judged as the list that it is.
 list-child : (t : ℕ) (c : list-lts.After-leave (list-claims t) (list-at t) list.Post list-Inv-loop list-μ-loop)
     → let a = c .before .before .before .before .before .before .before .before .before .before .before .before .before .before .before .args in
@@ -476,12 +445,12 @@ pub +content-of+inline+inside+item+list-spec : {M : Type 1} → statement M
     inline-μ-loop
     (inline-loop-holds t)
     (inline-next-turn-requires t)
-    (inline-enum-known-t t)
+    (λ c. search needs)
     (inline-returns t)
-    (inline-enum-known-t-2 t)
+    (λ c. search needs)
     (inline-loop-less t)
     (inline-loop-again t)
-    (inline-enum-known-t-3 t)
+    (λ c. search needs)
     (inline-enter-requires t)
     (inline-add-list t)
     (inline-list-requires t)
@@ -493,7 +462,7 @@ pub +content-of+inline+inside+item+list-spec : {M : Type 1} → statement M
     (inline-loop-again-2 t))
     (λ t. inside-lts.spec (inside-claims t) (inside-at t)
     inside.Post
-    (inside-is-element-requires t)
+    (λ c κs. search needs)
     (inside-value-requires t)
     (inside-returns t)
     (inside-enter-requires t)
@@ -510,19 +479,19 @@ pub +content-of+inline+inside+item+list-spec : {M : Type 1} → statement M
     list-Inv-loop
     list-μ-loop
     (list-loop-holds t)
-    (list-look-requires t)
-    (list-at-end-requires t)
+    (λ c κs. search needs)
+    (λ c κs. search needs)
     (list-returns t)
-    (list-step-requires t)
-    (list-fault-at-requires t)
+    (λ c κs. search needs)
+    (λ c κs. search needs)
     (list-returns-2 t)
-    (list-refusal-requires t)
+    (λ c κs. search needs)
     (list-returns-3 t)
     (list-enter-requires t)
     (list-add-item t)
     (list-item-requires t)
     (list-leave-requires t)
-    (list-past-bracket-requires t)
+    (λ c κs. search needs)
     (list-returns-4 t)
     (list-loop-less t)
     (list-loop-again t)

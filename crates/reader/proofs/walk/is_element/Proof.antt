@@ -1,6 +1,6 @@
--- `is_element` meets its contract, by the tests on the way. Assumes nothing.
+-- `is_element` meets its contract, by the tests on the way.
 use borrow.Author.Tests.{lt-leb, le-leb}
-use Rattle.elements.specs.Class.{isElement, isKind}
+use Rattle.elements.specs.rules.Class.{isElement, isKind}
 use Rattle.reader.proofs.walk.is_element.Statement.{statement}
 use Rattle.reader.proofs.walk.is_element.Tie as tie
 

@@ -1,6 +1,6 @@
--- `leave` meets its contract. Assumes nothing.
+-- `leave` meets its contract.
 use native.Mathlib.Omega.{arith}
-use Rattle.reader.specs.Tape.{left}
+use Rattle.reader.specs.internal.Tape.{left}
 use Rattle.reader.proofs.walk.leave.Statement.{statement}
 use Rattle.reader.proofs.walk.leave.Tie as tie
 use Rattle.reader.proofs.tape.note.Reads as note-reads

@@ -1,4 +1,4 @@
--- `next_turn` meets its contract: each way out is one law of `Turns`. Assumes nothing.
+-- `next_turn` meets its contract: each way out is one law of `Turns`.
 use native.Mathlib.Omega.{arith}
 use mathlib.Core.Path.{refl}
 use Rattle.reader.proofs.Turns.{ended-here, turn-end, turn-fault, turn-stuck, turn-atom, turn-list, seen-within}
@@ -7,35 +7,14 @@ use borrow.Author.Needs.{needs}
 use Rattle.reader.proofs.walk.next_turn.Statement.{statement}
 use Rattle.reader.proofs.walk.next_turn.Tie as tie
 
-closes-requires : tie.Need-closes-requires
-closes-requires c κs = search needs
-
-at-end-requires : tie.Need-at-end-requires
-at-end-requires c κs = search needs
-
 returns : tie.Need-returns
 returns c = rw (c .at-end .ensures) (turn-end (ended-here _ _ (c .before .before .closes .ensures (c .before .if1 .taken))) (c .before .before .before .before .pre .0) (c .before .before .before .before .pre .1) (c .before .before .before .before .pre .2) refl)
-
-look-requires : tie.Need-look-requires
-look-requires c κs = search needs
-
-at-end-requires-2 : tie.Need-at-end-requires-2
-at-end-requires-2 c κs = search needs
 
 returns-2 : tie.Need-returns-2
 returns-2 c = rw (c .at-end2 .ensures) (turn-end (c .before .before .before .look .ensures) (c .before .before .before .before .before .before .before .pre .0) (c .before .before .before .before .before .before .before .pre .1) (c .before .before .before .before .before .before .before .pre .2) (c .before .if2 .taken))
 
-step-requires : tie.Need-step-requires
-step-requires c κs = search needs
-
-fault-at-requires : tie.Need-fault-at-requires
-fault-at-requires c κs = search needs
-
 returns-3 : tie.Need-returns-3
 returns-3 c = rw (c .fault-at .ensures) (turn-fault (c .before .before .before .before .before .before .look .ensures) (c .before .before .before .before .before .before .before .before .before .before .pre .0) _ _ (c .before .before .before .step .ensures .stands) (c .before .before .before .before .if2 .left) (c .before .if3 .taken))
-
-refusal-requires : tie.Need-refusal-requires
-refusal-requires c κs = search needs
 
 returns-4 : tie.Need-returns-4
 returns-4 c = rw (c .refusal .ensures) (turn-stuck (c .before .before .before .before .before .before .before .look .ensures) (c .before .before .before .before .before .before .before .before .before .before .before .pre .0) (c .before .before .before .before .before .if2 .left) (c .before .if4 .taken))
@@ -45,16 +24,10 @@ returns-5 c =
     let turn = turn-list (c .before .before .before .before .before .before .before .before .look .ensures) (c .before .before .before .before .before .before .before .before .before .before .before .before .pre .0) _ _ (c .before .before .before .before .before .step .ensures .stands) (c .before .before .before .before .before .before .if2 .left) (c .before .before .before .if3 .left) (c .before .before .if4 .left) (c .if5 .taken) in
     (turn .0, (turn .1, refl))
 
-add-enter : tie.Need-add-enter
-add-enter c = search needs
-
 enter-requires : tie.Need-enter-requires
 enter-requires c κs =
     let b = seen-bounds (c .before .before .before .before .before .before .before .before .before .before .before .before .before .args .text .now) (c .before .before .before .before .before .before .before .before .before .before .before .before .before .args .i) (c .before .before .before .before .before .before .before .before .before .before .before .before .before .pre .0) in
     (omega (arith, b .place-within, c .before .before .before .before .before .before .before .before .before .look .ensures .1, c .before .before .before .before .before .before .before .before .before .before .before .before .before .pre .3), c .before .before .before .before .before .before .before .before .before .before .before .before .before .pre .4, omega (arith, c .before .before .before .before .before .before .before .before .before .before .before .before .before .pre))
-
-add-t23 : tie.Need-add-t23
-add-t23 c = search needs
 
 add-t24 : tie.Need-add-t24
 add-t24 c = omega (arith, seen-within (c .before .before .before .before .before .before .before .before .before .before .before .before .before .before .before .args .text .now) (c .before .before .before .before .before .before .before .before .before .before .before .before .before .before .before .args .i) (c .before .before .before .before .before .before .before .before .before .before .before .look .ensures) (c .before .before .before .before .before .before .before .before .before .before .before .before .before .before .before .pre .0) (c .before .before .before .before .before .before .before .before .before .if2 .left) (c .before .before .before .before .before .if4 .left), c .before .before .before .before .before .before .before .before .before .before .before .before .before .before .before .pre, c .before .before .before .before .before .before .before .before .before .before .before .before .before .before .before .good)
@@ -67,20 +40,20 @@ pub next-turn-spec : {M : Type 1} → statement M
 next-turn-spec =
     tie.close
     (tie.spec
-    closes-requires
-    at-end-requires
+    (λ c κs. search needs)
+    (λ c κs. search needs)
     returns
-    look-requires
-    at-end-requires-2
+    (λ c κs. search needs)
+    (λ c κs. search needs)
     returns-2
-    step-requires
-    fault-at-requires
+    (λ c κs. search needs)
+    (λ c κs. search needs)
     returns-3
-    refusal-requires
+    (λ c κs. search needs)
     returns-4
     returns-5
-    add-enter
+    (λ c. search needs)
     enter-requires
-    add-t23
+    (λ c. search needs)
     add-t24
     returns-6)

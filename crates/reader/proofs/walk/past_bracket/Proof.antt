@@ -1,7 +1,7 @@
--- `past_bracket` meets its contract, by the tests on the way. Assumes nothing.
+-- `past_bracket` meets its contract, by the tests on the way.
 use borrow.Author.Tests.{eq-eqb, ne-eqb, le-leb, lt-leb}
-use Rattle.reader.specs.Turn.{pastBracket}
-use Rattle.reader.specs.Walked.{walkedTo}
+use Rattle.reader.specs.internal.Turn.{pastBracket}
+use Rattle.reader.specs.internal.Walked.{walkedTo}
 use borrow.Author.Needs.{needs}
 use Rattle.reader.proofs.walk.past_bracket.Statement.{statement}
 use Rattle.reader.proofs.walk.past_bracket.Tie as tie
@@ -10,19 +10,13 @@ returns : tie.Need-returns
 unfolding pastBracket
 returns c = rw (ne-eqb _ 0 (c .if1 .taken))
 
-refusal-requires : tie.Need-refusal-requires
-refusal-requires c κs = search needs
-
 returns-2 : tie.Need-returns-2
 unfolding pastBracket
 returns-2 c = rw (eq-eqb _ 0 (c .before .before .if1 .left), le-leb _ _ (c .before .if2 .taken)) (c .refusal .ensures)
-
-add-t5 : tie.Need-add-t5
-add-t5 c = search needs
 
 returns-3 : tie.Need-returns-3
 unfolding pastBracket walkedTo
 returns-3 c = rw (eq-eqb _ 0 (c .before .if1 .left), lt-leb _ _ (c .if2 .left))
 
 pub past-bracket-spec : {M : Type 1} → statement M
-past-bracket-spec = tie.close (tie.spec returns refusal-requires returns-2 add-t5 returns-3)
+past-bracket-spec = tie.close (tie.spec returns (λ c κs. search needs) returns-2 (λ c. search needs) returns-3)

@@ -1,7 +1,7 @@
 -- The walks over a node, an element, its children and a child meet their contracts: each way out is one law of `Nodes` or `Walks`.
 -- The loop's invariant: the children from `j` on, in the state `s`, with the values behind the first where these are due, stand in the table
 -- where all the children do with the values.
--- The measure is the words left from the node's record on, and a rank. Assumes nothing.
+-- The measure is the words left from the node's record on, and a rank.
 use native.Mathlib.Omega.{arith}
 use mathlib.Core.Path.{_≡_, refl, sym, _∙_}
 use mathlib.Core.Bool.{true, true≢false}
@@ -9,12 +9,12 @@ use Prim.Native.Nat.{_+_, _*_, _-_, _≤_}
 use borrow.Author.Needs.{needs}
 use borrow.Author.Tests.{not-true, not-false}
 use lib.ListN.{length, getD}
-use Rattle.laws.proofs.Booleans.{T-true, not-T-false}
-use Rattle.elements.specs.Rules.{ruleOf}
-use Rattle.elements.specs.Inside.{start}
+use Rattle.base.proofs.Booleans.{T-true, not-T-false}
+use Rattle.elements.specs.rules.Rules.{ruleOf}
+use Rattle.elements.specs.rules.Inside.{start}
 use Rattle.kind.specs.Machine.{stateOf}
-use Rattle.document.specs.Canonical.{nodeFirst, placeValues, layoutAll}
-use Rattle.validate.specs.Walking.{stringsEnd, valuesOf, behindFirst, ChildrenAt}
+use Rattle.document.specs.rules.Canonical.{nodeFirst, placeValues, layoutAll}
+use Rattle.validate.specs.internal.Walking.{stringsEnd, valuesOf, behindFirst, ChildrenAt}
 use Rattle.validate.proofs.Decisions.{not-held, refused, Same, through, decides-same, none-same}
 use Rattle.validate.proofs.RecordTests.{word-in}
 use Rattle.validate.proofs.Recordings.{stored-node}
@@ -100,14 +100,8 @@ child-words-requires t c κs =
     let here = c .before .before .node .ensures .sound (not-false _ (c .if1 .left)) in
     stored-node (here .made) _ _ _ _ _ (here .stored) (c .before .before .before .before .before .pre .1 .2) .recorded .whole
 
-child-shared-slice-read-step : (t : ℕ) → child-lts.Need-shared-slice-read-step (child-claims t) (child-at t) child.Post
-child-shared-slice-read-step t c = search needs
-
 child-cast-step : (t : ℕ) → child-lts.Need-cast-step (child-claims t) (child-at t) child.Post
 child-cast-step t c = omega (arith, word-in _ _ _ 0 (c .before .words .ensures .0) (omega arith), kind-word (c .before .before .before .before .node .ensures .sound (not-false _ (c .before .before .if1 .left))))
-
-child-step-requires : (t : ℕ) → child-lts.Need-step-requires (child-claims t) (child-at t) child.Post
-child-step-requires t c κs = search needs
 
 child-returns-2 : (t : ℕ) → child-lts.Need-returns-2 (child-claims t) (child-at t) child.Post
 child-returns-2 t c = child-stepped _ _ _ _ (c .before .before .before .before .before .before .node .ensures) (c .before .step .result .fault) (not-false _ (c .before .before .before .before .if1 .left)) (rw (word-in _ _ _ 0 (c .before .before .before .words .ensures .0) (omega arith)) at (c .before .step .ensures .stands))
@@ -127,9 +121,6 @@ children-μ-loop nodes pool i kind end levels at left due₀ s₀ j₀ p₀ due 
 children-lead-requires : (t : ℕ) → children-lts.Need-lead-requires (children-claims t) (children-at t) children.Post children-Inv-loop children-μ-loop
 children-lead-requires t c κs = (c .before .before .pre .1 .0, c .before .before .pre .1 .2)
 
-children-refused-requires : (t : ℕ) → children-lts.Need-refused-requires (children-claims t) (children-at t) children.Post children-Inv-loop children-μ-loop
-children-refused-requires t c κs = search needs
-
 children-returns : (t : ℕ) → children-lts.Need-returns (children-claims t) (children-at t) children.Post children-Inv-loop children-μ-loop
 children-returns t c = refused (c .refused .ensures) (values-none _ _ _ _ (λ ns e. c .before .before .before .lead .ensures .taken ns e ∙ rw (not-true (c .before .before .before .lead .result .ok) (c .before .if1 .taken))))
 
@@ -142,18 +133,9 @@ children-loop-holds t c = (omega arith, c .before .before .before .before .befor
 children-child-requires : (t : ℕ) → children-lts.Need-child-requires (children-claims t) (children-at t) children.Post children-Inv-loop children-μ-loop
 children-child-requires t c κs = (omega (arith, c .before .before .before .before .before .before .before .pre .0), (c .before .before .before .before .before .before .before .pre .1 .0, c .before .loop .inv .0, c .before .loop .inv .1))
 
-children-refused-requires-2 : (t : ℕ) → children-lts.Need-refused-requires-2 (children-claims t) (children-at t) children.Post children-Inv-loop children-μ-loop
-children-refused-requires-2 t c κs = search needs
-
 children-returns-2 : (t : ℕ) → children-lts.Need-returns-2 (children-claims t) (children-at t) children.Post children-Inv-loop children-μ-loop
 children-returns-2 t c =
     refused (c .refused2 .ensures) (none-same (c .before .before .before .before .before .loop .inv .3) (child-none _ _ _ _ _ _ (behind-child (c .before .before .before .before .before .loop .due) _) (c .before .before .before .child .ensures) (c .before .before .before .before .loop-test .taken) (not-true _ (c .before .if2 .taken))))
-
-children-values-requires : (t : ℕ) → children-lts.Need-values-requires (children-claims t) (children-at t) children.Post children-Inv-loop children-μ-loop
-children-values-requires t c κs = search needs
-
-children-refused-requires-3 : (t : ℕ) → children-lts.Need-refused-requires-3 (children-claims t) (children-at t) children.Post children-Inv-loop children-μ-loop
-children-refused-requires-3 t c κs = search needs
 
 children-returns-3 : (t : ℕ) → children-lts.Need-returns-3 (children-claims t) (children-at t) children.Post children-Inv-loop children-μ-loop
 children-returns-3 t c =
@@ -186,14 +168,8 @@ children-loop-again-2 t c =
       through (values-same _ _ _ _ (λ ns e. rw (c .if3 .left))) (through (child-same _ _ _ _ _ _ (behind-child (c .before .before .before .before .before .loop .due) _) (c .before .before .before .child .ensures) (c .before .before .before .before .loop-test .taken) (not-false _ (c .before .if2 .left))) (c .before .before .before .before .before .loop .inv .3)),
     )
 
-children-refused-requires-4 : (t : ℕ) → children-lts.Need-refused-requires-4 (children-claims t) (children-at t) children.Post children-Inv-loop children-μ-loop
-children-refused-requires-4 t c κs = search needs
-
 children-returns-4 : (t : ℕ) → children-lts.Need-returns-4 (children-claims t) (children-at t) children.Post children-Inv-loop children-μ-loop
 children-returns-4 t c = refused (c .refused4 .ensures) (none-same (c .before .before .before .loop .inv .3) (λ e q. end-passed _ _ _ _ (c .before .before .loop-test .left) (c .before .if5 .taken)))
-
-children-may-end-requires : (t : ℕ) → children-lts.Need-may-end-requires (children-claims t) (children-at t) children.Post children-Inv-loop children-μ-loop
-children-may-end-requires t c κs = search needs
 
 children-returns-5 : (t : ℕ) → children-lts.Need-returns-5 (children-claims t) (children-at t) children.Post children-Inv-loop children-μ-loop
 children-returns-5 t c =
@@ -209,9 +185,6 @@ element-words-requires t c κs = c .before .before .pre .1 .0
 element-stands-requires : (t : ℕ) → element-lts.Need-stands-requires (element-claims t) (element-at t) element.Post
 element-stands-requires t c κs = (c .words .ensures .1, c .before .before .before .pre .1 .1)
 
-element-refused-requires : (t : ℕ) → element-lts.Need-refused-requires (element-claims t) (element-at t) element.Post
-element-refused-requires t c κs = search needs
-
 element-returns : (t : ℕ) → element-lts.Need-returns (element-claims t) (element-at t) element.Post
 element-returns t c =
     refused (c .refused .ensures)
@@ -223,18 +196,12 @@ element-value-levels-requires t c κs = c .before .before .words .ensures .1
 element-element-fits-requires : (t : ℕ) → element-lts.Need-element-fits-requires (element-claims t) (element-at t) element.Post
 element-element-fits-requires t c κs = c .before .before .before .words .ensures .1
 
-element-refused-requires-2 : (t : ℕ) → element-lts.Need-refused-requires-2 (element-claims t) (element-at t) element.Post
-element-refused-requires-2 t c κs = search needs
-
 element-returns-2 : (t : ℕ) → element-lts.Need-returns-2 (element-claims t) (element-at t) element.Post
 element-returns-2 t c =
     let r = c .before .before .before .before .before .before .words .ensures .0 in
     let there = c .before .before .before .before .before .stands .ensures _ _ r .sound (not-false _ (c .before .before .before .before .if1 .left)) in
     refused (c .refused2 .ensures)
     (λ e q a. not-held (c .before .before .element-fits .ensures _ _ r (c .before .before .before .value-levels .ensures _ _ r)) (not-true _ (c .before .if2 .taken)) (element-record _ _ _ _ _ there _ refl (c .before .before .before .before .before .before .before .before .before .pre .1 .2) a))
-
-element-shared-slice-read-after : (t : ℕ) → element-lts.Need-shared-slice-read-after (element-claims t) (element-at t) element.Post
-element-shared-slice-read-after t c = search needs
 
 element-cast-after : (t : ℕ) → element-lts.Need-cast-after (element-claims t) (element-at t) element.Post
 element-cast-after t c = omega (arith, c .shared-slice-known3 .given 4)
@@ -245,9 +212,6 @@ element-add-after t c =
     let there = c .before .before .before .before .before .stands .ensures _ _ r .sound (not-false _ (c .before .before .before .before .if1 .left)) in
     omega (arith, word-in _ _ _ 4 r (omega arith), there .key-at .within)
 
-element-shared-slice-read-after-2 : (t : ℕ) → element-lts.Need-shared-slice-read-after-2 (element-claims t) (element-at t) element.Post
-element-shared-slice-read-after-2 t c = search needs
-
 element-cast-after-2 : (t : ℕ) → element-lts.Need-cast-after-2 (element-claims t) (element-at t) element.Post
 element-cast-after-2 t c = omega (arith, c .shared-slice-known4 .given 6)
 
@@ -257,17 +221,11 @@ element-add-after-2 t c =
     let there = c .before .before .before .before .before .before .stands .ensures _ _ r .sound (not-false _ (c .before .before .before .before .before .if1 .left)) in
     omega (arith, word-in _ _ _ 4 r (omega arith), word-in _ _ _ 6 r (omega arith), there .type-at .within)
 
-element-shared-slice-read-children : (t : ℕ) → element-lts.Need-shared-slice-read-children (element-claims t) (element-at t) element.Post
-element-shared-slice-read-children t c = search needs
-
 element-cast-children : (t : ℕ) → element-lts.Need-cast-children (element-claims t) (element-at t) element.Post
 element-cast-children t c =
     let r = c .before .before .before .before .before .before .before .before .words .ensures .0 in
     let fits = c .before .before .before .before .element-fits .ensures _ _ r (c .before .before .before .before .before .value-levels .ensures _ _ r) .sound (not-false _ (c .before .before .before .if2 .left)) in
     omega (arith, word-in _ _ _ 0 r (omega arith), fits .kind-high)
-
-element-shared-slice-read-children-2 : (t : ℕ) → element-lts.Need-shared-slice-read-children-2 (element-claims t) (element-at t) element.Post
-element-shared-slice-read-children-2 t c = search needs
 
 element-cast-children-2 : (t : ℕ) → element-lts.Need-cast-children-2 (element-claims t) (element-at t) element.Post
 element-cast-children-2 t c = omega (arith, c .shared-slice-known6 .given 2)
@@ -304,21 +262,9 @@ element-returns-3 t c =
 abbrev node-claims : ℕ → node-lts.Claims
 node-claims t = (refused-reads.Asked, refused-reads.Learnt, words-reads.Asked, words-reads.Learnt, text-node-reads.Asked, text-node-reads.Learnt, element-below t, element.Post)
 
-node-refused-requires : (t : ℕ) → node-lts.Need-refused-requires (node-claims t) (node-at t) node.Post
-node-refused-requires t c κs = search needs
-
 node-returns : (t : ℕ) → node-lts.Need-returns (node-claims t) (node-at t) node.Post
 node-returns t c =
     refused (c .refused .ensures) (λ e q a. omega (arith, stored-node (a .made) _ _ _ _ _ (a .stored) (c .before .before .before .before .pre .1) .recorded .whole))
-
-node-words-requires : (t : ℕ) → node-lts.Need-words-requires (node-claims t) (node-at t) node.Post
-node-words-requires t c κs = search needs
-
-node-shared-slice-read-if2 : (t : ℕ) → node-lts.Need-shared-slice-read-if2 (node-claims t) (node-at t) node.Post
-node-shared-slice-read-if2 t c = search needs
-
-node-cast-if2 : (t : ℕ) → node-lts.Need-cast-if2 (node-claims t) (node-at t) node.Post
-node-cast-if2 t c = search needs
 
 node-text-node-requires : (t : ℕ) → node-lts.Need-text-node-requires (node-claims t) (node-at t) node.Post
 node-text-node-requires t c κs = (omega arith, c .before .before .before .before .before .before .before .pre .1, sym (word-in _ _ _ 0 (c .before .before .before .words .ensures .0) (omega arith)) ∙ c .if2 .taken)
@@ -338,63 +284,63 @@ pub +child+children+element+node-spec : {M : Type 1} → statement M
     (child-node-requires t)
     (child-returns t)
     (child-words-requires t)
-    (child-shared-slice-read-step t)
+    (λ c. search needs)
     (child-cast-step t)
-    (child-step-requires t)
+    (λ c κs. search needs)
     (child-returns-2 t))
     (λ t. children-lts.spec (children-claims t) (children-at t)
     children.Post
     children-Inv-loop
     children-μ-loop
     (children-lead-requires t)
-    (children-refused-requires t)
+    (λ c κs. search needs)
     (children-returns t)
     (children-add-j t)
     (children-loop-holds t)
     (children-child-requires t)
-    (children-refused-requires-2 t)
+    (λ c κs. search needs)
     (children-returns-2 t)
-    (children-values-requires t)
-    (children-refused-requires-3 t)
+    (λ c κs. search needs)
+    (λ c κs. search needs)
     (children-returns-3 t)
     (children-loop-less t)
     (children-loop-again t)
     (children-loop-less-2 t)
     (children-loop-again-2 t)
-    (children-refused-requires-4 t)
+    (λ c κs. search needs)
     (children-returns-4 t)
-    (children-may-end-requires t)
+    (λ c κs. search needs)
     (children-returns-5 t))
     (λ t. element-lts.spec (element-claims t) (element-at t)
     element.Post
     (element-words-requires t)
     (element-stands-requires t)
-    (element-refused-requires t)
+    (λ c κs. search needs)
     (element-returns t)
     (element-value-levels-requires t)
     (element-element-fits-requires t)
-    (element-refused-requires-2 t)
+    (λ c κs. search needs)
     (element-returns-2 t)
-    (element-shared-slice-read-after t)
+    (λ c. search needs)
     (element-cast-after t)
     (element-add-after t)
-    (element-shared-slice-read-after-2 t)
+    (λ c. search needs)
     (element-cast-after-2 t)
     (element-add-after-2 t)
-    (element-shared-slice-read-children t)
+    (λ c. search needs)
     (element-cast-children t)
-    (element-shared-slice-read-children-2 t)
+    (λ c. search needs)
     (element-cast-children-2 t)
     (element-sub-children t)
     (element-children-requires t)
     (element-returns-3 t))
     λ t. node-lts.spec (node-claims t) (node-at t)
     node.Post
-    (node-refused-requires t)
+    (λ c κs. search needs)
     (node-returns t)
-    (node-words-requires t)
-    (node-shared-slice-read-if2 t)
-    (node-cast-if2 t)
+    (λ c κs. search needs)
+    (λ c. search needs)
+    (λ c. search needs)
     (node-text-node-requires t)
     (node-returns-2 t)
     (node-element-requires t)

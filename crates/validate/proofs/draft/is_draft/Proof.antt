@@ -1,4 +1,4 @@
--- `draft::is_draft` meets its contract. Assumes nothing.
+-- `draft::is_draft` meets its contract.
 use native.Mathlib.Omega.{arith}
 use mathlib.Core.Path.{_≡_, sym, _∙_}
 use mathlib.Core.Bool.{true≢false}
@@ -6,7 +6,7 @@ use lib.Dec.{eqb}
 use Prim.Native.Nat.{_/_}
 use lib.ListN.{length}
 use borrow.Author.Tests.{not-true, not-false, eqb-true, eqb-false}
-use Rattle.elements.specs.Class as Class
+use Rattle.elements.specs.rules.Class as Class
 use Rattle.table.specs.Stored.{wordAt}
 use Rattle.validate.proofs.RecordTests.{word-there}
 use Rattle.validate.proofs.Drafts.{draft-told, no-draft}
@@ -22,12 +22,6 @@ returns-2 c = no-draft (λ e q r. omega (arith, c .if2 .taken, r .few-bytes))
 
 returns-3 : tie.Need-returns-3
 returns-3 c = no-draft (λ e q r. c .if3 .taken (omega (arith, r .all-words)))
-
-word-requires : tie.Need-word-requires
-word-requires c κs = search needs
-
-cast-if4 : tie.Need-cast-if4
-cast-if4 c = search needs
 
 returns-4 : tie.Need-returns-4
 returns-4 c = no-draft (λ e q r. c .if4 .taken (c .before .before .word .ensures ∙ r .of-kind))
@@ -65,8 +59,8 @@ is-draft-spec =
     returns
     returns-2
     returns-3
-    word-requires
-    cast-if4
+    (λ c κs. search needs)
+    (λ c. search needs)
     returns-4
     element-requires
     returns-5

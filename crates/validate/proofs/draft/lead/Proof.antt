@@ -1,10 +1,10 @@
--- `draft::lead` meets its contract: each way out is one law of `ValueSteps`. Assumes nothing.
+-- `draft::lead` meets its contract: each way out is one law of `ValueSteps`.
 use native.Mathlib.Omega.{arith}
 use mathlib.Core.Path.{_≡_, sym, _∙_}
 use mathlib.Core.Bool.{false}
 use mathlib.Core.Logic.{⊎-elim}
-use Rattle.elements.specs.Rules.{ruleOf}
-use Rattle.document.specs.Canonical.{nodeFirst}
+use Rattle.elements.specs.rules.Rules.{ruleOf}
+use Rattle.document.specs.rules.Canonical.{nodeFirst}
 use Rattle.validate.proofs.ValueSteps.{lead-none, lead-due, lead-taken}
 use borrow.Author.Needs.{needs}
 use Rattle.validate.proofs.draft.lead.Statement.{statement}
@@ -13,17 +13,8 @@ use Rattle.validate.proofs.draft.lead.Tie as tie
 returns : tie.Need-returns
 returns c = lead-none _ _ _ _ _ (sym (c .before .before .before .pre .1) ∙ c .if1 .taken)
 
-add-if2 : tie.Need-add-if2
-add-if2 c = search needs
-
-is-titled-requires : tie.Need-is-titled-requires
-is-titled-requires c κs = search needs
-
 returns-2 : tie.Need-returns-2
 returns-2 c = lead-due _ _ _ _ _ (sym (c .before .is-titled .ensures) ∙ c .if3 .taken) (c .before .before .if2 .taken)
-
-values-requires : tie.Need-values-requires
-values-requires c κs = search needs
 
 returns-3 : tie.Need-returns-3
 returns-3 c = lead-taken _ _ _ _ _
@@ -32,4 +23,4 @@ returns-3 c = lead-taken _ _ _ _ _
 
 pub lead-spec : {M : Type 1} → statement M
 lead-spec =
-    tie.close (tie.spec returns add-if2 is-titled-requires returns-2 values-requires returns-3)
+    tie.close (tie.spec returns (λ c. search needs) (λ c κs. search needs) returns-2 (λ c κs. search needs) returns-3)

@@ -1,10 +1,10 @@
--- `draft::text_node` meets its contract. Assumes nothing.
+-- `draft::text_node` meets its contract.
 use native.Mathlib.Omega.{arith}
 use Prim.Native.Nat.{_+_, _-_}
 use mathlib.Core.Path.{_≡_}
 use lib.ListN.{getD}
 use borrow.Author.Tests.{not-true, not-false}
-use Rattle.document.specs.Printing.{part}
+use Rattle.document.specs.reference.Printing.{part}
 use Rattle.table.specs.Stored.{wordAt}
 use Rattle.validate.proofs.Decisions.{not-held, refused}
 use Rattle.validate.proofs.RecordTests.{word-in}
@@ -13,34 +13,10 @@ use borrow.Author.Needs.{needs}
 use Rattle.validate.proofs.draft.text_node.Statement.{statement}
 use Rattle.validate.proofs.draft.text_node.Tie as tie
 
-words-requires : tie.Need-words-requires
-words-requires c κs = search needs
-
-add-next : tie.Need-add-next
-add-next c = search needs
-
-text-alone-requires : tie.Need-text-alone-requires
-text-alone-requires c κs = search needs
-
-refused-requires : tie.Need-refused-requires
-refused-requires c κs = search needs
-
 returns : tie.Need-returns
 returns c = λ left.
     refused (c .refused .ensures)
     (λ e q a. not-held (c .before .before .text-alone .ensures _ _ (c .before .before .before .words .ensures .0)) (not-true _ (c .before .if1 .taken)) (text-record _ _ _ _ _ (c .before .before .before .before .before .before .pre .2) (c .before .before .before .before .before .before .pre .1) a .0 .alone))
-
-shared-slice-read-string-stands : tie.Need-shared-slice-read-string-stands
-shared-slice-read-string-stands c = search needs
-
-shared-slice-read-string-stands-2 : tie.Need-shared-slice-read-string-stands-2
-shared-slice-read-string-stands-2 c = search needs
-
-string-stands-requires : tie.Need-string-stands-requires
-string-stands-requires c κs = search needs
-
-refused-requires-2 : tie.Need-refused-requires-2
-refused-requires-2 c κs = search needs
 
 returns-2 : tie.Need-returns-2
 returns-2 c = λ left.
@@ -48,9 +24,6 @@ returns-2 c = λ left.
     let text = c .before .before .string-stands .ensures _ _ 7 (word-in _ _ _ 7 r (omega arith)) (word-in _ _ _ 8 r (omega arith)) in
     refused (c .refused2 .ensures)
     (λ e q a. not-held text (not-true _ (c .before .if2 .taken)) (text-record _ _ _ _ _ (c .before .before .before .before .before .before .before .before .before .before .pre .2) (c .before .before .before .before .before .before .before .before .before .before .pre .1) a .0 .text-at))
-
-shared-slice-read-size : tie.Need-shared-slice-read-size
-shared-slice-read-size c = search needs
 
 cast-size : tie.Need-cast-size
 cast-size c = omega (arith, c .shared-slice-known5 .given 8)
@@ -61,20 +34,11 @@ add-end c =
     let text = c .before .before .string-stands .ensures _ _ 7 (word-in _ _ _ 7 r (omega arith)) (word-in _ _ _ 8 r (omega arith)) in
     omega (arith, word-in _ _ _ 8 r (omega arith), text .sound (not-false _ (c .before .if2 .left)) .within)
 
-sub-valid-up-to : tie.Need-sub-valid-up-to
-sub-valid-up-to c = search needs
-
-part-valid-up-to-start : tie.Need-part-valid-up-to-start
-part-valid-up-to-start c = search needs
-
 part-valid-up-to-end : tie.Need-part-valid-up-to-end
 part-valid-up-to-end c =
     let r = c .before .before .before .before .before .before .before .words .ensures .0 in
     let text = c .before .before .string-stands .ensures _ _ 7 (word-in _ _ _ 7 r (omega arith)) (word-in _ _ _ 8 r (omega arith)) in
     omega (arith, word-in _ _ _ 8 r (omega arith), text .sound (not-false _ (c .before .if2 .left)) .within)
-
-valid-up-to-requires : tie.Need-valid-up-to-requires
-valid-up-to-requires c κs = search needs
 
 returns-3 : tie.Need-returns-3
 unfolding part
@@ -91,21 +55,21 @@ pub text-node-spec : {M : Type 1} → statement M
 text-node-spec =
     tie.close
     (tie.spec
-    words-requires
-    add-next
-    text-alone-requires
-    refused-requires
+    (λ c κs. search needs)
+    (λ c. search needs)
+    (λ c κs. search needs)
+    (λ c κs. search needs)
     returns
-    shared-slice-read-string-stands
-    shared-slice-read-string-stands-2
-    string-stands-requires
-    refused-requires-2
+    (λ c. search needs)
+    (λ c. search needs)
+    (λ c κs. search needs)
+    (λ c κs. search needs)
     returns-2
-    shared-slice-read-size
+    (λ c. search needs)
     cast-size
     add-end
-    sub-valid-up-to
-    part-valid-up-to-start
+    (λ c. search needs)
+    (λ c. search needs)
     part-valid-up-to-end
-    valid-up-to-requires
+    (λ c κs. search needs)
     returns-3)

@@ -1,10 +1,10 @@
--- `validate::binder` meets its contract. The loop's invariant: what binds the rows below the parent binds those below `a`. Assumes nothing.
+-- `validate::binder` meets its contract. The loop's invariant: what binds the rows below the parent binds those below `a`.
 use mathlib.Core.Path.{_∙_, sym}
 use native.Mathlib.Omega.{arith}
 use borrow.Author.Needs.{needs}
-use Rattle.document.specs.Check.{Cells}
+use Rattle.document.specs.reference.Check.{Cells}
 use Rattle.table.specs.Stored.{wordAt}
-use Rattle.validate.specs.Words.{Below}
+use Rattle.validate.specs.internal.Words.{Below}
 use Rattle.validate.proofs.Children.{up}
 use Rattle.validate.proofs.faults.binder.Statement.{statement}
 use Rattle.validate.proofs.faults.binder.Tie as tie
@@ -15,17 +15,8 @@ Inv-loop nodes i a₀ a = (c : Cells) → Below nodes (wordAt nodes i 1) c → B
 abbrev μ-loop : tie.MeasureT-loop
 μ-loop nodes i a₀ a = a
 
-word-requires : tie.Need-word-requires Inv-loop μ-loop
-word-requires c κs = search needs
-
 loop-holds : tie.Need-loop-holds Inv-loop μ-loop
 loop-holds c = λ x b. rw (c .word .ensures) b
-
-word-requires-2 : tie.Need-word-requires-2 Inv-loop μ-loop
-word-requires-2 c κs = search needs
-
-word-requires-3 : tie.Need-word-requires-3 Inv-loop μ-loop
-word-requires-3 c κs = search needs
 
 returns : tie.Need-returns Inv-loop μ-loop
 returns c =
@@ -59,10 +50,10 @@ binder-spec =
     (tie.spec
     Inv-loop
     μ-loop
-    word-requires
+    (λ c κs. search needs)
     loop-holds
-    word-requires-2
-    word-requires-3
+    (λ c κs. search needs)
+    (λ c κs. search needs)
     returns
     loop-less
     loop-again

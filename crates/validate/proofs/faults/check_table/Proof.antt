@@ -1,15 +1,9 @@
--- `validate::check_table` meets its contract. Assumes nothing.
+-- `validate::check_table` meets its contract.
 use borrow.Author.Needs.{needs}
 use Rattle.validate.proofs.Answers.{answer-15, answer-16, answer-17, answer-18, answer-sound}
 use Rattle.validate.proofs.Slots.{none-entered}
 use Rattle.validate.proofs.faults.check_table.Statement.{statement}
 use Rattle.validate.proofs.faults.check_table.Tie as tie
-
-first-bad-row-requires : tie.Need-first-bad-row-requires
-first-bad-row-requires c κs = search needs
-
-enum-known-row : tie.Need-enum-known-row
-enum-known-row c = search needs
 
 returns : tie.Need-returns
 returns c =
@@ -18,17 +12,11 @@ returns c =
     λ d h.
     answer-15 _ _ _ d h _ (first-bad-row .ensures) (row .given .0 .0) (row .given .1)
 
-enum-told : tie.Need-enum-told
-enum-told c = search needs
-
 first-repeated-requires : tie.Need-first-repeated-requires
 first-repeated-requires c κs =
     let pre = c .before .before .before .before .before .before .before .pre in
     let args = c .before .before .before .before .before .before .before .args in
     (pre .0, pre .1, none-entered (args .nodes .now) (args .pool .now))
-
-enum-known-id : tie.Need-enum-known-id
-enum-known-id c = search needs
 
 returns-2 : tie.Need-returns-2
 returns-2 c =
@@ -40,18 +28,12 @@ returns-2 c =
     answer-16 _ _ _ d h _ (first-bad-row .ensures) (enum-told .given .1) _
     (first-repeated .ensures .0) (id .given .0 .0) (id .given .1)
 
-enum-told-2 : tie.Need-enum-told-2
-enum-told-2 c = search needs
-
 first-unknown-requires : tie.Need-first-unknown-requires
 first-unknown-requires c κs =
     let first-repeated = c .before .before .before .before .first-repeated in
     let enum-told2 = c .before .before .enum-told2 in
     let pre = c .before .before .before .before .before .before .before .before .before .before .before .before .pre in
     (pre .1, first-repeated .ensures .1 (enum-told2 .given .1))
-
-enum-known-link : tie.Need-enum-known-link
-enum-known-link c = search needs
 
 returns-3 : tie.Need-returns-3
 returns-3 c =
@@ -66,18 +48,12 @@ returns-3 c =
     (first-repeated .ensures .0) (enum-told2 .given .1) _
     (first-unknown .ensures) (link .given .0 .0) (link .given .1)
 
-enum-told-3 : tie.Need-enum-told-3
-enum-told-3 c = search needs
-
 first-unknown-requires-2 : tie.Need-first-unknown-requires-2
 first-unknown-requires-2 c κs =
     let first-repeated = c .before .before .before .before .before .before .before .before .before .first-repeated in
     let enum-told2 = c .before .before .before .before .before .before .before .enum-told2 in
     let pre = c .before .before .before .before .before .before .before .before .before .before .before .before .before .before .before .before .before .pre in
     (pre .1, first-repeated .ensures .1 (enum-told2 .given .1))
-
-enum-known-note : tie.Need-enum-known-note
-enum-known-note c = search needs
 
 returns-4 : tie.Need-returns-4
 returns-4 c =
@@ -95,9 +71,6 @@ returns-4 c =
     (first-repeated .ensures .0) (enum-told2 .given .1) _
     (first-unknown .ensures) (enum-told3 .given .1) _
     (first-unknown2 .ensures) (note .given .0 .0) (note .given .1)
-
-enum-told-4 : tie.Need-enum-told-4
-enum-told-4 c = search needs
 
 returns-5 : tie.Need-returns-5
 returns-5 c =
@@ -119,20 +92,20 @@ pub check-table-spec : {M : Type 1} → statement M
 check-table-spec =
     tie.close
     (tie.spec
-    first-bad-row-requires
-    enum-known-row
+    (λ c κs. search needs)
+    (λ c. search needs)
     returns
-    enum-told
+    (λ c. search needs)
     first-repeated-requires
-    enum-known-id
+    (λ c. search needs)
     returns-2
-    enum-told-2
+    (λ c. search needs)
     first-unknown-requires
-    enum-known-link
+    (λ c. search needs)
     returns-3
-    enum-told-3
+    (λ c. search needs)
     first-unknown-requires-2
-    enum-known-note
+    (λ c. search needs)
     returns-4
-    enum-told-4
+    (λ c. search needs)
     returns-5)

@@ -1,10 +1,10 @@
--- `validate::child_count` meets its contract. The loop's invariant: `n` and the children from `at` on are as many as the children. Assumes nothing.
+-- `validate::child_count` meets its contract. The loop's invariant: `n` and the children from `at` on are as many as the children.
 use Prim.Native.Nat.{_≤_, _-_}
 use mathlib.Core.Path.{sym}
 use native.Mathlib.Omega.{arith}
 use borrow.Author.Needs.{needs}
-use Rattle.document.specs.Document.{Nodes}
-use Rattle.validate.specs.Words.{Family}
+use Rattle.document.specs.rules.Document.{Nodes}
+use Rattle.validate.specs.internal.Words.{Family}
 use Rattle.validate.proofs.Children.{Counted, counted-start, counted-on, counted-end}
 use Rattle.validate.proofs.faults.child_count.Statement.{statement}
 use Rattle.validate.proofs.faults.child_count.Tie as tie
@@ -15,23 +15,14 @@ Inv-loop nodes i end at₀ n₀ at n = (n ≤ at) × ((ns : Nodes) → Family no
 abbrev μ-loop : tie.MeasureT-loop
 μ-loop nodes i end at₀ n₀ at n = end - at
 
-word-requires : tie.Need-word-requires Inv-loop μ-loop
-word-requires c κs = search needs
-
 returns : tie.Need-returns Inv-loop μ-loop
 returns c = λ ns f. absurd (omega (arith, c .before .word .ensures, f .0))
-
-add-at : tie.Need-add-at Inv-loop μ-loop
-add-at c = search needs
 
 loop-holds : tie.Need-loop-holds Inv-loop μ-loop
 loop-holds c =
     let args = c .before .before .before .args in
     let word = c .before .word in
     (omega arith, λ ns f. counted-start (args .nodes .now) (args .i) (word .result) ns f (sym (word .ensures)))
-
-word-requires-2 : tie.Need-word-requires-2 Inv-loop μ-loop
-word-requires-2 c κs = search needs
 
 returns-2 : tie.Need-returns-2 Inv-loop μ-loop
 returns-2 c =
@@ -43,12 +34,6 @@ returns-2 c =
     λ ns f.
     let (l, r) = counted-on (args .nodes .now) (args .i) (word .result) ns (loop .at) (loop .n) (loop .inv .1 ns f) (loop-test .taken) in
     absurd (omega (arith, l, word2 .ensures))
-
-add-n : tie.Need-add-n Inv-loop μ-loop
-add-n c = search needs
-
-loop-less : tie.Need-loop-less Inv-loop μ-loop
-loop-less c = search needs
 
 loop-again : tie.Need-loop-again Inv-loop μ-loop
 loop-again c =
@@ -76,13 +61,13 @@ child-count-spec =
     (tie.spec
     Inv-loop
     μ-loop
-    word-requires
+    (λ c κs. search needs)
     returns
-    add-at
+    (λ c. search needs)
     loop-holds
-    word-requires-2
+    (λ c κs. search needs)
     returns-2
-    add-n
-    loop-less
+    (λ c. search needs)
+    (λ c. search needs)
     loop-again
     returns-3)

@@ -1,11 +1,11 @@
--- `validate::first_bad_row` meets its contract. The loop's invariant: the first bad row is the first from node `i` on. Assumes nothing.
+-- `validate::first_bad_row` meets its contract. The loop's invariant: the first bad row is the first from node `i` on.
 use Prim.Native.Nat.{_*_, _-_}
 use mathlib.Core.Path.{_≡_, _∙_, sym, ap}
 use mathlib.Core.Logic.{⊎-elim}
 use native.Mathlib.Omega.{arith}
 use borrow.Author.Needs.{needs}
-use Rattle.document.specs.Check.{First}
-use Rattle.validate.specs.Words.{found, Searched}
+use Rattle.document.specs.reference.Check.{First}
+use Rattle.validate.specs.internal.Words.{found, Searched}
 use Rattle.validate.proofs.Ids.{kind-read}
 use Rattle.validate.proofs.Rows.{spot-other, search-turn, search-end}
 use Rattle.validate.proofs.faults.first_bad_row.Statement.{statement}
@@ -21,15 +21,6 @@ loop-holds : tie.Need-loop-holds Inv-loop μ-loop
 loop-holds c = λ f s.
     let e : c .before .args .count - 0 ≡ c .before .args .count = omega arith in
     rw e s
-
-mul-if1 : tie.Need-mul-if1 Inv-loop μ-loop
-mul-if1 c = search needs
-
-mul-if1-2 : tie.Need-mul-if1-2 Inv-loop μ-loop
-mul-if1-2 c = search needs
-
-shared-slice-read-if1 : tie.Need-shared-slice-read-if1 Inv-loop μ-loop
-shared-slice-read-if1 c = search needs
 
 cast-if1 : tie.Need-cast-if1 Inv-loop μ-loop
 cast-if1 c = omega (arith, c .shared-slice-known2 .given (11 * c .before .before .loop .i))
@@ -48,12 +39,6 @@ returns c =
     let t = search-turn (args .nodes .now) (args .count) (loop .i) f (loop-test .taken) (loop .inv f s) in
     let r = row-differs .ensures (t .test) (t .spot) in
     ap found (sym (t .here (sym r ∙ c .if2 .taken)))
-
-add-i : tie.Need-add-i Inv-loop μ-loop
-add-i c = search needs
-
-loop-less : tie.Need-loop-less Inv-loop μ-loop
-loop-less c = search needs
 
 loop-again : tie.Need-loop-again Inv-loop μ-loop
 loop-again c =
@@ -79,13 +64,13 @@ first-bad-row-spec =
     Inv-loop
     μ-loop
     loop-holds
-    mul-if1
-    mul-if1-2
-    shared-slice-read-if1
+    (λ c. search needs)
+    (λ c. search needs)
+    (λ c. search needs)
     cast-if1
     row-differs-requires
     returns
-    add-i
-    loop-less
+    (λ c. search needs)
+    (λ c. search needs)
     loop-again
     returns-2)

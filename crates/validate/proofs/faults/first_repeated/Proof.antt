@@ -1,5 +1,5 @@
 -- `validate::first_repeated` meets its contract. The loop's invariant: the first repeated id from node `i` on is the first of all,
--- and the nodes before it have entered. Assumes nothing.
+-- and the nodes before it have entered.
 use Prim.Native.Nat.{ℕ, _+_, _*_, _-_, _≤_}
 use mathlib.Core.Path.{_≡_, _∙_, sym, ap}
 use mathlib.Core.Bool.{false}
@@ -7,9 +7,9 @@ use mathlib.Core.List.{[]}
 use mathlib.Core.Logic.{⊎-elim}
 use native.Mathlib.Omega.{arith}
 use borrow.Author.Needs.{needs}
-use Rattle.document.specs.Check.{repeatedId}
-use Rattle.validate.specs.Words.{entriesFrom, idsBefore, repeatsAt, found}
-use Rattle.validate.specs.Index.{Indexed}
+use Rattle.document.specs.reference.Check.{repeatedId}
+use Rattle.validate.specs.internal.Words.{entriesFrom, idsBefore, repeatsAt, found}
+use Rattle.validate.specs.internal.Index.{Indexed}
 use Rattle.validate.proofs.Ids.{above-id, rest, repeated-here, repeated-on, repeated-end}
 use Rattle.validate.proofs.Slots.{no-id}
 use Rattle.validate.proofs.faults.first_repeated.Statement.{statement}
@@ -28,15 +28,6 @@ unfolding idsBefore
 loop-holds c =
     let e : c .before .before .args .count - 0 ≡ c .before .before .args .count = omega arith in
     (omega arith, c .before .before .pre .2, rw e)
-
-mul-if1 : tie.Need-mul-if1 Inv-loop μ-loop
-mul-if1 c = search needs
-
-mul-if1-2 : tie.Need-mul-if1-2 Inv-loop μ-loop
-mul-if1-2 c = search needs
-
-shared-slice-read-if1 : tie.Need-shared-slice-read-if1 Inv-loop μ-loop
-shared-slice-read-if1 c = search needs
 
 cast-if1 : tie.Need-cast-if1 Inv-loop μ-loop
 cast-if1 c = omega (arith, c .shared-slice-known3 .given (11 * c .before .before .loop .i))
@@ -57,12 +48,6 @@ returns c =
       ap found (sym (repeated-here _ _ _ _ (loop-test .taken) (sym (repeats .ensures .0) ∙ c .if2 .taken)) ∙ loop .inv .2),
       λ e. let z : _≡_ {A = ℕ} 0 1 = cc in absurd (omega arith),
     )
-
-add-i : tie.Need-add-i Inv-loop μ-loop
-add-i c = search needs
-
-loop-less : tie.Need-loop-less Inv-loop μ-loop
-loop-less c = search needs
 
 loop-again : tie.Need-loop-again Inv-loop μ-loop
 loop-again c =
@@ -93,13 +78,13 @@ first-repeated-spec =
     Inv-loop
     μ-loop
     loop-holds
-    mul-if1
-    mul-if1-2
-    shared-slice-read-if1
+    (λ c. search needs)
+    (λ c. search needs)
+    (λ c. search needs)
     cast-if1
     repeats-requires
     returns
-    add-i
-    loop-less
+    (λ c. search needs)
+    (λ c. search needs)
     loop-again
     returns-2)

@@ -1,12 +1,12 @@
--- `validate::first_unknown` meets its contract. The loop's invariant: the first unknown target from node `i` on is the first of all. Assumes nothing.
+-- `validate::first_unknown` meets its contract. The loop's invariant: the first unknown target from node `i` on is the first of all.
 use Prim.Native.Nat.{_*_, _-_}
 use mathlib.Core.Path.{_≡_, _∙_, sym, ap}
 use mathlib.Core.Logic.{⊎-elim}
 use native.Mathlib.Omega.{arith}
 use borrow.Author.Needs.{needs}
 use borrow.Author.Tests.{ne-eqb}
-use Rattle.document.specs.Check.{unknownTarget}
-use Rattle.validate.specs.Words.{entriesFrom, idsBefore, found}
+use Rattle.document.specs.reference.Check.{unknownTarget}
+use Rattle.validate.specs.internal.Words.{entriesFrom, idsBefore, found}
 use Rattle.validate.proofs.Ids.{kind-read, rest, unknown-here, unknown-on, unknown-end}
 use Rattle.validate.proofs.faults.first_unknown.Statement.{statement}
 use Rattle.validate.proofs.faults.first_unknown.Tie as tie
@@ -24,15 +24,6 @@ loop-holds c =
     let e : c .before .before .args .count - 0 ≡ c .before .before .args .count = omega arith in
     rw e
 
-mul-if1 : tie.Need-mul-if1 Inv-loop μ-loop
-mul-if1 c = search needs
-
-mul-if1-2 : tie.Need-mul-if1-2 Inv-loop μ-loop
-mul-if1-2 c = search needs
-
-shared-slice-read-if1 : tie.Need-shared-slice-read-if1 Inv-loop μ-loop
-shared-slice-read-if1 c = search needs
-
 cast-if1 : tie.Need-cast-if1 Inv-loop μ-loop
 cast-if1 c = omega (arith, c .shared-slice-known3 .given (11 * c .before .before .loop .i))
 
@@ -46,12 +37,6 @@ returns c =
     let loop-test = c .before .before .before .before .loop-test in
     let dangles = c .before .dangles in
     ap found (sym (unknown-here _ _ _ _ _ _ (loop-test .taken) (sym (dangles .ensures) ∙ c .if2 .taken)) ∙ loop .inv)
-
-add-i : tie.Need-add-i Inv-loop μ-loop
-add-i c = search needs
-
-loop-less : tie.Need-loop-less Inv-loop μ-loop
-loop-less c = search needs
 
 loop-again : tie.Need-loop-again Inv-loop μ-loop
 loop-again c =
@@ -74,13 +59,13 @@ first-unknown-spec =
     Inv-loop
     μ-loop
     loop-holds
-    mul-if1
-    mul-if1-2
-    shared-slice-read-if1
+    (λ c. search needs)
+    (λ c. search needs)
+    (λ c. search needs)
     cast-if1
     dangles-requires
     returns
-    add-i
-    loop-less
+    (λ c. search needs)
+    (λ c. search needs)
     loop-again
     returns-2)

@@ -1,18 +1,15 @@
--- `validate::repeats` meets its contract. Assumes nothing.
+-- `validate::repeats` meets its contract.
 use mathlib.Core.Path.{_≡_, _∙_, sym, ap}
 use mathlib.Core.Bool.{true, false, true≢false}
 use borrow.Author.Needs.{needs}
 use borrow.Author.Tests.{not-true, not-false}
-use Rattle.document.specs.Check.{hasId}
-use Rattle.validate.specs.Words.{keyAt, entryAt}
-use Rattle.validate.specs.Index.{slotOf}
+use Rattle.document.specs.reference.Check.{hasId}
+use Rattle.validate.specs.internal.Words.{keyAt, entryAt}
+use Rattle.validate.specs.internal.Index.{slotOf}
 use Rattle.validate.proofs.Ids.{any-block}
 use Rattle.validate.proofs.Slots.{slot-below, no-id, entered}
 use Rattle.validate.proofs.faults.repeats.Statement.{statement}
 use Rattle.validate.proofs.faults.repeats.Tie as tie
-
-has-id-requires : tie.Need-has-id-requires
-has-id-requires c κs = search needs
 
 returns : tie.Need-returns
 returns c =
@@ -22,15 +19,6 @@ returns c =
     let h : hasId (entryAt (args .nodes .now) (args .pool .now) (args .i)) ≡ false =
     sym (any-block (args .nodes .now) (args .pool .now) (args .i)) ∙ (sym (has-id .ensures) ∙ not-true _ (c .if1 .taken)) in
     (rw h, λ e. no-id _ _ _ _ _ (pre .1) (pre .0) h)
-
-string-requires : tie.Need-string-requires
-string-requires c κs = search needs
-
-slot-requires : tie.Need-slot-requires
-slot-requires c κs = search needs
-
-known-requires : tie.Need-known-requires
-known-requires c κs = search needs
 
 returns-2 : tie.Need-returns-2
 returns-2 c =
@@ -71,11 +59,11 @@ pub repeats-spec : {M : Type 1} → statement M
 repeats-spec =
     tie.close
     (tie.spec
-    has-id-requires
+    (λ c κs. search needs)
     returns
-    string-requires
-    slot-requires
-    known-requires
+    (λ c κs. search needs)
+    (λ c κs. search needs)
+    (λ c κs. search needs)
     returns-2
     enter-requires
     returns-3)

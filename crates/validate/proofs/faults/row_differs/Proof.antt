@@ -1,15 +1,9 @@
--- `validate::row_differs` meets its contract. Assumes nothing.
+-- `validate::row_differs` meets its contract.
 use mathlib.Core.Path.{_∙_, sym}
 use borrow.Author.Needs.{needs}
 use Rattle.validate.proofs.Rows.{spot-free, spot-no-head, spot-head}
 use Rattle.validate.proofs.faults.row_differs.Statement.{statement}
 use Rattle.validate.proofs.faults.row_differs.Tie as tie
-
-binder-requires : tie.Need-binder-requires
-binder-requires c κs = search needs
-
-word-requires : tie.Need-word-requires
-word-requires c κs = search needs
 
 returns : tie.Need-returns
 returns c =
@@ -19,15 +13,6 @@ returns c =
     λ b s.
     spot-free _ _ b s pre _
     (binder .ensures) (λ t. c .if1 .taken (kind .ensures ∙ t))
-
-head-names-requires : tie.Need-head-names-requires
-head-names-requires c κs = search needs
-
-enum-known-names : tie.Need-enum-known-names
-enum-known-names c = search needs
-
-enum-told : tie.Need-enum-told
-enum-told c = search needs
 
 returns-2 : tie.Need-returns-2
 returns-2 c =
@@ -40,9 +25,6 @@ returns-2 c =
     spot-no-head _ _ b s pre _
     (binder .ensures) (sym (kind .ensures) ∙ if1 .left) _
     (head-names .ensures) (c .enum-told .given .1)
-
-child-count-requires : tie.Need-child-count-requires
-child-count-requires c κs = search needs
 
 returns-3 : tie.Need-returns-3
 returns-3 c =
@@ -62,12 +44,12 @@ pub row-differs-spec : {M : Type 1} → statement M
 row-differs-spec =
     tie.close
     (tie.spec
-    binder-requires
-    word-requires
+    (λ c κs. search needs)
+    (λ c κs. search needs)
     returns
-    head-names-requires
-    enum-known-names
-    enum-told
+    (λ c κs. search needs)
+    (λ c. search needs)
+    (λ c. search needs)
     returns-2
-    child-count-requires
+    (λ c κs. search needs)
     returns-3)

@@ -1,9 +1,9 @@
--- `index::equal` meets its contract. The loop's invariant: up to `i` nothing told the two apart. Assumes nothing.
+-- `index::equal` meets its contract. The loop's invariant: up to `i` nothing told the two apart.
 use Prim.Native.Nat.{_≤_, _-_}
 use mathlib.Core.Path.{_≡_, _∙_, refl, sym}
 use native.Mathlib.Omega.{arith}
 use lib.ListN.{length, drop}
-use Rattle.elements.specs.Bytes.{same}
+use Rattle.elements.specs.rules.Bytes.{same}
 use Rattle.elements.proofs.Same.{same-lengths, same-on, same-not, same-end}
 use Rattle.validate.proofs.index.equal.Statement.{statement}
 use Rattle.validate.proofs.index.equal.Tie as tie

@@ -1,17 +1,14 @@
--- `index::has_id` meets its contract. Assumes nothing.
+-- `index::has_id` meets its contract.
 use mathlib.Core.Path.{_≡_, sym, _∙_}
 use mathlib.Core.Bool.{true}
 use mathlib.Core.Logic.{⊎-elim}
 use borrow.Author.Needs.{needs}
-use Rattle.elements.specs.Class.{isBlock}
+use Rattle.elements.specs.rules.Class.{isBlock}
 use Rattle.table.specs.Stored.{wordAt}
-use Rattle.validate.specs.Words.{wanted}
+use Rattle.validate.specs.internal.Words.{wanted}
 use Rattle.validate.proofs.Ids.{below-blocks, above-blocks, a-block, no-block, other-kind, is-wanted, wanted-any, wanted-kind}
 use Rattle.validate.proofs.index.has_id.Statement.{statement}
 use Rattle.validate.proofs.index.has_id.Tie as tie
-
-word-requires : tie.Need-word-requires
-word-requires c κs = search needs
 
 returns : tie.Need-returns
 returns c =
@@ -32,9 +29,6 @@ returns-3 c =
     let if3 = c .before .if3 in
     sym (other-kind (args .nodes .now) (args .pool .now) (args .only) (args .i) (if3 .taken) (λ e. c .if4 .taken (e ∙ sym (kind .ensures))))
 
-string-requires : tie.Need-string-requires
-string-requires c κs = search needs
-
 returns-4 : tie.Need-returns-4
 returns-4 c =
     let args = c .before .before .before .before .before .before .before .args in
@@ -48,4 +42,4 @@ returns-4 c =
     rw (c .string .ensures) (sym (is-wanted (args .nodes .now) (args .pool .now) (args .only) (args .i) b w))
 
 pub has-id-spec : {M : Type 1} → statement M
-has-id-spec = tie.close (tie.spec word-requires returns returns-2 returns-3 string-requires returns-4)
+has-id-spec = tie.close (tie.spec (λ c κs. search needs) returns returns-2 returns-3 (λ c κs. search needs) returns-4)

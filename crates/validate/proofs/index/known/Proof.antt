@@ -1,12 +1,12 @@
--- `index::known` meets its contract. The loop's invariant: what is known among the first `j` nodes is what is known at all. Assumes nothing.
+-- `index::known` meets its contract. The loop's invariant: what is known among the first `j` nodes is what is known at all.
 use Prim.Native.Nat.{_-_, _<_}
 use mathlib.Core.Path.{_≡_, _∙_, sym, ap}
 use mathlib.Core.Logic.{⊎-elim}
 use native.Mathlib.Omega.{arith}
 use borrow.Author.Needs.{needs}
-use Rattle.elements.specs.Bytes.{same}
-use Rattle.document.specs.Check.{isAmong}
-use Rattle.validate.specs.Words.{idsBefore}
+use Rattle.elements.specs.rules.Bytes.{same}
+use Rattle.document.specs.reference.Check.{isAmong}
+use Rattle.validate.specs.internal.Words.{idsBefore}
 use Rattle.validate.proofs.Ids.{known-here, known-other, known-none, known-end}
 use Rattle.validate.proofs.Slots.{slot-below, Left, left-first, left-next, next-below}
 use Rattle.validate.proofs.index.known.Statement.{statement}
@@ -36,18 +36,6 @@ cast-j c =
 
 loop-holds : tie.Need-loop-holds Inv-loop μ-loop
 loop-holds c = left-first _ _ _ _ _ _ _ (c .before .before .before .before .pre .1) (c .before .before .before .before .pre .0)
-
-sub-i : tie.Need-sub-i Inv-loop μ-loop
-sub-i c = search needs
-
-has-id-requires : tie.Need-has-id-requires Inv-loop μ-loop
-has-id-requires c κs = search needs
-
-string-requires : tie.Need-string-requires Inv-loop μ-loop
-string-requires c κs = search needs
-
-equal-requires : tie.Need-equal-requires Inv-loop μ-loop
-equal-requires c κs = search needs
 
 returns : tie.Need-returns Inv-loop μ-loop
 returns c =
@@ -119,10 +107,10 @@ known-spec =
     element-copy-out-j
     cast-j
     loop-holds
-    sub-i
-    has-id-requires
-    string-requires
-    equal-requires
+    (λ c. search needs)
+    (λ c κs. search needs)
+    (λ c κs. search needs)
+    (λ c κs. search needs)
     returns
     mul-j-2
     element-copy-out-j-2

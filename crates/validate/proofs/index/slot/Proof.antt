@@ -1,10 +1,10 @@
--- `index::slot` meets its contract. The loop's invariant: the bytes from `i` on make of `h` what all make of the start. Assumes nothing.
+-- `index::slot` meets its contract. The loop's invariant: the bytes from `i` on make of `h` what all make of the start.
 use Prim.Native.Nat.{_<_, _≤_, _-_, _%_}
 use mathlib.Core.Path.{_≡_, _∙_, refl, sym, ap}
 use native.Mathlib.Nat.{mod-lt}
 use native.Mathlib.Omega.{arith}
 use lib.ListN.{length, drop}
-use Rattle.validate.specs.Index.{mixed, slotOf}
+use Rattle.validate.specs.internal.Index.{mixed, slotOf}
 use Rattle.validate.proofs.Slots.{mixed-on, mixed-end}
 use Rattle.validate.proofs.index.slot.Statement.{statement}
 use Rattle.validate.proofs.index.slot.Tie as tie

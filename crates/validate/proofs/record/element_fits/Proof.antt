@@ -1,10 +1,10 @@
--- `record::element_fits` meets its contract. Assumes nothing.
+-- `record::element_fits` meets its contract.
 use native.Mathlib.Omega.{arith}
 use mathlib.Core.Path.{_≡_, sym, _∙_}
 use mathlib.Core.Logic.{⊎-elim}
 use lib.Dec.{ltb}
 use borrow.Author.Tests.{ltb-true, ltb-false}
-use Rattle.document.specs.Document.{missing}
+use Rattle.base.specs.rules.Limits.{missing}
 use Rattle.table.specs.Stored.{wordAt}
 use Rattle.validate.proofs.Decisions.{decided, denied}
 use Rattle.validate.proofs.RecordTests.{word-in}
@@ -12,29 +12,14 @@ use borrow.Author.Needs.{needs}
 use Rattle.validate.proofs.record.element_fits.Statement.{statement}
 use Rattle.validate.proofs.record.element_fits.Tie as tie
 
-shared-slice-read-if1 : tie.Need-shared-slice-read-if1
-shared-slice-read-if1 c = search needs
-
 returns : tie.Need-returns
 returns c = λ words i e l. denied (λ s. omega (arith, word-in words _ i 0 e (omega arith), s .kind-low))
-
-shared-slice-read-if2 : tie.Need-shared-slice-read-if2
-shared-slice-read-if2 c = search needs
 
 returns-2 : tie.Need-returns-2
 returns-2 c = λ words i e l. denied (λ s. omega (arith, word-in words _ i 0 e (omega arith), s .kind-high))
 
-shared-slice-read-if3 : tie.Need-shared-slice-read-if3
-shared-slice-read-if3 c = search needs
-
 returns-3 : tie.Need-returns-3
 returns-3 c = λ words i e l. denied (λ s. c .if3 .taken (word-in words _ i 8 e (omega arith) ∙ s .no-text))
-
-shared-slice-read-if4 : tie.Need-shared-slice-read-if4
-shared-slice-read-if4 c = search needs
-
-shared-slice-read-if5 : tie.Need-shared-slice-read-if5
-shared-slice-read-if5 c = search needs
 
 returns-4 : tie.Need-returns-4
 returns-4 c = λ words i e l. denied (λ s. c .if5 .taken (word-in words _ i 10 e (omega arith) ∙ s .sized (sym (word-in words _ i 9 e (omega arith)) ∙ c .before .before .if4 .taken)))
@@ -58,13 +43,13 @@ pub element-fits-spec : {M : Type 1} → statement M
 element-fits-spec =
     tie.close
     (tie.spec
-    shared-slice-read-if1
+    (λ c. search needs)
     returns
-    shared-slice-read-if2
+    (λ c. search needs)
     returns-2
-    shared-slice-read-if3
+    (λ c. search needs)
     returns-3
-    shared-slice-read-if4
-    shared-slice-read-if5
+    (λ c. search needs)
+    (λ c. search needs)
     returns-4
     returns-5)

@@ -1,4 +1,4 @@
--- `record::stands` meets its contract. Assumes nothing.
+-- `record::stands` meets its contract.
 use native.Mathlib.Omega.{arith}
 use mathlib.Core.Path.{refl, sym, _∙_}
 use borrow.Author.Tests.{not-true, not-false}
@@ -10,29 +10,14 @@ use borrow.Author.Needs.{needs}
 use Rattle.validate.proofs.record.stands.Statement.{statement}
 use Rattle.validate.proofs.record.stands.Tie as tie
 
-shared-slice-read-if1 : tie.Need-shared-slice-read-if1
-shared-slice-read-if1 c = search needs
-
 cast-if1 : tie.Need-cast-if1
 cast-if1 c = omega (arith, c .shared-slice-known2 .given 1)
 
 returns : tie.Need-returns
 returns c = λ words i e. denied (λ s. c .if1 .taken (word-in words _ i 1 e (omega arith) ∙ s .under))
 
-shared-slice-read-string-stands : tie.Need-shared-slice-read-string-stands
-shared-slice-read-string-stands c = search needs
-
-shared-slice-read-string-stands-2 : tie.Need-shared-slice-read-string-stands-2
-shared-slice-read-string-stands-2 c = search needs
-
-string-stands-requires : tie.Need-string-stands-requires
-string-stands-requires c κs = search needs
-
 returns-2 : tie.Need-returns-2
 returns-2 c = λ words i e. denied (λ s. not-held (c .before .string-stands .ensures words i 3 (word-in words _ i 3 e (omega arith)) (word-in words _ i 4 e (omega arith))) (not-true _ (c .if2 .taken)) (s .key-at))
-
-shared-slice-read-type-at : tie.Need-shared-slice-read-type-at
-shared-slice-read-type-at c = search needs
 
 cast-type-at : tie.Need-cast-type-at
 cast-type-at c = omega (arith, c .shared-slice-known5 .given 4)
@@ -41,12 +26,6 @@ add-type-at : tie.Need-add-type-at
 unfolding wordAt
 add-type-at c = omega (arith, c .before .before .string-stands .ensures (c .before .before .before .before .before .before .before .before .args .r .now) 0 3 refl refl .sound (not-false _ (c .before .if2 .left)) .within)
 
-shared-slice-read-string-stands-3 : tie.Need-shared-slice-read-string-stands-3
-shared-slice-read-string-stands-3 c = search needs
-
-shared-slice-read-string-stands-4 : tie.Need-shared-slice-read-string-stands-4
-shared-slice-read-string-stands-4 c = search needs
-
 string-stands-requires-2 : tie.Need-string-stands-requires-2
 unfolding wordAt
 string-stands-requires-2 c κs = omega (arith, c .before .before .before .before .string-stands .ensures (c .before .before .before .before .before .before .before .before .before .before .args .r .now) 0 3 refl refl .sound (not-false _ (c .before .before .before .if2 .left)) .within)
@@ -54,21 +33,12 @@ string-stands-requires-2 c κs = omega (arith, c .before .before .before .before
 returns-3 : tie.Need-returns-3
 returns-3 c = λ words i e. denied (λ s. not-held (c .before .string-stands2 .ensures words i 5 (word-in words _ i 5 e (omega arith)) (word-in words _ i 6 e (omega arith))) (not-true _ (c .if3 .taken)) (rw (word-in words _ i 4 e (omega arith)) (s .type-at)))
 
-shared-slice-read-text-at : tie.Need-shared-slice-read-text-at
-shared-slice-read-text-at c = search needs
-
 cast-text-at : tie.Need-cast-text-at
 cast-text-at c = omega (arith, c .shared-slice-known8 .given 6)
 
 add-text-at : tie.Need-add-text-at
 unfolding wordAt
 add-text-at c = omega (arith, c .before .before .string-stands2 .ensures (c .before .before .before .before .before .before .before .before .before .before .before .before .before .args .r .now) 0 5 refl refl .sound (not-false _ (c .before .if3 .left)) .within)
-
-shared-slice-read-string-stands-5 : tie.Need-shared-slice-read-string-stands-5
-shared-slice-read-string-stands-5 c = search needs
-
-shared-slice-read-string-stands-6 : tie.Need-shared-slice-read-string-stands-6
-shared-slice-read-string-stands-6 c = search needs
 
 string-stands-requires-3 : tie.Need-string-stands-requires-3
 unfolding wordAt
@@ -95,24 +65,24 @@ pub stands-spec : {M : Type 1} → statement M
 stands-spec =
     tie.close
     (tie.spec
-    shared-slice-read-if1
+    (λ c. search needs)
     cast-if1
     returns
-    shared-slice-read-string-stands
-    shared-slice-read-string-stands-2
-    string-stands-requires
+    (λ c. search needs)
+    (λ c. search needs)
+    (λ c κs. search needs)
     returns-2
-    shared-slice-read-type-at
+    (λ c. search needs)
     cast-type-at
     add-type-at
-    shared-slice-read-string-stands-3
-    shared-slice-read-string-stands-4
+    (λ c. search needs)
+    (λ c. search needs)
     string-stands-requires-2
     returns-3
-    shared-slice-read-text-at
+    (λ c. search needs)
     cast-text-at
     add-text-at
-    shared-slice-read-string-stands-5
-    shared-slice-read-string-stands-6
+    (λ c. search needs)
+    (λ c. search needs)
     string-stands-requires-3
     returns-4)

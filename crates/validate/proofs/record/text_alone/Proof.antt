@@ -1,4 +1,4 @@
--- `record::text_alone` meets its contract. Assumes nothing.
+-- `record::text_alone` meets its contract.
 use Prim.Native.Nat.{ℕ, _<_}
 use native.Mathlib.Omega.{arith}
 use Rattle.validate.proofs.RecordTests.{word-in, alone-tests}
@@ -6,38 +6,11 @@ use borrow.Author.Needs.{needs}
 use Rattle.validate.proofs.record.text_alone.Statement.{statement}
 use Rattle.validate.proofs.record.text_alone.Tie as tie
 
-shared-slice-read-result : tie.Need-shared-slice-read-result
-shared-slice-read-result c = search needs
-
 cast-result : tie.Need-cast-result
 cast-result c = omega (arith, c .shared-slice-known .given 1)
 
-shared-slice-read-result-2 : tie.Need-shared-slice-read-result-2
-shared-slice-read-result-2 c = search needs
-
 cast-result-2 : tie.Need-cast-result-2
 cast-result-2 c = omega (arith, c .shared-slice-known2 .given 2)
-
-shared-slice-read-result-3 : tie.Need-shared-slice-read-result-3
-shared-slice-read-result-3 c = search needs
-
-shared-slice-read-result-4 : tie.Need-shared-slice-read-result-4
-shared-slice-read-result-4 c = search needs
-
-shared-slice-read-result-5 : tie.Need-shared-slice-read-result-5
-shared-slice-read-result-5 c = search needs
-
-shared-slice-read-result-6 : tie.Need-shared-slice-read-result-6
-shared-slice-read-result-6 c = search needs
-
-shared-slice-read-result-7 : tie.Need-shared-slice-read-result-7
-shared-slice-read-result-7 c = search needs
-
-shared-slice-read-result-8 : tie.Need-shared-slice-read-result-8
-shared-slice-read-result-8 c = search needs
-
-shared-slice-read-result-9 : tie.Need-shared-slice-read-result-9
-shared-slice-read-result-9 c = search needs
 
 returns : tie.Need-returns
 returns c = λ words i e.
@@ -49,15 +22,15 @@ pub text-alone-spec : {M : Type 1} → statement M
 text-alone-spec =
     tie.close
     (tie.spec
-    shared-slice-read-result
+    (λ c. search needs)
     cast-result
-    shared-slice-read-result-2
+    (λ c. search needs)
     cast-result-2
-    shared-slice-read-result-3
-    shared-slice-read-result-4
-    shared-slice-read-result-5
-    shared-slice-read-result-6
-    shared-slice-read-result-7
-    shared-slice-read-result-8
-    shared-slice-read-result-9
+    (λ c. search needs)
+    (λ c. search needs)
+    (λ c. search needs)
+    (λ c. search needs)
+    (λ c. search needs)
+    (λ c. search needs)
+    (λ c. search needs)
     returns)

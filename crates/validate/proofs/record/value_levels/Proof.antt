@@ -1,29 +1,20 @@
--- `record::value_levels` meets its contract. Assumes nothing.
+-- `record::value_levels` meets its contract.
 use native.Mathlib.Omega.{arith}
 use borrow.Author.Tests.{eq-eqb, ne-eqb}
-use Rattle.laws.proofs.Booleans.{and-false}
+use Rattle.base.proofs.Booleans.{and-false}
 use Rattle.table.proofs.Stored.{recorded-word}
-use Rattle.validate.specs.Walking.{valueLevels}
+use Rattle.validate.specs.internal.Walking.{valueLevels}
 use borrow.Author.Needs.{needs}
 use Rattle.validate.proofs.record.value_levels.Statement.{statement}
 use Rattle.validate.proofs.record.value_levels.Tie as tie
-
-shared-slice-read-if1 : tie.Need-shared-slice-read-if1
-shared-slice-read-if1 c = search needs
 
 returns : tie.Need-returns
 unfolding valueLevels
 returns c = λ words i e. rw (recorded-word words _ i 9 e (omega arith), ne-eqb _ _ (c .if1 .taken), and-false, and-false)
 
-shared-slice-read-if2 : tie.Need-shared-slice-read-if2
-shared-slice-read-if2 c = search needs
-
 returns-2 : tie.Need-returns-2
 unfolding valueLevels
 returns-2 c = λ words i e. rw (recorded-word words _ i 4 e (omega arith), ne-eqb _ 0 (c .if2 .taken))
-
-shared-slice-read-if3 : tie.Need-shared-slice-read-if3
-shared-slice-read-if3 c = search needs
 
 returns-3 : tie.Need-returns-3
 unfolding valueLevels
@@ -38,10 +29,10 @@ pub value-levels-spec : {M : Type 1} → statement M
 value-levels-spec =
     tie.close
     (tie.spec
-    shared-slice-read-if1
+    (λ c. search needs)
     returns
-    shared-slice-read-if2
+    (λ c. search needs)
     returns-2
-    shared-slice-read-if3
+    (λ c. search needs)
     returns-3
     returns-4)

@@ -1,11 +1,11 @@
--- `values::fits` meets its contract. The loop's invariant: the bytes from `i` on pass where all do. Assumes nothing.
+-- `values::fits` meets its contract. The loop's invariant: the bytes from `i` on pass where all do.
 use Prim.Native.Nat.{_-_}
 use mathlib.Core.Path.{_≡_, refl, sym, _∙_}
 use borrow.Author.Needs.{needs}
 use borrow.Author.Tests.{not-true, not-false}
 use lib.ListN.{length, drop}
-use Rattle.elements.specs.Characters.{characterOf}
-use Rattle.document.specs.Value.{every}
+use Rattle.elements.specs.rules.Characters.{characterOf}
+use Rattle.document.specs.rules.Value.{every}
 use Rattle.validate.proofs.Every.{every-on, every-not, every-end}
 use Rattle.validate.proofs.values.fits.Statement.{statement}
 use Rattle.validate.proofs.values.fits.Tie as tie
@@ -19,20 +19,8 @@ abbrev μ-loop : tie.MeasureT-loop
 loop-holds : tie.Need-loop-holds Inv-loop μ-loop
 loop-holds c = refl
 
-shared-slice-read-character : tie.Need-shared-slice-read-character Inv-loop μ-loop
-shared-slice-read-character c = search needs
-
-character-requires : tie.Need-character-requires Inv-loop μ-loop
-character-requires c κs = search needs
-
 returns : tie.Need-returns Inv-loop μ-loop
 returns c = sym (every-not (characterOf (c .before .before .before .before .before .before .args .sort)) (c .before .before .before .before .before .before .args .bytes .now) (c .before .before .before .before .loop .i) (c .before .before .before .loop-test .taken) (c .before .character .ensures) (not-true _ (c .if1 .taken))) ∙ c .before .before .before .before .loop .inv
-
-add-i : tie.Need-add-i Inv-loop μ-loop
-add-i c = search needs
-
-loop-less : tie.Need-loop-less Inv-loop μ-loop
-loop-less c = search needs
 
 loop-again : tie.Need-loop-again Inv-loop μ-loop
 loop-again c = sym (every-on (characterOf (c .before .before .before .before .before .before .args .sort)) (c .before .before .before .before .before .before .args .bytes .now) (c .before .before .before .before .loop .i) (c .before .before .before .loop-test .taken) (c .before .character .ensures) (not-false _ (c .if1 .left))) ∙ c .before .before .before .before .loop .inv
@@ -47,10 +35,10 @@ fits-spec =
     Inv-loop
     μ-loop
     loop-holds
-    shared-slice-read-character
-    character-requires
+    (λ c. search needs)
+    (λ c κs. search needs)
     returns
-    add-i
-    loop-less
+    (λ c. search needs)
+    (λ c. search needs)
     loop-again
     returns-2)

@@ -1,5 +1,5 @@
--- `values::take_value` meets its contract: each way out is one law of `ValueSteps`. Assumes nothing.
-use Rattle.elements.specs.Characters.{characterOf}
+-- `values::take_value` meets its contract: each way out is one law of `ValueSteps`.
+use Rattle.elements.specs.rules.Characters.{characterOf}
 use Rattle.validate.proofs.ValueSteps.{value-missing, value-fault, value-taken}
 use borrow.Author.Needs.{needs}
 use Rattle.validate.proofs.values.take_value.Statement.{statement}
@@ -8,21 +8,12 @@ use Rattle.validate.proofs.values.take_value.Tie as tie
 returns : tie.Need-returns
 returns c = value-missing _ _ _ _ (c .if1 .taken)
 
-step-requires : tie.Need-step-requires
-step-requires c κs = search needs
-
 returns-2 : tie.Need-returns-2
 returns-2 c = value-fault _ _ _ _ _ (c .before .before .step .ensures .stands) _ (c .before .before .before .if1 .left) (c .if2 .taken)
-
-sort-requires : tie.Need-sort-requires
-sort-requires c κs = search needs
-
-fits-requires : tie.Need-fits-requires
-fits-requires c κs = search needs
 
 returns-3 : tie.Need-returns-3
 returns-3 c = value-taken _ _ _ _ _ (c .before .before .before .before .step .ensures .stands) (characterOf (c .before .sort .result)) _ (c .before .before .before .before .before .if1 .left) (c .before .before .if2 .left) (c .before .sort .ensures _) (c .fits2 .ensures)
 
 pub take-value-spec : {M : Type 1} → statement M
 take-value-spec =
-    tie.close (tie.spec returns step-requires returns-2 sort-requires fits-requires returns-3)
+    tie.close (tie.spec returns (λ c κs. search needs) returns-2 (λ c κs. search needs) (λ c κs. search needs) returns-3)

@@ -1,14 +1,14 @@
--- `values::values` meets its contract. Assumes nothing.
+-- `values::values` meets its contract.
 use native.Mathlib.Omega.{arith}
 use mathlib.Core.Path.{sym, ap, _∙_}
 use borrow.Author.Tests.{not-true, not-false}
-use Rattle.laws.proofs.Booleans.{cond-case}
+use Rattle.base.proofs.Booleans.{cond-case}
 use Prim.Native.Nat.{ℕ, _≤_}
 use lib.ListN.{length}
-use Rattle.document.specs.Canonical.{keyClass}
-use Rattle.elements.specs.Class.{isBlock}
+use Rattle.document.specs.rules.Canonical.{keyClass}
+use Rattle.elements.specs.rules.Class.{isBlock}
 use Rattle.table.specs.Stored.{stringAt}
-use Rattle.validate.specs.Walking.{valuesOf}
+use Rattle.validate.specs.internal.Walking.{valuesOf}
 use Rattle.validate.proofs.Recordings.{no-string}
 use Rattle.validate.proofs.RecordTests.{word-in}
 use Rattle.validate.proofs.ValueSteps.{value-missing, takes-then, takes-not}
@@ -16,26 +16,11 @@ use borrow.Author.Needs.{needs}
 use Rattle.validate.proofs.values.values.Statement.{statement}
 use Rattle.validate.proofs.values.values.Tie as tie
 
-words-requires : tie.Need-words-requires
-words-requires c κs = search needs
-
-shared-slice-read-part : tie.Need-shared-slice-read-part
-shared-slice-read-part c = search needs
-
 cast-part : tie.Need-cast-part
 cast-part c = omega (arith, c .shared-slice-known3 .given 3)
 
-shared-slice-read-part-2 : tie.Need-shared-slice-read-part-2
-shared-slice-read-part-2 c = search needs
-
 cast-part-2 : tie.Need-cast-part-2
 cast-part-2 c = omega (arith, c .shared-slice-known4 .given 4)
-
-part-requires : tie.Need-part-requires
-part-requires c κs = search needs
-
-key-class-requires : tie.Need-key-class-requires
-key-class-requires c κs = search needs
 
 take-value-requires : tie.Need-take-value-requires
 unfolding keyClass
@@ -48,20 +33,11 @@ returns c =
     let key = rw (c .before .before .before .key-class .ensures, c .before .before .before .before .part .ensures, word-in _ _ _ 3 r (omega arith), word-in _ _ _ 4 r (omega arith)) at (c .before .before .take-value .ensures) in
     takes-not key (not-true _ (c .if1 .taken))
 
-shared-slice-read-take-size : tie.Need-shared-slice-read-take-size
-shared-slice-read-take-size c = search needs
-
 cast-take-size : tie.Need-cast-take-size
 cast-take-size c = omega (arith, c .shared-slice-known5 .given 9)
 
-shared-slice-read-take-size-2 : tie.Need-shared-slice-read-take-size-2
-shared-slice-read-take-size-2 c = search needs
-
 cast-take-size-2 : tie.Need-cast-take-size-2
 cast-take-size-2 c = omega (arith, c .shared-slice-known6 .given 10)
-
-take-size-requires : tie.Need-take-size-requires
-take-size-requires c κs = search needs
 
 returns-2 : tie.Need-returns-2
 unfolding valuesOf stringAt
@@ -70,9 +46,6 @@ returns-2 c =
     let key = rw (c .before .before .before .before .before .before .before .before .key-class .ensures, c .before .before .before .before .before .before .before .before .before .part .ensures, word-in _ _ _ 3 r (omega arith), word-in _ _ _ 4 r (omega arith)) at (c .before .before .before .before .before .before .before .take-value .ensures) in
     let size = rw (word-in _ _ _ 9 r (omega arith), word-in _ _ _ 10 r (omega arith)) at (c .before .before .take-size .ensures) in
     takes-then key (not-false _ (c .before .before .before .before .before .if1 .left)) (takes-not size (not-true _ (c .if2 .taken)))
-
-shared-slice-read-if3 : tie.Need-shared-slice-read-if3
-shared-slice-read-if3 c = search needs
 
 returns-3 : tie.Need-returns-3
 unfolding valuesOf stringAt
@@ -84,23 +57,11 @@ returns-3 c =
     rw (not-false (c .before .before .before .before .take-size .result .ok) (c .before .before .if2 .left))
     (takes-then key (not-false _ (c .before .before .before .before .before .before .before .if1 .left)) (takes-then size (not-false _ (c .before .before .if2 .left)) (value-missing _ _ _ _ (ap length none))))
 
-shared-slice-read-part-3 : tie.Need-shared-slice-read-part-3
-shared-slice-read-part-3 c = search needs
-
 cast-part-3 : tie.Need-cast-part-3
 cast-part-3 c = omega (arith, c .shared-slice-known8 .given 5)
 
-shared-slice-read-part-4 : tie.Need-shared-slice-read-part-4
-shared-slice-read-part-4 c = search needs
-
 cast-part-4 : tie.Need-cast-part-4
 cast-part-4 c = omega (arith, c .shared-slice-known9 .given 6)
-
-part-requires-2 : tie.Need-part-requires-2
-part-requires-2 c κs = search needs
-
-take-value-requires-2 : tie.Need-take-value-requires-2
-take-value-requires-2 c κs = search needs
 
 returns-4 : tie.Need-returns-4
 unfolding valuesOf stringAt
@@ -115,27 +76,27 @@ pub values-spec : {M : Type 1} → statement M
 values-spec =
     tie.close
     (tie.spec
-    words-requires
-    shared-slice-read-part
+    (λ c κs. search needs)
+    (λ c. search needs)
     cast-part
-    shared-slice-read-part-2
+    (λ c. search needs)
     cast-part-2
-    part-requires
-    key-class-requires
+    (λ c κs. search needs)
+    (λ c κs. search needs)
     take-value-requires
     returns
-    shared-slice-read-take-size
+    (λ c. search needs)
     cast-take-size
-    shared-slice-read-take-size-2
+    (λ c. search needs)
     cast-take-size-2
-    take-size-requires
+    (λ c κs. search needs)
     returns-2
-    shared-slice-read-if3
+    (λ c. search needs)
     returns-3
-    shared-slice-read-part-3
+    (λ c. search needs)
     cast-part-3
-    shared-slice-read-part-4
+    (λ c. search needs)
     cast-part-4
-    part-requires-2
-    take-value-requires-2
+    (λ c κs. search needs)
+    (λ c κs. search needs)
     returns-4)

@@ -1,0 +1,4 @@
+pub mod Booleans
+pub mod Tables
+pub mod Stores
+pub mod Copied

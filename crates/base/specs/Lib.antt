@@ -1,0 +1,2 @@
+-- What everything else stands on: the limits and the numbers answered, by name (rules).
+pub mod rules

@@ -1,0 +1,3 @@
+-- The names of numbers that the rules of every crate use.
+pub mod Limits
+pub mod Numbers

@@ -1,0 +1,397 @@
+-- The judged examples of document 01 that are marked * and its printed listing, each with the whole outcome of the read;
+-- and with their answers alone its settlements, the open points of docs/DECISIONS.md, and texts for the numbers 2 to 18, each as one list.
+-- That each text has what is beside it is proved in `proofs/Judged.antt`.
+use Prim.Native.Nat.{ℕ}
+use Prim.Native.String.{String}
+use mathlib.Core.List.{List, [], _∷_, _++_}
+use lib.ListN.{length, replicate}
+use Rattle.document.specs.rules.Spelling.{Spelling, nested, imperative}
+use Rattle.document.specs.reference.Outcome.{outcome}
+use Rattle.document.specs.rules.Memory.{Answer, Memory, Outcome, over}
+use Rattle.document.specs.reference.Printing.{printing}
+use Rattle.document.specs.rules.Draft.{Printed}
+use Rattle.document.specs.examples.Expected.{bytes, no-parent, bare, keyed, texts, Table, Whole, refusedAs, fills}
+
+-- The table of a document whose title is A, however it is spelled.
+unfoldable pub titled-A : Table
+titled-A = record { rows = bare 1 no-parent 3 ∷ bare 8 0 3 ∷ texts 1 3 0 1 ∷ []; pool = bytes "A" }
+
+-- An empty title.
+unfoldable pub untitled : Table
+untitled = record { rows = bare 1 no-parent 2 ∷ bare 8 0 2 ∷ []; pool = [] }
+
+-- A document and a section in it, both with the id x: in the pool each id stands before the title inside.
+unfoldable pub same-id-twice : Table
+same-id-twice =
+    record {
+      rows = keyed 1 no-parent 6 0 1 ∷ bare 8 0 3 ∷ texts 1 3 1 1 ∷ keyed 3 0 6 2 1 ∷ bare 8 3 6 ∷ texts 4 6 3 1 ∷ [];
+      pool = bytes "xAxB";
+    }
+
+-- A link, whose target x is on no block.
+unfoldable pub link-to-nowhere : Table
+link-to-nowhere =
+    record {
+      rows =
+          bare 1 no-parent 8
+          ∷ bare 8 0 3
+          ∷ texts 1 3 0 1
+          ∷ bare 3 0 8
+          ∷ bare 8 3 6
+          ∷ texts 4 6 1 1
+          ∷ bare 5 3 8
+          ∷ keyed 13 6 8 2 1
+          ∷ [];
+      pool = bytes "ABx";
+    }
+
+-- The document of the printed listing: kind, parent and end are the numbers of its lines.
+unfoldable pub listed : Table
+listed =
+    record {
+      rows =
+          bare 1 no-parent 8
+          ∷ bare 8 0 3
+          ∷ texts 1 3 0 1
+          ∷ bare 3 0 8
+          ∷ bare 8 3 6
+          ∷ texts 4 6 1 1
+          ∷ bare 5 3 8
+          ∷ texts 6 8 2 2
+          ∷ [];
+      pool = bytes "ABhi";
+    }
+
+-- The judged examples. The third has the second's table.
+unfoldable pub examples : List Whole
+examples =
+    refusedAs nested (bytes "") 7 0 1 1
+    ∷ fills nested (bytes "[document [title \"A\"]]") 0 0 1 1 3 1 titled-A (0 ∷ 10 ∷ 17 ∷ [])
+    ∷ fills nested (bytes "(document (title A))") 0 0 1 1 3 1 titled-A (0 ∷ 10 ∷ 17 ∷ [])
+    ∷ fills nested (bytes "[document [title]]") 0 0 1 1 2 0 untitled (0 ∷ 10 ∷ [])
+    ∷ refusedAs nested (bytes "[document]") 9 0 1 1
+    ∷ refusedAs nested (bytes "[document [title A)]") 5 18 1 19
+    ∷ refusedAs nested (bytes "[document [title \"\"]]") 4 17 1 18
+    ∷ refusedAs nested (bytes "[document [title A] [paragraph]]") 8 20 1 21
+    ∷ refusedAs nested (bytes "[document [title A] [section [title B] [footnote [type t] [id f]]]]") 9 39 1 40
+    ∷ refusedAs nested (bytes "[document [title A] [section [title B] [paragraph] [subsection [title C]]]]") 11 51 1 52
+    ∷ fills nested (bytes "[document [title A] [id x] [section [title B] [id x]]]") 16 27 1 28 6 4 same-id-twice (0 ∷ 10 ∷ 17 ∷ 27 ∷ 36 ∷ 43 ∷ [])
+    ∷ fills nested (bytes "[document [title A] [section [title B] [paragraph [link [target x]]]]]") 17 50 1 51 8 3 link-to-nowhere (0 ∷ 10 ∷ 17 ∷ 20 ∷ 29 ∷ 36 ∷ 39 ∷ 50 ∷ [])
+    ∷ refusedAs imperative (bytes "[document [title A]] hi") 8 21 1 22
+    ∷ fills imperative (bytes "[document [title A]] [section [title B]] [paragraph] hi") 0 0 1 1 8 4 listed (0 ∷ 10 ∷ 17 ∷ 21 ∷ 30 ∷ 37 ∷ 41 ∷ 53 ∷ [])
+    ∷ []
+
+-- A text and what reading it answers.
+pub record Example : Type 0 where
+  pub spelling : Spelling
+  pub text : List ℕ
+  pub expected : Answer
+
+-- A text with its number, place, line, column, node count and pool count.
+abbrev pub exampleOf : Spelling → List ℕ → ℕ → ℕ → ℕ → ℕ → ℕ → ℕ → Example
+exampleOf s t n p line column nodes pool =
+    record { spelling = s; text = t; expected = record { number = n; place = p; line = line; column = column; nodes = nodes; pool = pool } }
+
+-- The same of a text that is written out, as UTF-8.
+abbrev pub example : Spelling → String → ℕ → ℕ → ℕ → ℕ → ℕ → ℕ → Example
+example s t = exampleOf s (bytes t)
+
+-- Room for 64 nodes and 64 pool bytes.
+unfoldable pub room : Memory
+room = record { nodes = replicate 704 7; places = replicate 64 7; pool = replicate 64 7 }
+
+unfoldable pub answered : Example → Answer
+answered e = outcome (e .spelling) (e .text) room .answer
+
+-- "Its settlements": each text would be answered otherwise under the source's reading.
+unfoldable pub settlements : List Example
+settlements =
+    -- An empty section does not have every id: the target is on no block.
+    example nested "[document [title A] [section [title B] [paragraph [link [target x]]]] [section [title C]]]" 17 50 1 51 11 4
+    -- One block has the id, and no other block needs it.
+    ∷ example nested "[document [title A] [section [title B] [id x] [paragraph [link [target x]]]] [section [title C] [id y]]]" 0 0 1 1 11 6
+    -- A table is inline content.
+    ∷ example nested "[document [title A] [section [title B] [paragraph [table [summary] [body]]]]]" 0 0 1 1 10 2
+    -- `\\` is no escape.
+    ∷ example nested "[document [title \"\\\\\"]]" 4 18 1 19 0 0
+    -- `\n` is one character, U+000A.
+    ∷ example nested "[document [title \"\\n\"]]" 0 0 1 1 3 1
+    -- `\u` takes four digits: U+0001 and then the four characters F600.
+    ∷ example nested "[document [title \"\\u0001F600\"]]" 0 0 1 1 3 5
+    -- A letter that is not ASCII may not stand in an id.
+    ∷ example nested "[document [title A] [id é]]" 10 20 1 21 0 0
+    -- A URI has no space in it.
+    ∷ example nested "[document [title A] [section [title B] [paragraph [link-ext [target \"a b\"]]]]]" 10 60 1 61 0 0
+    -- A URI may have what an id may not.
+    ∷ example nested "[document [title A] [section [title B] [paragraph [link-ext [target \"http://a/?b=c\"]]]]]" 0 0 1 1 8 15
+    ∷ []
+
+-- The open points, by their number in docs/DECISIONS.md.
+unfoldable pub open-points : List Example
+open-points =
+    -- B4
+    example nested "\"a\\z" 4 2 1 3 0 0
+    -- B5
+    ∷ example nested "\"a\\u00" 4 2 1 3 0 0
+    -- B6
+    ∷ example nested "\u{feff}[document [title A]]" 7 3 1 2 0 0
+    ∷ example imperative "\u{feff}[document [title A]]" 8 0 1 1 0 0
+    -- B7
+    ∷ example nested "[document\r\r\n[title A]]" 3 9 1 10 0 0
+    -- B8
+    ∷ example nested "[document [title a\\nb]]" 0 0 1 1 3 4
+    -- B9
+    ∷ example nested "[document [title A] [section [title B] [paragraph [footnote-ref [target a] (include \"x\")]]]]" 12 75 1 76 0 0
+    ∷ example nested "[document [title A] [section [title B] [paragraph [table [summary] [body] (include \"x\")]]]]" 12 74 1 75 0 0
+    ∷ example nested "[document [title A] [section [title B] [paragraph [verbatim a (include \"x\")]]]]" 12 62 1 63 0 0
+    -- B10
+    ∷ example nested "[document [title A] [section [title B] [paragraph [verbatim [type \"t\"]]]]]" 10 60 1 61 0 0
+    -- B11
+    ∷ example nested "[document [title A] [section [title B] [paragraph [table [summary [x]]]]]]" 8 66 1 67 0 0
+    ∷ example nested "[document [title A] [section [title B] [paragraph [table [summary] [type \"t\"]]]]]" 10 67 1 68 0 0
+    -- B12
+    ∷ example nested "[document (include \"x\")]" 9 0 1 1 0 0
+    ∷ example nested "[document [title A] [section [title B] [paragraph [table [summary] (include \"x\") [body]]]]]" 9 50 1 51 0 0
+    -- B13
+    ∷ example nested "[document [title A] [id (include \"x\")]]" 10 20 1 21 0 0
+    -- B14
+    ∷ example nested "[document [\"title\" A]]" 9 0 1 1 0 0
+    ∷ example nested "[document [title A] [section [title B] [paragraph [\"include\" \"x\"]]]]" 8 50 1 51 0 0
+    -- B15
+    ∷ example nested "[document [title A] [section [title B] [paragraph [text x]]]]" 8 50 1 51 0 0
+    -- B16
+    ∷ example nested "[Document [title A]]" 8 0 1 1 0 0
+    -- B17
+    ∷ example imperative "[document [title A]] [document]" 8 21 1 22 0 0
+    -- B18
+    ∷ example imperative "[document [title A]] (include \"x\")" 12 21 1 22 0 0
+    ∷ example imperative "(include \"x\")" 8 0 1 1 0 0
+    ∷ example imperative "[document [title A] (include \"x\")]" 8 20 1 21 0 0
+    -- B19
+    ∷ example imperative "[document]" 9 0 1 1 0 0
+    -- B20
+    ∷ example nested "[document [title A] [section [title B] [paragraph [table [summary] [head [name]] [body [row [cell [list-ordered [item [table [summary] [head [name]] [body [row]]]]]]] [row]]]]]]" 15 155 1 156 23 2
+    -- B21
+    ∷ example nested "[document [title A] [section [title B] [id x]] [section [title C] [id y]] [section [title D] [id x]]]" 16 74 1 75 12 7
+    -- B28
+    ∷ example nested "[document [title \"\\u0000\\ufffe\"]]" 0 0 1 1 3 4
+    ∷ []
+
+-- Texts for the numbers 2 to 12 and 15 to 18 in both spellings, each aimed at a mistake that would give another number or place,
+-- and beside them texts that have no fault though they are close to one.
+unfoldable pub faults : List Example
+faults =
+    -- 2: over the whole text, ahead of all that a scan finds.
+    exampleOf nested (bytes "[document [title " ++ (0xED ∷ 0xA0 ∷ 0x80 ∷ []) ++ bytes "]]") 2 17 1 18 0 0
+    ∷ exampleOf nested (bytes "[document [title " ++ (0xC0 ∷ 0x80 ∷ []) ++ bytes "]]") 2 17 1 18 0 0
+    ∷ exampleOf nested (0x01 ∷ 0x0A ∷ 0xC3 ∷ []) 2 2 2 1 0 0
+    ∷ exampleOf imperative (bytes "[document [title A]] é" ++ (0xF4 ∷ 0x90 ∷ 0x80 ∷ 0x80 ∷ [])) 2 23 1 23 0 0
+    -- 3: a control character, U+000D with no U+000A after it; the column counts characters. Inside a string it is raw.
+    ∷ example nested "[document \u{1}[title A]]" 3 10 1 11 0 0
+    ∷ example nested "[document [title é]]\u{1}" 3 21 1 21 0 0
+    ∷ example nested "[document [title A]]\r" 3 20 1 21 0 0
+    ∷ example nested "[document\r\n\u{1f}" 3 11 2 1 0 0
+    ∷ example nested "[document [title \"\u{1}\r\"]]" 0 0 1 1 3 2
+    ∷ example imperative "[document [title A]] \u{1}" 3 21 1 22 0 0
+    -- 4: at the backslash, or at the quote of a string that is empty or unclosed, which comes before an open list. Either case of a digit is one.
+    ∷ example nested "[document [title \"a\\ud800\"]]" 4 19 1 20 0 0
+    ∷ example nested "[document [title \"\\u00g0\"]]" 4 18 1 19 0 0
+    ∷ example nested "[document [title \"\\U0001F600\"]]" 4 18 1 19 0 0
+    ∷ example nested "[document [title \"a]]" 4 17 1 18 0 0
+    ∷ example nested "[document [title \"\\u00Ef\"]]" 0 0 1 1 3 2
+    ∷ example imperative "[document [title A]] \"x\\q\"" 4 23 1 24 0 0
+    ∷ example imperative "[document [title A]] \"\"" 4 21 1 22 0 0
+    ∷ example imperative "[document [title A]] [section \"" 4 30 1 31 0 0
+    -- 5: at the bracket that closes nothing or another, or at the innermost one that is open. The first fault of the scan is the one found.
+    ∷ example nested "]" 5 0 1 1 0 0
+    ∷ example nested "[document [title A" 5 10 1 11 0 0
+    ∷ example nested "[document [title A]" 5 0 1 1 0 0
+    ∷ example nested "[document (title A]]" 5 18 1 19 0 0
+    ∷ example nested "[document [title A]]]" 5 20 1 21 0 0
+    ∷ example nested "[document )\u{1}" 5 10 1 11 0 0
+    ∷ example imperative "[document [title A]] [section [title B]" 5 21 1 22 0 0
+    ∷ example imperative "[document [title A]] [section [title B" 5 30 1 31 0 0
+    ∷ example imperative "[document [title A]] ) [" 5 21 1 22 0 0
+    -- 6: at the bracket of level 65, imperative 60; levels count, and not brackets.
+    ∷ exampleOf nested (replicate 65 0x5B) 6 64 1 65 0 0
+    ∷ exampleOf nested (replicate 64 0x5B ++ replicate 64 0x5D) 8 0 1 1 0 0
+    ∷ exampleOf nested (replicate 64 0x5B ++ replicate 63 0x5D) 5 0 1 1 0 0
+    ∷ exampleOf imperative (replicate 60 0x5B) 6 59 1 60 0 0
+    ∷ exampleOf imperative (replicate 59 0x5B ++ replicate 59 0x5D) 8 0 1 1 0 0
+    -- 7: ahead of 8 and 9; an imperative text may have any number of expressions.
+    ∷ example nested " \n " 7 3 2 2 0 0
+    ∷ example nested "a b" 7 2 1 3 0 0
+    ∷ example nested "[document] [document]" 7 11 1 12 0 0
+    ∷ example imperative "" 7 0 1 1 0 0
+    ∷ example imperative " \n " 7 3 2 2 0 0
+    ∷ example imperative "[document [title A]] [section [title B]]" 0 0 1 1 6 2
+    -- 8: at the expression, ahead of what is inside it, and of 11.
+    ∷ example nested "a" 8 0 1 1 0 0
+    ∷ example nested "(include \"x\")" 8 0 1 1 0 0
+    ∷ example nested "[section [title A]]" 8 0 1 1 0 0
+    ∷ example nested "[document [title [term a]]]" 8 17 1 18 0 0
+    ∷ example nested "[document [title A] []]" 8 20 1 21 0 0
+    ∷ example nested "[document [title A] [subsection]]" 8 20 1 21 0 0
+    ∷ example nested "[document [title A] [paragraph (include \"x\")]]" 8 20 1 21 0 0
+    ∷ example nested "[document [title A] [id x] [id y]]" 8 27 1 28 0 0
+    ∷ example nested "[document [title A] [part [title B]] [paragraph]]" 8 37 1 38 0 0
+    ∷ example nested "[document [title A] [section [title B] hi]]" 8 39 1 40 0 0
+    ∷ example nested "[document [title A] [section [title B] [paragraph [item]]]]" 8 50 1 51 0 0
+    ∷ example nested "[document [title A] [section [title B] [paragraph [verbatim a b]]]]" 8 62 1 63 0 0
+    ∷ example nested "[document [title A] [section [title B] [paragraph [image [target u] [type t] [size 1 2]]]]]" 8 77 1 78 0 0
+    ∷ example nested "[document [title A] [section [title B] [paragraph [footnote-ref [target a] x]]]]" 8 75 1 76 0 0
+    ∷ example nested "[document [title A] [section [title B] [paragraph [table [summary] [body] [head]]]]]" 8 74 1 75 0 0
+    ∷ example nested "[document [title A] [section [title B] [paragraph [table [summary] [body [row [cell [table [summary] [body]]]]]]]]]" 8 84 1 85 0 0
+    -- Only the direct children of a cell are tested for a table.
+    ∷ example nested "[document [title A] [section [title B] [paragraph [table [summary] [body [row [cell [list-ordered [item [table [summary] [body]]]]]]]]]]]" 0 0 1 1 17 2
+    -- 8 in a command is at its own place; a loose parameter and a second document command are none.
+    ∷ example imperative "a" 8 0 1 1 0 0
+    ∷ example imperative "[section [title A]]" 8 0 1 1 0 0
+    ∷ example imperative "[document [title A] [section [title B]]]" 8 20 1 21 0 0
+    ∷ example imperative "[document [title A] [id x] [id y]]" 8 27 1 28 0 0
+    ∷ example imperative "[document [title A]] [section [title B] hi] [x]" 8 40 1 41 0 0
+    ∷ example imperative "[document [title A]] [section [title B]] [paragraph hi]" 8 52 1 53 0 0
+    ∷ example imperative "[document [title A]] [paragraph hi]" 8 21 1 22 0 0
+    ∷ example imperative "[document [title A]] [id x]" 8 21 1 22 0 0
+    ∷ example imperative "[document [title A]] [section [title B]] [title C]" 8 41 1 42 0 0
+    ∷ example imperative "[document [title A]] [section [title B]] [paragraph] [type t]" 8 53 1 54 0 0
+    ∷ example imperative "[document [title A]] [section [title B]] [paragraph] [list-ordered [item [paragraph]]]" 8 73 1 74 0 0
+    ∷ example imperative "[document [title A]] [section [title B]] [paragraph] hi [document [title C]]" 8 56 1 57 0 0
+    -- 9: at the element, and not at what stands where the parameter is wanted; a loose title is no parameter.
+    ∷ example nested "[document [id x] [title A]]" 9 0 1 1 0 0
+    ∷ example nested "[document [title A] [section [id s]]]" 9 20 1 21 0 0
+    ∷ example nested "[document [title A] [section [x]]]" 9 20 1 21 0 0
+    ∷ example nested "[document [title A] [section [title B] [paragraph [verbatim]]]]" 9 50 1 51 0 0
+    ∷ example nested "[document [title A] [section [title B] [paragraph [link x]]]]" 9 50 1 51 0 0
+    ∷ example nested "[document [title A] [section [title B] [paragraph [image [size 1 2]]]]]" 9 50 1 51 0 0
+    ∷ example nested "[document [title A] [section [title B] [paragraph [table [summary] [head]]]]]" 9 50 1 51 0 0
+    ∷ example nested "[document [title A] [section [title B] [paragraph [list-ordered [item [footnote-ref]]]]]]" 9 70 1 71 0 0
+    ∷ example imperative "[document [id x]] [title A]" 9 0 1 1 0 0
+    ∷ example imperative "[document [title A]] [section] [paragraph]" 9 21 1 22 0 0
+    ∷ example imperative "[document [title A]] [section [title B]] [footnote [type t]] hi" 9 41 1 42 0 0
+    ∷ example imperative "[document [title A]] [section [title B]] [paragraph] [verbatim]" 9 53 1 54 0 0
+    -- 10: at the parameter, and neither at the element nor at the value.
+    ∷ example nested "[document [title A] [id]]" 10 20 1 21 0 0
+    ∷ example nested "[document [title A] [id a b]]" 10 20 1 21 0 0
+    ∷ example nested "[document [title A] [id [a]]]" 10 20 1 21 0 0
+    ∷ example nested "[document [title A] [id \"a b\"]]" 10 20 1 21 0 0
+    ∷ example nested "[document [title A] [type \"t\"]]" 10 20 1 21 0 0
+    ∷ example nested "[document [title A] [type a-b]]" 10 20 1 21 0 0
+    ∷ example nested "[document [title A] [type a_1] [id \"a-b.c_1\"]]" 0 0 1 1 3 11
+    ∷ example nested "[document [title A] [section [title B] [paragraph [image [target u] [size 1]]]]]" 10 68 1 69 0 0
+    ∷ example nested "[document [title A] [section [title B] [paragraph [image [target u] [size 1 65536]]]]]" 10 68 1 69 0 0
+    ∷ example nested "[document [title A] [section [title B] [paragraph [image [target u] [size 000001 1]]]]]" 10 68 1 69 0 0
+    ∷ example nested "[document [title A] [section [title B] [paragraph [image [target u] [size \"1\" 1]]]]]" 10 68 1 69 0 0
+    ∷ example nested "[document [title A] [section [title B] [paragraph [image [target u] [size 00001 65535]]]]]" 0 0 1 1 8 3
+    ∷ example nested "[document [title A] [section [title B] [paragraph [image [target é]]]]]" 10 57 1 58 0 0
+    ∷ example nested "[document [title A] [section [title B] [paragraph [link [target a/b]]]]]" 10 56 1 57 0 0
+    ∷ example nested "[document [title A] [section [title B] [paragraph [link-ext [target a/b]]]]]" 0 0 1 1 8 5
+    ∷ example nested "[document [title A] [section [title B] [paragraph [footnote-ref [target \"a b\"]]]]]" 10 64 1 65 0 0
+    ∷ example imperative "[document [title A] [id é]] [section]" 10 20 1 21 0 0
+    ∷ example imperative "[document [title A]] [section [title B] [type \"t\"]] hi" 10 40 1 41 0 0
+    ∷ example imperative "[document [title A]] [section [title B]] [paragraph] [link [target a/b]]" 10 59 1 60 0 0
+    -- 11: at the child, ahead of what is inside it.
+    ∷ example nested "[document [title A] [part [title P]] [section [title B]]]" 11 37 1 38 0 0
+    ∷ example nested "[document [title A] [section [title B]] [part]]" 11 40 1 41 0 0
+    ∷ example nested "[document [title A] [section [title B] [subsection [title C]] [footnote]]]" 11 62 1 63 0 0
+    ∷ example imperative "[document [title A]] [section [title B]] [part [title P]]" 11 41 1 42 0 0
+    ∷ example imperative "[document [title A]] [section [title B]] [paragraph] hi [subsection [title C]]" 11 56 1 57 0 0
+    -- A paragraph after a subsection is the subsection's; a part ends the section before it.
+    ∷ example imperative "[document [title A]] [section [title B]] [subsection [title C]] [paragraph]" 0 0 1 1 10 3
+    ∷ example imperative "[document [title A]] [part [title P]] [section [title B]] [part [title Q]]" 0 0 1 1 12 4
+    -- 12: at its bracket, ahead of 8 and 11 there and of what is inside it. A symbol is no list.
+    ∷ example nested "[document [title [import]]]" 12 17 1 18 0 0
+    ∷ example nested "[document [title A] [include [import]]]" 12 20 1 21 0 0
+    ∷ example nested "[document [title A] [section [title B]] (include \"x\")]" 12 40 1 41 0 0
+    ∷ example nested "[document [title A] [section [title B] [paragraph hi (import \"x\")]]]" 12 53 1 54 0 0
+    ∷ example nested "[document [title include]]" 0 0 1 1 3 7
+    ∷ example imperative "[document [title (include \"x\")]]" 12 17 1 18 0 0
+    ∷ example imperative "[document [title A]] [section [title B]] [paragraph] hi [import [x]]" 12 56 1 57 0 0
+    ∷ example imperative "[document [title A]] [section [title B]] [paragraph] [term [include]]" 12 59 1 60 0 0
+    -- 15: at the row, and in tables with a head only: the head's own rows, and not those of a table inside.
+    ∷ example nested "[document [title A] [section [title B] [paragraph [table [summary] [head [name] [name]] [body [row [cell]]]]]]]" 15 94 1 95 15 2
+    ∷ example nested "[document [title A] [section [title B] [paragraph [table [summary] [head [name]] [body [row [cell]] [row] [row [cell] [cell]]]]]]]" 15 100 1 101 18 2
+    ∷ example nested "[document [title A] [section [title B] [paragraph [table [summary] [head] [body [row [cell]]]]]]]" 15 80 1 81 13 2
+    ∷ example nested "[document [title A] [section [title B] [paragraph [table [summary] [body [row [cell]] [row [cell] [cell]]]]]]]" 0 0 1 1 15 2
+    ∷ example nested "[document [title A] [section [title B] [paragraph [table [summary] [head [name]] [body [row [cell [list-ordered [item [table [summary] [body [row]]]]]]]]]]]]" 0 0 1 1 20 2
+    ∷ example nested "[document [title A] [section [title B] [paragraph [table [summary] [head [name]] [body]] [table [summary] [body [row]]]]]]" 0 0 1 1 16 2
+    ∷ example nested "[document [title A] [id x] [section [title B] [id x] [paragraph [table [summary] [head [name]] [body [row]]]]]]" 15 101 1 102 13 4
+    ∷ example imperative "[document [title A]] [section [title B]] [paragraph] [table [summary] [head [name]] [body [row]]]" 15 90 1 91 13 2
+    ∷ example imperative "[document [title A]] [section [title B]] [paragraph] [table [summary] [body [row [cell]] [row]]]" 0 0 1 1 13 2
+    -- 16: at the first block in document order whose id an earlier block has; ahead of 17. Case counts, and a target is no id.
+    ∷ example nested "[document [title A] [section [title B] [id x] [paragraph [id x]]] [section [title C] [id x]]]" 16 46 1 47 10 6
+    ∷ example nested "[document [title A] [id x] [section [title B] [paragraph [link [target z]]] [paragraph [id x]]]]" 16 76 1 77 9 5
+    ∷ example nested "[document [title A] [id x] [section [title B] [footnote [id x]]]]" 16 46 1 47 7 4
+    ∷ example nested "[document [title A] [id x] [section [title B] [id X] [paragraph [id xx]] [paragraph] [paragraph [image [target x]]]]]" 0 0 1 1 10 7
+    ∷ example imperative "[document [title A] [id x]] [section [title B]] [paragraph [id x]] hi [paragraph [id x]]" 16 48 1 49 9 7
+    -- 17: the target may be on any block, a later one too, and on nothing else; ahead of 18.
+    ∷ example nested "[document [title A] [section [title B] [paragraph [image [target x]] [link [target x]]]]]" 17 69 1 70 9 4
+    ∷ example nested "[document [title A] [section [title B] [id x] [paragraph [link [target xy]] [link [target y]]]]]" 17 57 1 58 9 6
+    ∷ example nested "[document [title A] [section [title B] [paragraph [footnote-ref [target q]] [link [target q]]]]]" 17 76 1 77 9 4
+    ∷ example nested "[document [title A] [id d] [section [title B] [paragraph [link [target d]] [link [target f]] [link-ext [target q]]] [footnote [id f]]]]" 0 0 1 1 11 7
+    ∷ example imperative "[document [title A]] [section [title B]] [paragraph [id p]] [link [target p]] [link [target q]]" 17 78 1 79 9 5
+    -- 18: a block that is no footnote will not do.
+    ∷ example nested "[document [title A] [section [title B] [id s] [paragraph [footnote-ref [target s]]]]]" 18 57 1 58 8 4
+    ∷ example nested "[document [title A] [section [title B] [paragraph [footnote-ref [target f]] [footnote-ref [target g]]]]]" 18 50 1 51 9 4
+    ∷ example nested "[document [title A] [section [title B] [footnote [id f]] [paragraph [footnote-ref [target f]]]]]" 0 0 1 1 9 4
+    ∷ example imperative "[document [title A]] [section [title B]] [footnote [id f]] [paragraph [id p]] [footnote-ref [target f]] [footnote-ref [target p]]" 18 104 1 105 10 6
+    ∷ []
+
+-- A text, and how many node words, places and pool bytes are lent for it.
+pub record Lent : Type 0 where
+  pub example : Example
+  pub nodes : ℕ
+  pub places : ℕ
+  pub pool : ℕ
+
+abbrev pub lent : ℕ → ℕ → ℕ → Example → Lent
+lent n p b e = record { example = e; nodes = n; places = p; pool = b }
+
+unfoldable pub memoryOf : Lent → Memory
+memoryOf l = record { nodes = replicate (l .nodes) 7; places = replicate (l .places) 7; pool = replicate (l .pool) 7 }
+
+unfoldable pub readInto : Lent → Outcome
+readInto l = outcome (l .example .spelling) (l .example .text) (memoryOf l)
+
+-- 13 and 14 have the counts needed. 13 goes by whole records of eleven words and by the place list, ahead of 14 and of 16, behind 12.
+unfoldable pub short-of-room : List Lent
+short-of-room =
+    lent 32 3 1 (example nested "[document [title A]]" 13 0 1 1 3 1)
+    ∷ lent 33 2 1 (example nested "[document [title A]]" 13 0 1 1 3 1)
+    ∷ lent 33 3 0 (example nested "[document [title A]]" 14 0 1 1 3 1)
+    ∷ lent 0 0 0 (example nested "[document [title AB] [id x] [section [title C] [id x]]]" 13 0 1 1 6 5)
+    ∷ lent 66 6 4 (example nested "[document [title AB] [id x] [section [title C] [id x]]]" 14 0 1 1 6 5)
+    ∷ lent 0 0 0 (example nested "[document [title A] (include \"x\")]" 12 20 1 21 0 0)
+    ∷ lent 87 8 6 (example imperative "[document [title A]] [section [title B]] [paragraph] \"h\\u0069\"" 13 0 1 1 8 4)
+    ∷ lent 88 8 3 (example imperative "[document [title A]] [section [title B]] [paragraph] \"h\\u0069\"" 14 0 1 1 8 4)
+    ∷ []
+
+-- A text and the canonical spelling of its document.
+pub record Tidied : Type 0 where
+  pub spelling : Spelling
+  pub text : String
+  pub canonical : String
+
+abbrev pub tidied : Spelling → String → String → Tidied
+tidied s t c = record { spelling = s; text = t; canonical = c }
+
+unfoldable pub printable : List Tidied
+printable =
+    tidied nested "(document(title A \"b c\")[type t](id x)[section (title \"S\\u0041\\\"\\n\\r\\t\\u005c\\u0001\\u007Fé\") [paragraph [image [target \"http://x\"] [size 007 65535] [type p] alt] [verbatim \"v\"]]])"
+    "[document [title \"A\" \"b c\"] [id x] [type t] [section [title \"SA\\\"\\n\\r\\t\\u005c\\u0001\\u007fé\"] [paragraph [image [target \"http://x\"] [size 7 65535] [type p] \"alt\"] [verbatim \"v\"]]]]"
+    ∷ tidied imperative "[document [title A]] [part [title P]] [section [title B]] [subsection [title C]] [paragraph [id p]] hi [link [target p] x] [footnote [id f]] n [formal-item [title F]] [footnote-ref [target f]] [list-unordered [item a] [item]] [section [title D]] [paragraph] [table [summary s] [type t] [head [name N]] [body [row [cell 1]]]]"
+    "[document [title \"A\"] [part [title \"P\"] [section [title \"B\"] [subsection [title \"C\"] [paragraph [id p] \"hi\" [link [target \"p\"] \"x\"]] [footnote [id f] \"n\"] [formal-item [title \"F\"] [footnote-ref [target \"f\"]] [list-unordered [item \"a\"] [item]]]]] [section [title \"D\"] [paragraph [table [summary \"s\"] [type t] [head [name \"N\"]] [body [row [cell \"1\"]]]]]]]]"
+    ∷ []
+
+unfoldable pub paper : List ℕ
+paper = replicate 512 7
+
+-- Printing what a read has left.
+unfoldable pub printedFrom : Outcome → Printed
+printedFrom o = printing (o .memory .nodes) (o .answer .nodes) (o .memory .pool) (o .answer .pool) paper
+
+unfoldable pub readIn : Spelling → String → Outcome
+readIn s t = outcome s (bytes t) room
+
+unfoldable pub spelledOut : String → Printed
+spelledOut c = record { number = 0; size = length (bytes c); out = over (bytes c) paper }

@@ -1,0 +1,4 @@
+pub mod Rows
+pub mod PlainNames
+pub mod PlainCharacters
+pub mod PlainInside

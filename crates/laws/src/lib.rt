@@ -1,1 +1,0 @@
-// Laws that the proofs of several crates cite: conditions, tests, tables and stores (proofs/).

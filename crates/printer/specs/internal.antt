@@ -1,0 +1,4 @@
+pub mod Adds
+pub mod Inside
+pub mod Pieces
+pub mod Raw

@@ -1,0 +1,11 @@
+pub mod Blocks
+pub mod Checked
+pub mod Filling
+pub mod Groups
+pub mod Held
+pub mod Second
+pub mod Sizes
+pub mod Stands
+pub mod Tape
+pub mod Turn
+pub mod Walked

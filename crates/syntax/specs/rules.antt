@@ -1,0 +1,5 @@
+pub mod Byte
+pub mod Syntax
+pub mod Expression
+pub mod Fault
+pub mod Atoms
