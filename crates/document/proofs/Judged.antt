@@ -2,9 +2,8 @@
 -- or the answer alone (number, place, line, column and both counts).
 use mathlib.Core.Path.{_≡_, refl}
 use mathlib.Core.List.{List, map}
-use Rattle.document.specs.rules.Spelling.{nested}
 use Rattle.document.specs.examples.Expected.{bytes, numbers, lentMemory, row, bare, keyed, typed, texts, joined, leaves, Whole, left}
-use Rattle.document.specs.examples.Judged.{titled-A, untitled, same-id-twice, link-to-nowhere, listed, Example, examples, settlements, open-points, faults, answered, room, Lent, memoryOf, readInto, short-of-room, Tidied, printable, paper, printedFrom, readIn, spelledOut}
+use Rattle.document.specs.examples.Judged.{titled-A, untitled, same-id-twice, link-to-nowhere, listed, Example, examples, settlements, open-points, answered, room, Lent, memoryOf, readInto, short-of-room, Tidied, printable, paper, printedFrom, readIn, spelledOut}
 use Rattle.document.specs.examples.Outcomes.{outcomes, id-behind-type, escaped-by-number, images-and-a-link, table-and-list, two-spellings, row-too-short, id-again, link-on-line-3, reference-to-a-section}
 use Rattle.document.specs.examples.Printing.{Print, printedAs, blank, escaped, prints}
 use Rattle.document.proofs.Compute.{computes}
@@ -17,7 +16,7 @@ written-down = tt
 abbrev AllLeft : List Whole → Type 0
 AllLeft ws = map left ws ≡ map (λ (w : Whole). w .expected) ws
 
-abbrev AllAnswered : List Example → Type 0
+abbrev pub AllAnswered : List Example → Type 0
 AllAnswered es = map answered es ≡ map (λ (e : Example). e .expected) es
 
 -- The judged examples that document 01 marks with *, and its printed listing: each answer, node word, place and pool byte, and the rest of the lent memory.
@@ -38,11 +37,6 @@ pub decided : AllAnswered open-points
 unfolding computes open-points answered room bytes
 decided = refl
 
--- The numbers 2 to 12 and 15 to 18, nested and imperative.
-pub faults-judged : AllAnswered faults
-unfolding computes faults answered room bytes
-faults-judged = refl
-
 -- The numbers 13 and 14; memory stays as it was lent.
 pub short-judged : map (λ (l : Lent). readInto l .answer) short-of-room ≡ map (λ (l : Lent). l .example .expected) short-of-room
 unfolding computes short-of-room readInto memoryOf bytes
@@ -62,9 +56,3 @@ pub tidied : map (λ (t : Tidied). printedFrom (readIn (t .spelling) (t .text)))
     ≡ map (λ (t : Tidied). spelledOut (t .canonical)) printable
 unfolding computes printable printedFrom readIn spelledOut room bytes paper
 tidied = refl
-
--- Reading the canonical spelling gives the same node words and pool.
-pub read-back : map (λ (t : Tidied). readIn (t .spelling) (t .text) .memory .nodes) printable
-    ≡ map (λ (t : Tidied). readIn nested (t .canonical) .memory .nodes) printable
-unfolding computes printable readIn room bytes
-read-back = refl

@@ -1,6 +1,5 @@
 pub mod Compute
 pub mod Judged
-pub mod JudgedSizes
 pub mod Leads
 pub mod RulesTest
 pub mod Values

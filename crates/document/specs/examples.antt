@@ -2,5 +2,4 @@ pub mod Expected
 pub mod Judged
 pub mod Outcomes
 pub mod Printing
-pub mod Sizes
 pub mod Plain

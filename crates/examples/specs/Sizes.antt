@@ -1,19 +1,19 @@
 -- Texts and tables built by number, for what only counts show: counts needed, tables of many columns, long ids, levels, lengths of an output.
--- That each has what is beside it is proved in `proofs/JudgedSizes.antt`.
+-- That each has what is beside it is proved in `proofs/Sizes.antt`.
 use Prim.Native.Nat.{ℕ, zero, suc, _+_, _-_, _*_}
 use mathlib.Core.Bool.{Bool, _&&_}
 use mathlib.Core.List.{List, [], _∷_, _++_}
 use lib.Dec.{eqb}
 use lib.ListN.{length, replicate}
 use Rattle.elements.specs.rules.Bytes.{same}
 use Rattle.document.specs.rules.Document.{Node, node, Nodes, childless, child}
 use Rattle.document.specs.rules.Spelling.{nested, imperative}
 use Rattle.document.specs.reference.Check.{Check, sound, unsound, check}
 use Rattle.document.specs.rules.Memory.{Answer}
 use Rattle.document.specs.rules.Draft.{Printed}
 use Rattle.document.specs.examples.Expected.{bytes, no-parent, no-width, no-height, bare, texts, joined, Table}
 use Rattle.document.specs.examples.Judged.{exampleOf, Lent, lent, readInto}
 use Rattle.document.specs.examples.Printing.{Print, printedAs, blank, needs, noTableOf}
 
 -- The bytes n times over.
 unfoldable pub times : ℕ → List ℕ → List ℕ

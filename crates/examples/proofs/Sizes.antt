@@ -1,13 +1,13 @@
--- Each example of `specs/examples/Sizes.antt` has what is beside it, by computation.
+-- Each example of `specs/Sizes.antt` has what is beside it, by computation.
 use mathlib.Core.Path.{_≡_, refl}
 use mathlib.Core.Bool.{true}
 use mathlib.Core.List.{[], _∷_, map}
 use lib.ListN.{replicate}
 use Rattle.document.specs.examples.Expected.{bytes, numbers, row, bare, texts, joined}
 use Rattle.document.specs.examples.Judged.{Lent, memoryOf, readInto}
 use Rattle.document.specs.examples.Printing.{printedAs, blank}
-use Rattle.document.specs.examples.Sizes.{times, sameAnswer, asExpected, paragraphs, commands, counted, columns, columnTexts, bareNode, alike, only, columnDocument, columnsChecked, columnsExpected, twoIds, idAndLink, longIds, lists, closed, levels, paragraphRows, paragraphsTable, everyTwelve, paragraphPlaces, fillsAll, listRows, levels-64, levels-65, samePrinted, isPrinted, long-outputs}
+use Rattle.examples.specs.Sizes.{times, sameAnswer, asExpected, paragraphs, commands, counted, columns, columnTexts, bareNode, alike, only, columnDocument, columnsChecked, columnsExpected, twoIds, idAndLink, longIds, lists, closed, levels, paragraphRows, paragraphsTable, everyTwelve, paragraphPlaces, fillsAll, listRows, levels-64, levels-65, samePrinted, isPrinted, long-outputs}
 use Rattle.document.proofs.Compute.{computes}
 
 -- Counts needed, under 13 and 14.
 pub counts-judged : map (λ (l : Lent). readInto l .answer) counted ≡ map (λ (l : Lent). l .example .expected) counted

@@ -1,0 +1,3 @@
+-- Computed examples beyond those of document 01: texts with their answers, and texts and tables built by number.
+pub mod Faults
+pub mod Sizes

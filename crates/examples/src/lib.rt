@@ -1,0 +1,1 @@
+// Further texts and tables, computed with the definitions of crate document. There is no code here.
