@@ -24,7 +24,6 @@ pub mod Faults
 pub mod Reading
 pub mod Numbers
 pub mod Account
-pub mod Demand
 pub mod Determined
 pub mod Counted
 pub mod Records
@@ -50,3 +49,4 @@ pub mod PrintingDecided
 pub mod PrintAccount
 pub mod RoundTrip
 pub mod Plain
+pub mod ReadExactly

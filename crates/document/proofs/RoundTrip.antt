@@ -16,7 +16,7 @@ use Rattle.document.specs.rules.Table.{count, pool, tableOf}
 use Rattle.document.specs.rules.Canonical.{layout, treeLevels, canonical}
 use Rattle.document.specs.rules.Draft.{IsTableOf}
 use Rattle.document.specs.rules.Memory.{Memory}
-use Rattle.document.specs.rules.Demand.{Fits, Readable}
+use Rattle.document.specs.rules.Readable.{Fits, Readable}
 use Rattle.document.proofs.LaidOut.{laid-out}
 use Rattle.document.proofs.Levels.{spelled-levels}
 use Rattle.document.proofs.CanonicalSpells.{canonical-spells}

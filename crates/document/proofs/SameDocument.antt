@@ -11,7 +11,7 @@ use Rattle.document.specs.rules.Table.{count, pool}
 use Rattle.document.specs.reference.Check.{Check, sound, unsound, check}
 use Rattle.document.specs.reference.Outcome.{checked, stored, outcome}
 use Rattle.document.specs.rules.Memory.{answerAt, Memory, Outcome, noRoom, filled, nodeRoom}
-use Rattle.document.specs.rules.Demand.{Alike}
+use Rattle.document.specs.rules.Readable.{Alike}
 use Rattle.document.proofs.Account.{spelled-stored}
 
 either : (b : Bool) {x y x′ y′ : Outcome} → Alike x x′ → Alike y y′ → Alike (cond b x y) (cond b x′ y′)
@@ -35,7 +35,7 @@ stored-alike text text′ ps ps′ m d =
     (either (ltb (length (m .pool)) (length (pool d))) (alike refl refl refl refl refl)
     (checked-alike text text′ ps ps′ m d (check d)))
 
-pub same-document : (s s′ : Spelling) (d : Node) (text text′ : List ℕ) (m : Memory) (a : Spells s d text) (b : Spells s′ d text′)
+pub spelled-alike : (s s′ : Spelling) (d : Node) (text text′ : List ℕ) (m : Memory) (a : Spells s d text) (b : Spells s′ d text′)
     → WithinLimits s text (a .forest) → WithinLimits s′ text′ (b .forest) → Alike (outcome s text m) (outcome s′ text′ m)
-same-document s s′ d text text′ m a b l l′ =
+spelled-alike s s′ d text text′ m a b l l′ =
     rw (spelled-stored s text m d a l, spelled-stored s′ text′ m d b l′) (stored-alike text text′ _ _ m d)

@@ -1,4 +1,4 @@
--- Demand 1 over the definitions: every text has one of the numbered answers, and 1 to 14 and 19 leave the lent memory as it was.
+-- Over the definitions: every text has one of the numbered answers, and 1 to 14 and 19 leave the lent memory as it was.
 use Prim.Native.Nat.{ℕ, _≤_}
 use mathlib.Core.Path.{_≡_, refl}
 use mathlib.Core.Bool.{false}
@@ -35,6 +35,6 @@ numbered s text m o (has-fault {n = n} sp l nodes bytes f) =
     let h = fault-number f in (omega (arith, h), λ t. absurd (filled-number n h t))
 numbered s text m o (accepted sp l nodes bytes w) = (omega arith, λ t. absurd t)
 
-pub demand-1 : (s : Spelling) (text : List ℕ) (m : Memory)
+pub kept-unless-filled : (s : Spelling) (text : List ℕ) (m : Memory)
     → (outcome s text m .answer .number ≤ 19) × (T (keepsMemory (outcome s text m .answer .number)) → outcome s text m .memory ≡ m)
-demand-1 s text m = numbered s text m (outcome s text m) (answers s text m)
+kept-unless-filled s text m = numbered s text m (outcome s text m) (answers s text m)

@@ -12,7 +12,7 @@ pub mod Faults
 pub mod Canonical
 pub mod Account
 pub mod PrintAccount
-pub mod Demand
 pub mod Memory
 pub mod Command
 pub mod Draft
+pub mod Readable

@@ -17,11 +17,11 @@ use Rattle.document.specs.rules.Canonical.{canonical}
 use Rattle.document.specs.rules.Draft as Defined
 use Rattle.document.specs.reference.Printing.{treeOfTable, written, printing}
 use Rattle.document.specs.rules.Draft.{IsTableOf}
-use Rattle.document.specs.rules.Demand.{Readable, Read}
+use Rattle.document.specs.rules.Readable.{Readable, Read}
 use Rattle.document.proofs.Records.{table-length}
 use Rattle.document.proofs.LaidOut.{laid-out}
 use Rattle.document.proofs.Rebuild.{rebuilt}
-use Rattle.document.proofs.Demand.{accepted-document, document-accepted}
+use Rattle.document.proofs.ReadExactly.{accepted-document, document-accepted}
 use Rattle.document.proofs.PrintingDecided.{prints}
 use Rattle.document.proofs.RoundTrip.{printable}
 use Rattle.reader.specs.Read.{Reads}

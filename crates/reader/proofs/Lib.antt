@@ -23,7 +23,7 @@ pub mod Within
 pub mod Outcomes
 pub mod Bounds
 pub mod Answered
-pub mod Demand
+pub mod Called
 pub mod Pools
 pub mod Rows
 pub mod Tapes

@@ -1,2 +1,4 @@
-pub mod Demand
+-- The demands, the lemmas about printing that they need, and the ways through the calls from C and Rust.
+pub mod Demands
+pub mod PrintedTables
 pub mod Calls

@@ -1,11 +1,12 @@
--- Which words and which pool are the table of a document within the limits, and what printing returns. Document 01, "Numbers answered".
-use Prim.Native.Nat.{ℕ}
+-- Which words and which pool are the table of a document within the limits, which of them a caller lends, and what printing returns. Document 01, "Numbers answered".
+use Prim.Native.Nat.{ℕ, _*_, _≤_}
 use mathlib.Core.Path.{_≡_}
 use mathlib.Core.List.{List}
 use lib.Dec.{T, leb}
-use lib.ListN.{length}
+use lib.ListN.{length, take}
 use Rattle.base.specs.rules.Limits.{mostBytes, mostNodes, nestedLevels}
 use Rattle.document.specs.rules.Document.{Node, Document}
+use Rattle.document.specs.rules.Record.{recordLength}
 use Rattle.document.specs.rules.Table.{tableOf, pool, count}
 use Rattle.document.specs.rules.WellFormed.{WellFormed}
 use Rattle.document.specs.rules.Canonical.{layout, treeLevels}
@@ -24,6 +25,13 @@ pub record IsTableOf (d : Node) (words bytes : List ℕ) : Type 0 where
   pub draft : IsDraft d words bytes
   pub well-formed : WellFormed d
 
+-- The n records and m bytes at the front of what is lent are the table of the document d, well-formed or not.
+pub record Holds (words : List ℕ) (n : ℕ) (bytes : List ℕ) (m : ℕ) (d : Node) : Type 0 where
+  pub words-within : recordLength * n ≤ length words
+  pub bytes-within : m ≤ length bytes
+  pub draft : IsDraft d (take (recordLength * n) words) (take m bytes)
+
+-- "Printing returns number and length", and leaves `out` of the output.
 pub record Printed : Type 0 where
   pub number : ℕ
   pub size : ℕ

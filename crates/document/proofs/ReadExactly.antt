@@ -13,7 +13,7 @@ use Rattle.document.specs.rules.Memory.{answerAt, Memory, Outcome, refus
 use Rattle.document.specs.rules.Account as Account
 use Rattle.document.specs.rules.Account.{Answers, too-long, ill-formed}
 use Rattle.document.specs.rules.Account.{no-node-room, no-pool-room, has-fault, accepted}
-use Rattle.document.specs.rules.Demand.{Fits, Readable, Read}
+use Rattle.document.specs.rules.Readable.{Fits, Readable, Read}
 use Rattle.document.proofs.NestedForms.{spelled-once, spelled-once-in-both}
 use Rattle.document.proofs.Account.{answers, answers-only}
 use Rattle.document.proofs.Numbers.{refused-number, fault-number}
@@ -54,12 +54,12 @@ document-accepted s text m d r =
     rw (answers-only s text m _ a)
     (record { accepted = refl; nodes = refl; bytes = refl; node-words = refl; pool-bytes = refl })
 
--- Demand 3, whole. That no text spells two documents holds of every text, also of one past the limits.
-pub demand-3 : (s : Spelling) (text : List ℕ) (m : Memory)
+-- The whole of it. That no text spells two documents holds of every text, also of one past the limits.
+pub read-exactly : (s : Spelling) (text : List ℕ) (m : Memory)
     → (outcome s text m .answer .number ≡ 0 → (d : Node) × Readable s text m d × Read m (outcome s text m) d)
     × ((d : Node) → Readable s text m d → Read m (outcome s text m) d)
     × ((d d′ : Node) → Spells s d text → Spells s d′ text → d ≡ d′)
-demand-3 s text m = (accepted-document s text m, document-accepted s text m, λ d d′ a b. spelled-once a b)
+read-exactly s text m = (accepted-document s text m, document-accepted s text m, λ d d′ a b. spelled-once a b)
 
 -- Nor does a text spell two documents where each spelling is taken once.
 pub either-spelling : (s s′ : Spelling) (text : List ℕ) (d d′ : Node) → Spells s d text → Spells s′ d′ text → d ≡ d′

@@ -1,0 +1,76 @@
+-- The demands hold of every call, from the contracts of the functions alone.
+use Prim.Native.Nat.{ℕ, _≤_}
+use mathlib.Core.Path.{_≡_, sym, subst, _∙_}
+use mathlib.Core.List.{List}
+use lib.Dec.{T}
+use Rattle.base.specs.rules.Numbers as Number
+use Rattle.document.specs.rules.Document.{Node}
+use Rattle.document.specs.rules.Spelling.{Spelling, Spells}
+use Rattle.document.specs.rules.Memory.{Memory, Outcome}
+use Rattle.document.specs.rules.Readable.{Readable, Read}
+use Rattle.document.specs.rules.Account.{keepsMemory}
+use Rattle.document.specs.reference.Printing.{printing}
+use Rattle.document.proofs.Account.{answers, answers-only}
+use Rattle.document.proofs.ReadExactly.{read-exactly, either-spelling}
+use Rattle.document.proofs.Unaltered.{kept-unless-filled}
+use Rattle.document.proofs.SameDocument.{spelled-alike}
+use Rattle.document.proofs.PrintAccount.{print-answers, print-answers-only}
+use Rattle.printer.specs.declared.Printed.{Printed}
+use Rattle.printer.specs.Prints.{Prints}
+use Rattle.reader.specs.declared.Answer.{Answer}
+use Rattle.reader.specs.Read.{Reads, called}
+use Rattle.reader.proofs.Called.{called-as}
+use Rattle.structural.specs.Demands.{Demand-1, Unaltered, Demand-3, One-document, Same-document, Print-account, Demand-2, Refused-exactly, Read-printed}
+use Rattle.structural.proofs.PrintedTables as Tables
+
+-- A call of `read_nested` or `read_imperative`.
+module _ (s : Spelling) (text : List ℕ) (m : Memory) (r : Answer) (exit : Memory) (reads : Reads s text m r exit) where
+  pub demand-1 : Demand-1 s text m r exit
+  demand-1 =
+      let e = called-as s text m r exit reads in
+      (rw e (answers s text m), λ o a. e ∙ answers-only s text m o a)
+
+  pub unaltered : Unaltered m r exit
+  unfolding called
+  unaltered =
+      subst (λ (o : Outcome). (o .answer .number ≤ Number.nested-too-deep) × (T (keepsMemory (o .answer .number)) → o .memory ≡ m))
+      (sym (called-as s text m r exit reads)) (kept-unless-filled s text m)
+
+  pub demand-3 : Demand-3 s text m r exit
+  unfolding called
+  demand-3 =
+      subst (λ (o : Outcome). (o .answer .number ≡ Number.ok → (d : Node) × Readable s text m d × Read m o d)
+      × ((d : Node) → Readable s text m d → Read m o d) × ((d d′ : Node) → Spells s d text → Spells s d′ text → d ≡ d′))
+      (sym (called-as s text m r exit reads)) (read-exactly s text m)
+
+pub one-document : One-document
+one-document = either-spelling
+
+-- Two calls that were lent the same memory.
+pub same-document : (s s′ : Spelling) (d : Node) (text text′ : List ℕ) (m exit exit′ : Memory) (r r′ : Answer) → Reads s text m r exit → Reads s′ text′ m r′ exit′
+    → Same-document s s′ d text text′ (called r exit) (called r′ exit′)
+same-document s s′ d text text′ m exit exit′ r r′ a b sp sp′ l l′ =
+    rw (called-as s text m r exit a, called-as s′ text′ m r′ exit′ b) (spelled-alike s s′ d text text′ m sp sp′ l l′)
+
+-- A call of `print`.
+module _ (words : List ℕ) (n : ℕ) (bytes : List ℕ) (m : ℕ) (out : List ℕ) (p : Printed) (exit : List ℕ) (call : Prints (printing words n bytes m out) p exit) where
+  pub print-account : Print-account words n bytes m out p exit
+  print-account =
+      let e = Tables.printed-as words n bytes m out p exit call in
+      (rw e (print-answers words n bytes m out), λ o a. e ∙ print-answers-only words n bytes m out o a)
+
+  pub demand-2 : Demand-2 words n bytes m out p exit
+  demand-2 = Tables.written-and-read-back words n bytes m out p exit call
+
+  pub refused-exactly : Refused-exactly words n bytes m p
+  refused-exactly = Tables.refused-exactly words n bytes m out p exit call
+
+-- A call of `print` after one of `read_nested` or `read_imperative`.
+pub read-printed : (s : Spelling) (text : List ℕ) (lent left : Memory) (r : Answer) → Reads s text lent r left → r .number ≡ Number.ok
+    → (out : List ℕ) (p : Printed) (exit : List ℕ) → Prints (printing (left .nodes) (r .nodes) (left .pool) (r .pool) out) p exit
+    → Read-printed s text r left p
+read-printed s text lent left r reads z out p exit call =
+    let (zero, all, once) = demand-3 s text lent r left reads in
+    let (d, readable, b) = zero z in
+    let h = Tables.read-holds s text lent left r d readable b in
+    (d, readable .spells, h, λ e. refused-exactly (left .nodes) (r .nodes) (left .pool) (r .pool) out p exit call .0 e d h (readable .well-formed))
