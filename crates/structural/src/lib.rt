@@ -16,6 +16,11 @@ ghost use Rattle.structural.specs.Calls.{ReadCall, PrintCall};
 // What is returned where the slice for the answer is too short; nothing is touched then.
 const NO_ANSWER: u32 = 4294967295;
 
+// How many words an answer of reading and of printing has.
+const READ_WORDS: usize = 6;
+
+const PRINT_WORDS: usize = 2;
+
 // "number, place, line, column, node count, pool count"
 fn put_answer(a: Answer, answer: &mut [u32])
     requires { ⌜ 6 ≤ length (now answer) ⌝ }
@@ -41,7 +46,7 @@ pub extern "C" fn structural_read_nested(
     ensures { λ r. ⌜ ReadCall nested (now (text .entry)) (record { nodes = now (nodes .entry); places = now (places .entry); pool = now (pool .entry) }) (now (answer .entry))
         r (record { nodes = now (nodes .exit); places = now (places .exit); pool = now (pool .exit) }) (now (answer .exit)) ⌝ }
 {
-    if answer.len() < 6 {
+    if answer.len() < READ_WORDS {
         return NO_ANSWER;
     }
     let a = read_nested(text, nodes, places, pool);
@@ -61,7 +66,7 @@ pub extern "C" fn structural_read_imperative(
     ensures { λ r. ⌜ ReadCall imperative (now (text .entry)) (record { nodes = now (nodes .entry); places = now (places .entry); pool = now (pool .entry) }) (now (answer .entry))
         r (record { nodes = now (nodes .exit); places = now (places .exit); pool = now (pool .exit) }) (now (answer .exit)) ⌝ }
 {
-    if answer.len() < 6 {
+    if answer.len() < READ_WORDS {
         return NO_ANSWER;
     }
     let a = read_imperative(text, nodes, places, pool);
@@ -81,7 +86,7 @@ pub extern "C" fn structural_print(
 ) -> u32
     ensures { λ r. ⌜ PrintCall (now (nodes .entry)) «node_count» (now (pool .entry)) «pool_count» (now (out .entry)) (now (answer .entry)) r (now (out .exit)) (now (answer .exit)) ⌝ }
 {
-    if answer.len() < 2 {
+    if answer.len() < PRINT_WORDS {
         return NO_ANSWER;
     }
     let p = print(nodes, node_count, pool, pool_count, out);

@@ -1,7 +1,8 @@
 -- `structural::put_answer` meets its contract.
 use native.Mathlib.Omega.{arith}
 use lib.ListN.{length-set}
-use Rattle.structural.proofs.Calls.{six-words}
+use mathlib.Core.List.{[], _∷_}
+use Rattle.structural.proofs.Calls.{stored-over}
 use borrow.Author.Needs.{needs}
 use Rattle.structural.proofs.put_answer.Statement.{statement}
 use Rattle.structural.proofs.put_answer.Tie as tie
@@ -19,7 +20,7 @@ slice-write-answer-5 : tie.Need-slice-write-answer-5
 slice-write-answer-5 c = simp length-set (omega arith)
 
 returns : tie.Need-returns
-returns c = six-words _ _ _ _ _ _ _ (omega arith)
+returns c = stored-over _ (_ ∷ _ ∷ _ ∷ _ ∷ _ ∷ _ ∷ []) (omega arith)
 
 pub put-answer-spec : {M : Type 1} → statement M
 put-answer-spec =
