@@ -1,33 +1,5 @@
-pub mod Strings
-pub mod Fronts
-pub mod Looks
-pub mod Forests
-pub mod Counts
-pub mod Turns
-pub mod Loops
-pub mod Items
-pub mod Values
-pub mod Measures
-pub mod Decimals
-pub mod Blocks
-pub mod BlockLoops
-pub mod Imperatives
-pub mod Tops
-pub mod Stores
-pub mod Picked
-pub mod FilledValues
-pub mod Writes
-pub mod Wholes
-pub mod Fits
-pub mod Within
-pub mod Outcomes
-pub mod Bounds
-pub mod Answered
+-- What other crates cite (`Called`: the outcome of a call is the definition's; `Pools`: the pool is at most as long as the text), and the lemmas that
+-- serve the contracts.
 pub mod Called
 pub mod Pools
-pub mod Rows
-pub mod Tapes
-pub mod TapeWords
-pub mod Noted
-pub mod Flat
-pub mod Located
+pub mod lemmas

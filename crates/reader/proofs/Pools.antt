@@ -12,12 +12,12 @@ use Rattle.document.specs.reference.Outcome.{oneExpression}
 use Rattle.document.proofs.NestedForms.{spelled-form, spelled-fine, spelled-means}
 use Rattle.document.proofs.Reading.{spelled-one}
 use Rattle.reader.specs.internal.Stands.{Stands}
-use Rattle.reader.specs.internal.Sizes.{bytesOf}
-use Rattle.reader.specs.internal.Walked.{readWalked}
-use Rattle.reader.proofs.Forests.{forest-stands}
-use Rattle.reader.proofs.Counts.{bytes-pool}
-use Rattle.reader.proofs.Bounds.{walk-within}
-use Rattle.reader.proofs.Outcomes.{root-node}
+use Rattle.reader.specs.internal.Counts.{bytesOf}
+use Rattle.reader.specs.internal.WalkAnswer.{readWalked}
+use Rattle.reader.proofs.lemmas.read.ExpressionPlaces.{forest-stands}
+use Rattle.reader.proofs.lemmas.walk.Counts.{bytes-pool}
+use Rattle.reader.proofs.lemmas.read.AnswerBounds.{walk-within}
+use Rattle.reader.proofs.lemmas.read.AnswerGroups.{root-node}
 
 pub pool-within : (s : Spelling) (d : Node) (text : List ℕ) (sp : Spells s d text) → WithinLimits s text (sp .forest) → length (pool d) ≤ length text
 unfolding readWalked

@@ -1,11 +1,12 @@
-pub mod Blocks
-pub mod Checked
+-- What the contracts of private functions are said with; no other crate needs it.
+pub mod BlockWalk
+pub mod Counts
 pub mod Filling
-pub mod Groups
-pub mod Held
-pub mod Second
-pub mod Sizes
+pub mod FirstExpressions
+pub mod FirstGroups
+pub mod ParameterValue
 pub mod Stands
+pub mod TableCheck
 pub mod Tape
-pub mod Turn
-pub mod Walked
+pub mod Walk
+pub mod WalkAnswer

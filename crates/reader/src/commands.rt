@@ -23,8 +23,8 @@ ghost use Rattle.document.specs.reference.Imperative.{regroup};
 ghost use Rattle.document.specs.reference.Outcome.{oneExpression};
 ghost use Rattle.reader.specs.internal.Tape.{taped};
 ghost use Rattle.reader.specs.internal.Stands.{Stands};
-ghost use Rattle.reader.specs.internal.Walked.{Bounded, readWalked};
-ghost use Rattle.reader.specs.internal.Blocks.{commandClass, looseClass, leadsCommand, endsAt, TurnedAs, InCommand, InContent, Belongs, Child};
+ghost use Rattle.reader.specs.internal.WalkAnswer.{Bounded, readWalked};
+ghost use Rattle.reader.specs.internal.BlockWalk.{commandClass, looseClass, leadsCommand, endsAt, TurnedAs, InCommand, InContent, Belongs, Child};
 
 // Title, id and type: the parameters of blocks.
 fn is_parameter(class: u8) -> bool

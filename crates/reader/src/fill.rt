@@ -15,7 +15,7 @@ ghost use Rattle.document.specs.reference.Meaning.{fine, judgeRoot, treeOf};
 ghost use Rattle.document.specs.reference.Meaning as Meaning;
 ghost use Rattle.document.specs.rules.Table.{offset, tableOf};
 ghost use Rattle.document.specs.rules.Table as Table;
-ghost use Rattle.reader.specs.internal.Sizes.{nodesOf};
+ghost use Rattle.reader.specs.internal.Counts.{nodesOf};
 ghost use Rattle.reader.specs.internal.Tape.{Located, taped};
 ghost use Rattle.reader.specs.internal.Filling.{Fits32, heldAt, entryAt, elementRow, nextRow, Rowed};
 

@@ -17,8 +17,8 @@ ghost use Rattle.document.specs.reference.Check.{check};
 ghost use Rattle.document.specs.rules.Spelling.{nested, imperative};
 ghost use Rattle.document.specs.rules.Memory.{answerAt};
 ghost use Rattle.validate.specs.Checked.{checkNumber};
-ghost use Rattle.reader.specs.internal.Checked.{checkPlace, Held};
-ghost use Rattle.reader.specs.internal.Groups.{groupNumber, groupPlace, roomNumber};
+ghost use Rattle.reader.specs.internal.TableCheck.{checkPlace, Held};
+ghost use Rattle.reader.specs.internal.FirstGroups.{groupNumber, groupPlace, roomNumber};
 ghost use Rattle.reader.specs.Read.{Answers, Reads};
 
 // "A read returns number, place, line, column, node count, pool count."

@@ -13,8 +13,8 @@ ghost use Rattle.syntax.specs.rules.Expression.{Expr, Exprs, none, and};
 ghost use Rattle.document.specs.rules.Spelling.{nested};
 ghost use Rattle.document.specs.reference.Outcome.{oneExpression};
 ghost use Rattle.reader.specs.internal.Stands.{Stands};
-ghost use Rattle.reader.specs.internal.Second.{firstPlace, secondPlace, FirstJudged};
-ghost use Rattle.reader.specs.internal.Walked.{readWalked};
+ghost use Rattle.reader.specs.internal.FirstExpressions.{firstPlace, secondPlace, FirstJudged};
+ghost use Rattle.reader.specs.internal.WalkAnswer.{readWalked};
 ghost use Rattle.reader.specs.internal.Tape.{taped};
 
 // Where the run of expressions from a place on ends, whatever its lists hold.

@@ -16,9 +16,9 @@ ghost use Rattle.lexer.specs.Token.{atomValue};
 ghost use Rattle.document.specs.rules.Value.{nonEmpty, isValue, namesBlock};
 ghost use Rattle.document.specs.reference.Meaning.{judgeValue, valueTree, sizeTree, numberOf};
 ghost use Rattle.reader.specs.internal.Stands.{Stands};
-ghost use Rattle.reader.specs.internal.Sizes.{valueSize};
-ghost use Rattle.reader.specs.internal.Walked.{walkedTo, Bounded};
-ghost use Rattle.reader.specs.internal.Held.{Holds, Reads, Notes, holdsSort};
+ghost use Rattle.reader.specs.internal.Counts.{valueSize};
+ghost use Rattle.reader.specs.internal.WalkAnswer.{walkedTo, Bounded};
+ghost use Rattle.reader.specs.internal.ParameterValue.{Holds, Reads, Notes, holdsSort};
 
 // The one text or symbol of a run: its place, the length of what it stands for, and the place where the run ends.
 pub struct One {

@@ -21,9 +21,9 @@ ghost use Rattle.elements.specs.rules.Inside.{ended};
 ghost use Rattle.kind.specs.Machine.{stateOf};
 ghost use Rattle.lexer.specs.Token.{seen, the-end};
 ghost use Rattle.document.specs.reference.Meaning.{Verdict};
-ghost use Rattle.reader.specs.internal.Walked.{walkedTo, Bounded};
+ghost use Rattle.reader.specs.internal.WalkAnswer.{walkedTo, Bounded};
 ghost use Rattle.reader.specs.internal.Tape.{left};
-ghost use Rattle.reader.specs.internal.Turn.{Answers, Finishes, Judges, Turned, Within, pastBracket};
+ghost use Rattle.reader.specs.internal.Walk.{Answers, Finishes, Judges, Turned, Within, pastBracket};
 
 pub struct Walked {
     pub number: u32,

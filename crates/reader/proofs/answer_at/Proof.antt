@@ -2,7 +2,7 @@ use mathlib.Core.Path.{refl}
 use native.Mathlib.Omega.{arith}
 use denote.Ref.{now}
 use Rattle.document.specs.rules.Memory.{answerAt}
-use Rattle.reader.proofs.Bounds.{position-within}
+use Rattle.reader.proofs.lemmas.read.AnswerBounds.{position-within}
 use borrow.Author.Needs.{needs}
 use Rattle.reader.proofs.answer_at.Statement.{statement}
 use Rattle.reader.proofs.answer_at.Tie as tie

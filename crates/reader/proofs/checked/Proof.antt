@@ -1,6 +1,6 @@
 -- `reader::checked` meets its contract.
 use native.Mathlib.Omega.{arith}
-use Rattle.reader.proofs.Answered.{document-checked, place-of-none, place-of-node, place-past}
+use Rattle.reader.proofs.lemmas.read.Promises.{document-checked, place-of-none, place-of-node, place-past}
 use borrow.Author.Needs.{needs}
 use Rattle.reader.proofs.checked.Statement.{statement}
 use Rattle.reader.proofs.checked.Tie as tie

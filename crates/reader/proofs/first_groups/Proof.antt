@@ -1,5 +1,5 @@
 use borrow.Author.Needs.{needs}
-use Rattle.reader.proofs.Outcomes.{groups-long, groups-ill-formed, groups-scan}
+use Rattle.reader.proofs.lemmas.read.AnswerGroups.{groups-long, groups-ill-formed, groups-scan}
 use Rattle.reader.proofs.first_groups.Statement.{statement}
 use Rattle.reader.proofs.first_groups.Tie as tie
 use Rattle.reader.proofs.first_groups.Reads as reads

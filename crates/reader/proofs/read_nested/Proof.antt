@@ -4,7 +4,7 @@ use native.Mathlib.Omega.{arith}
 use denote.Ref.{now}
 use Rattle.document.specs.rules.Spelling.{nested, mostLevels}
 use Rattle.document.specs.rules.Memory.{Memory}
-use Rattle.reader.proofs.Answered.{blankTape, room-few, group-fits, group-short, group-reads, walk-fits, walk-reads, full-reads, check-fits, filled-reads, nested-tapes}
+use Rattle.reader.proofs.lemmas.read.Promises.{blankTape, room-few, group-fits, group-short, group-reads, walk-fits, walk-reads, full-reads, check-fits, filled-reads, nested-tapes}
 use borrow.Author.Needs.{needs}
 use Rattle.reader.proofs.read_nested.Statement.{statement}
 use Rattle.reader.proofs.read_nested.Tie as tie

@@ -1,5 +1,5 @@
 use native.Mathlib.Omega.{arith}
-use Rattle.reader.proofs.Answered.{room-nodes, room-bytes, room-enough}
+use Rattle.reader.proofs.lemmas.read.Promises.{room-nodes, room-bytes, room-enough}
 use Rattle.reader.proofs.room.Statement.{statement}
 use Rattle.reader.proofs.room.Tie as tie
 

@@ -14,7 +14,7 @@ use Rattle.base.specs.rules.Limits.{missing}
 use Rattle.document.specs.rules.Document.{widthOr, heightOr}
 use Rattle.document.specs.rules.Lead.{leadClass}
 use Rattle.document.specs.reference.Meaning.{sizeTree}
-use Rattle.reader.specs.internal.Sizes.{nodesOf, nodesIn}
+use Rattle.reader.specs.internal.Counts.{nodesOf, nodesIn}
 
 -- Node n is entered: it stands at `at`, and none of its values is known yet.
 unfoldable pub entered : List ℕ → ℕ → ℕ → ℕ → ℕ → ℕ → List ℕ

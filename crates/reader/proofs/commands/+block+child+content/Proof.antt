@@ -5,13 +5,13 @@ use Prim.Native.Nat.{_+_, _*_, _-_}
 use native.Mathlib.Omega.{arith}
 use borrow.Author.Needs.{needs}
 use lib.ListN.{length}
-use Rattle.reader.specs.internal.Blocks.{InCommand, InContent}
-use Rattle.reader.proofs.Blocks.{not-ended}
-use Rattle.reader.proofs.BlockLoops.{Gone, begun, answered, gone-on, later, place-from, place-within, past-bounded}
-use Rattle.reader.proofs.BlockLoops.{command-end, command-cut, content-end}
-use Rattle.reader.proofs.BlockLoops.{turn-fits, atom-forward, list-forward, refused-bounded, command-refused, content-refused, command-atom, content-atom}
-use Rattle.reader.proofs.BlockLoops.{taken-forward, fewer, parameter-stopped, parameter-passed, belongs, child-stopped, child-passed}
-use Rattle.reader.proofs.BlockLoops.{command-child, inside-child}
+use Rattle.reader.specs.internal.BlockWalk.{InCommand, InContent}
+use Rattle.reader.proofs.lemmas.commands.CommandClasses.{not-ended}
+use Rattle.reader.proofs.lemmas.commands.BlockLoops.{Gone, begun, answered, gone-on, later, place-from, place-within, past-bounded}
+use Rattle.reader.proofs.lemmas.commands.BlockLoops.{command-end, command-cut, content-end}
+use Rattle.reader.proofs.lemmas.commands.BlockLoops.{turn-fits, atom-forward, list-forward, refused-bounded, command-refused, content-refused, command-atom, content-atom}
+use Rattle.reader.proofs.lemmas.commands.BlockLoops.{taken-forward, fewer, parameter-stopped, parameter-passed, belongs, child-stopped, child-passed}
+use Rattle.reader.proofs.lemmas.commands.BlockLoops.{command-child, inside-child}
 use Prim.Native.Nat.{ℕ, _<_}
 use borrow.Fn.Kinds.{In}
 use borrow.Fn.PlainCycle.{Measures, is, falls, and}

@@ -2,7 +2,7 @@
 use mathlib.Core.Path.{sym, _∙_}
 use borrow.Author.Tests.{not-true, not-false}
 use borrow.Author.Tests.{eq-eqb, ne-eqb}
-use Rattle.reader.specs.internal.Blocks.{endsAt}
+use Rattle.reader.specs.internal.BlockWalk.{endsAt}
 use borrow.Author.Needs.{needs}
 use Rattle.reader.proofs.commands.ends.Statement.{statement}
 use Rattle.reader.proofs.commands.ends.Tie as tie

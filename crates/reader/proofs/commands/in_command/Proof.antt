@@ -1,6 +1,6 @@
 -- `in_command` meets its contract.
 use mathlib.Core.Path.{sym, _∙_}
-use Rattle.reader.specs.internal.Blocks.{commandClass}
+use Rattle.reader.specs.internal.BlockWalk.{commandClass}
 use borrow.Author.Needs.{needs}
 use Rattle.reader.proofs.commands.in_command.Statement.{statement}
 use Rattle.reader.proofs.commands.in_command.Tie as tie

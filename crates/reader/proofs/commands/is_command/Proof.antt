@@ -1,6 +1,6 @@
 -- `is_command` meets its contract.
 use mathlib.Core.Path.{sym}
-use Rattle.reader.proofs.Blocks.{command-low, command-high}
+use Rattle.reader.proofs.lemmas.commands.CommandClasses.{command-low, command-high}
 use Rattle.reader.proofs.commands.is_command.Statement.{statement}
 use Rattle.reader.proofs.commands.is_command.Tie as tie
 

@@ -1,7 +1,7 @@
 -- `judge_imperative` meets its contract: each way out is one law of `Imperatives`.
 use native.Mathlib.Omega.{arith}
-use Rattle.reader.proofs.BlockLoops.{turn-within, place-within}
-use Rattle.reader.proofs.Imperatives.{nothing-seen, no-document, nothing-passed, document-fault, document-fine}
+use Rattle.reader.proofs.lemmas.commands.BlockLoops.{turn-within, place-within}
+use Rattle.reader.proofs.lemmas.commands.WholeText.{nothing-seen, no-document, nothing-passed, document-fault, document-fine}
 use borrow.Author.Needs.{needs}
 use Rattle.reader.proofs.commands.judge_imperative.Statement.{statement}
 use Rattle.reader.proofs.commands.judge_imperative.Tie as tie

@@ -1,7 +1,7 @@
 -- `loose` meets its contract.
 use mathlib.Core.Path.{sym, _∙_}
 use borrow.Author.Tests.{eq-eqb, ne-eqb}
-use Rattle.reader.specs.internal.Blocks.{looseClass}
+use Rattle.reader.specs.internal.BlockWalk.{looseClass}
 use borrow.Author.Needs.{needs}
 use Rattle.reader.proofs.commands.loose.Statement.{statement}
 use Rattle.reader.proofs.commands.loose.Tie as tie

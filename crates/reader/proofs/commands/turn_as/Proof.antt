@@ -1,8 +1,8 @@
 -- `turn_as` meets its contract.
 use mathlib.Core.Path.{refl}
 use native.Mathlib.Omega.{arith}
-use Rattle.reader.specs.internal.Blocks.{by-step, stuck}
-use Rattle.reader.proofs.Turns.{step-goes, step-bad}
+use Rattle.reader.specs.internal.BlockWalk.{by-step, stuck}
+use Rattle.reader.proofs.lemmas.walk.OneTurn.{step-goes, step-bad}
 use borrow.Author.Needs.{needs}
 use Rattle.reader.proofs.commands.turn_as.Statement.{statement}
 use Rattle.reader.proofs.commands.turn_as.Tie as tie

@@ -1,6 +1,6 @@
 -- `fill::element_row` meets its contract.
 use Rattle.reader.specs.internal.Filling.{Filling}
-use Rattle.reader.proofs.Rows.{bare-row, head-row}
+use Rattle.reader.proofs.lemmas.fill.Rows.{bare-row, head-row}
 use borrow.Author.Needs.{needs}
 use Rattle.reader.proofs.fill.element_row.Statement.{statement}
 use Rattle.reader.proofs.fill.element_row.Tie as tie

@@ -4,8 +4,8 @@ use mathlib.Core.Path.{_≡_, refl, _∙_}
 use native.Mathlib.Omega.{arith}
 use lib.ListN.{length}
 use Rattle.reader.specs.internal.Filling.{Filling}
-use Rattle.reader.proofs.Rows.{Written, written-none, written-on}
-use Rattle.reader.proofs.Wholes.{filled-whole}
+use Rattle.reader.proofs.lemmas.fill.Rows.{Written, written-none, written-on}
+use Rattle.reader.proofs.lemmas.fill.WholeDocument.{filled-whole}
 use Rattle.reader.proofs.fill.fill.Statement.{statement}
 use Rattle.reader.proofs.fill.fill.Tie as tie
 

@@ -1,5 +1,5 @@
 -- `fill::head` meets its contract.
-use Rattle.reader.proofs.Stores.{offset-word, length-word, sets-on}
+use Rattle.reader.proofs.lemmas.fill.Stores.{offset-word, length-word, sets-on}
 use Rattle.lexer.specs.Token.{atomValue}
 use lib.ListN.{drop, length}
 use mathlib.Core.List.{_++_}

@@ -1,5 +1,5 @@
 -- `fill::leaf` meets its contract.
-use Rattle.reader.proofs.Stores.{offset-word, length-word}
+use Rattle.reader.proofs.lemmas.fill.Stores.{offset-word, length-word}
 use Rattle.lexer.specs.Token.{atomValue}
 use lib.ListN.{drop}
 use native.Mathlib.Omega.{arith}

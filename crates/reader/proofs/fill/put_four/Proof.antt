@@ -1,5 +1,5 @@
 -- `fill::put_four` meets its contract.
-use Rattle.reader.proofs.Stores.{four-stores}
+use Rattle.reader.proofs.lemmas.fill.Stores.{four-stores}
 use borrow.Author.Needs.{needs}
 use Rattle.reader.proofs.fill.put_four.Statement.{statement}
 use Rattle.reader.proofs.fill.put_four.Tie as tie

@@ -1,6 +1,6 @@
 -- `fill::put_row` meets its contract: the row is stored at once or in parts.
 use Prim.Native.Nat.{_*_}
-use Rattle.reader.proofs.Stores.{row-stores}
+use Rattle.reader.proofs.lemmas.fill.Stores.{row-stores}
 use borrow.Author.Needs.{needs}
 use Rattle.reader.proofs.fill.put_row.Statement.{statement}
 use Rattle.reader.proofs.fill.put_row.Tie as tie

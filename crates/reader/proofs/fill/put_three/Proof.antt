@@ -1,5 +1,5 @@
 -- `fill::put_three` meets its contract.
-use Rattle.reader.proofs.Stores.{three-stores}
+use Rattle.reader.proofs.lemmas.fill.Stores.{three-stores}
 use borrow.Author.Needs.{needs}
 use Rattle.reader.proofs.fill.put_three.Statement.{statement}
 use Rattle.reader.proofs.fill.put_three.Tie as tie

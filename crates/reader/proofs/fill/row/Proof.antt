@@ -1,7 +1,7 @@
 -- `fill::row` meets its contract.
 use Rattle.reader.specs.internal.Filling.{Filling}
 use borrow.Author.Tests.{eq-eqb, ne-eqb}
-use Rattle.reader.proofs.Rows.{leaf-row, next-element, next-text}
+use Rattle.reader.proofs.lemmas.fill.Rows.{leaf-row, next-element, next-text}
 use borrow.Author.Needs.{needs}
 use Rattle.reader.proofs.fill.row.Statement.{statement}
 use Rattle.reader.proofs.fill.row.Tie as tie

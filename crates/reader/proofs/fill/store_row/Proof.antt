@@ -2,7 +2,7 @@
 use mathlib.Core.List.{[], _∷_}
 use native.Mathlib.Omega.{arith}
 use lib.ListN.{length-set}
-use Rattle.reader.proofs.Stores.{stored-row}
+use Rattle.reader.proofs.lemmas.fill.Stores.{stored-row}
 use borrow.Author.Needs.{needs}
 use Rattle.reader.proofs.fill.store_row.Statement.{statement}
 use Rattle.reader.proofs.fill.store_row.Tie as tie

@@ -1,5 +1,5 @@
 -- `first_place` meets its contract: each way out is one law of `Tops`.
-use Rattle.reader.proofs.Tops.{first-missing, first-there}
+use Rattle.reader.proofs.lemmas.nested.TopExpressions.{first-missing, first-there}
 use borrow.Author.Needs.{needs}
 use Rattle.reader.proofs.nested.first_place.Statement.{statement}
 use Rattle.reader.proofs.nested.first_place.Tie as tie

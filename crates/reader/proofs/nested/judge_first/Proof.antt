@@ -1,7 +1,7 @@
 -- `judge_first` meets its contract: each way out is one law of `Tops`.
 use native.Mathlib.Omega.{arith}
-use Rattle.reader.proofs.Tops.{first-none, first-other, first-stuck, first-root, first-tape, refused-number, looked-within}
-use Rattle.reader.proofs.Loops.{to-start}
+use Rattle.reader.proofs.lemmas.nested.TopExpressions.{first-none, first-other, first-stuck, first-root, first-tape, refused-number, looked-within}
+use Rattle.reader.proofs.lemmas.walk.LoopInvariant.{to-start}
 use borrow.Author.Needs.{needs}
 use Rattle.reader.proofs.nested.judge_first.Statement.{statement}
 use Rattle.reader.proofs.nested.judge_first.Tie as tie

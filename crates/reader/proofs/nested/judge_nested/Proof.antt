@@ -1,7 +1,7 @@
 -- `judge_nested` meets its contract: each way out is one law of `Tops`.
 use native.Mathlib.Omega.{arith}
 use Rattle.syntax.specs.rules.Expression.{none}
-use Rattle.reader.proofs.Tops.{judge-two, judge-one, refused-number}
+use Rattle.reader.proofs.lemmas.nested.TopExpressions.{judge-two, judge-one, refused-number}
 use borrow.Author.Needs.{needs}
 use Rattle.reader.proofs.nested.judge_nested.Statement.{statement}
 use Rattle.reader.proofs.nested.judge_nested.Tie as tie

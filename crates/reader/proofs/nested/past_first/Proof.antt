@@ -1,6 +1,6 @@
 -- `past_first` meets its contract, by what was seen first.
 use native.Mathlib.Omega.{arith}
-use Rattle.reader.proofs.Tops.{past-atom, past-cut, past-list}
+use Rattle.reader.proofs.lemmas.nested.TopExpressions.{past-atom, past-cut, past-list}
 use borrow.Author.Needs.{needs}
 use Rattle.reader.proofs.nested.past_first.Statement.{statement}
 use Rattle.reader.proofs.nested.past_first.Tie as tie

@@ -3,7 +3,7 @@ use Prim.Native.Nat.{_-_}
 use native.Mathlib.Omega.{arith}
 use borrow.Author.Needs.{needs}
 use lib.ListN.{length}
-use Rattle.reader.proofs.Tops.{Running, running, run-ends, run-unclosed, run-stuck, run-closes, run-opens, run-passes, run-over, looked-within}
+use Rattle.reader.proofs.lemmas.nested.TopExpressions.{Running, running, run-ends, run-unclosed, run-stuck, run-closes, run-opens, run-passes, run-over, looked-within}
 use Rattle.reader.proofs.nested.run_end.Statement.{statement}
 use Rattle.reader.proofs.nested.run_end.Tie as tie
 

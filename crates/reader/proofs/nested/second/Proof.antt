@@ -1,5 +1,5 @@
 -- `second` meets its contract: each way out is one law of `Tops`.
-use Rattle.reader.proofs.Tops.{second-none, second-some}
+use Rattle.reader.proofs.lemmas.nested.TopExpressions.{second-none, second-some}
 use borrow.Author.Needs.{needs}
 use Rattle.reader.proofs.nested.second.Statement.{statement}
 use Rattle.reader.proofs.nested.second.Tie as tie

@@ -1,5 +1,5 @@
 -- `second_after` meets its contract: each way out is one law of `Tops`.
-use Rattle.reader.proofs.Tops.{second-after}
+use Rattle.reader.proofs.lemmas.nested.TopExpressions.{second-after}
 use borrow.Author.Needs.{needs}
 use Rattle.reader.proofs.nested.second_after.Statement.{statement}
 use Rattle.reader.proofs.nested.second_after.Tie as tie

@@ -5,8 +5,8 @@ use native.Mathlib.Omega.{arith}
 use Prim.Native.Nat.{_*_}
 use Rattle.base.specs.rules.Limits.{missing}
 use Rattle.reader.specs.internal.Tape.{entered}
-use Rattle.reader.proofs.Stores.{stored-row}
-use Rattle.reader.proofs.Tapes.{entered-out}
+use Rattle.reader.proofs.lemmas.fill.Stores.{stored-row}
+use Rattle.reader.proofs.lemmas.tape.AfterWalk.{entered-out}
 use borrow.Author.Needs.{needs}
 use Rattle.reader.proofs.tape.enter.Statement.{statement}
 use Rattle.reader.proofs.tape.enter.Tie as tie

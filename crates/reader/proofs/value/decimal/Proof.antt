@@ -2,8 +2,8 @@
 use Prim.Native.Nat.{_+_, _-_}
 use native.Mathlib.Omega.{arith}
 use borrow.Author.Needs.{needs}
-use Rattle.reader.proofs.Decimals.{Counting, decimal-empty, decimal-long, decimal-start, decimal-small, decimal-next, decimal-below, decimal-above}
-use Rattle.reader.proofs.Decimals.{decimal-end}
+use Rattle.reader.proofs.lemmas.value.Decimals.{Counting, decimal-empty, decimal-long, decimal-start, decimal-small, decimal-next, decimal-below, decimal-above}
+use Rattle.reader.proofs.lemmas.value.Decimals.{decimal-end}
 use Rattle.reader.proofs.value.decimal.Statement.{statement}
 use Rattle.reader.proofs.value.decimal.Tie as tie
 

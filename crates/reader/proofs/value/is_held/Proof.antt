@@ -1,6 +1,6 @@
 -- `is_held` meets its contract, by the tests on the way.
 use borrow.Author.Tests.{eq-eqb, ne-eqb}
-use Rattle.reader.specs.internal.Held.{holdsSort}
+use Rattle.reader.specs.internal.ParameterValue.{holdsSort}
 use Rattle.reader.proofs.value.is_held.Statement.{statement}
 use Rattle.reader.proofs.value.is_held.Tie as tie
 

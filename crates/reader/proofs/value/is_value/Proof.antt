@@ -1,5 +1,5 @@
 -- `is_value` meets its contract: each way out is one law of `Values`.
-use Rattle.reader.proofs.Values.{value-id, value-type, value-target, value-none}
+use Rattle.reader.proofs.lemmas.value.TextValues.{value-id, value-type, value-target, value-none}
 use borrow.Author.Needs.{needs}
 use Rattle.reader.proofs.value.is_value.Statement.{statement}
 use Rattle.reader.proofs.value.is_value.Tie as tie

@@ -1,5 +1,5 @@
 -- `number_at` meets its contract: each way out is one law of `Measures`.
-use Rattle.reader.proofs.Measures.{read-other, read-stuck, read-within, read-number}
+use Rattle.reader.proofs.lemmas.value.SizeValues.{read-other, read-stuck, read-within, read-number}
 use borrow.Author.Needs.{needs}
 use Rattle.reader.proofs.value.number_at.Statement.{statement}
 use Rattle.reader.proofs.value.number_at.Tie as tie

@@ -1,8 +1,8 @@
 -- `only` meets its contract: each way out is one law of `Values`.
 use mathlib.Core.Path.{sym, _∙_}
 use borrow.Author.Tests.{not-true, not-false}
-use Rattle.reader.proofs.Turns.{ended-here}
-use Rattle.reader.proofs.Values.{only-nothing, only-stuck, only-one}
+use Rattle.reader.proofs.lemmas.walk.OneTurn.{ended-here}
+use Rattle.reader.proofs.lemmas.value.TextValues.{only-nothing, only-stuck, only-one}
 use borrow.Author.Needs.{needs}
 use Rattle.reader.proofs.value.only.Statement.{statement}
 use Rattle.reader.proofs.value.only.Tie as tie

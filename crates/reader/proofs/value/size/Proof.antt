@@ -1,5 +1,5 @@
 -- `size` meets its contract: each way out is one law of `Measures`.
-use Rattle.reader.proofs.Measures.{size-unfit, size-unfit-height, size-unfit-third, size-good}
+use Rattle.reader.proofs.lemmas.value.SizeValues.{size-unfit, size-unfit-height, size-unfit-third, size-good}
 use borrow.Author.Needs.{needs}
 use Rattle.reader.proofs.value.size.Statement.{statement}
 use Rattle.reader.proofs.value.size.Tie as tie

@@ -1,7 +1,7 @@
 -- `value` meets its contract: each way out is one law of `Values`.
 use native.Mathlib.Omega.{arith}
 use borrow.Author.Tests.{not-true, not-false}
-use Rattle.reader.proofs.Values.{value-size, value-nothing, value-bad, value-good, word-small}
+use Rattle.reader.proofs.lemmas.value.TextValues.{value-size, value-nothing, value-bad, value-good, word-small}
 use borrow.Author.Needs.{needs}
 use Rattle.reader.proofs.value.value.Statement.{statement}
 use Rattle.reader.proofs.value.value.Tie as tie

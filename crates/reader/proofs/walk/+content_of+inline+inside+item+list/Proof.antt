@@ -8,12 +8,12 @@ use borrow.Author.Needs.{needs}
 use borrow.Author.Tests.{not-true, not-false}
 use lib.ListN.{length}
 use Rattle.kind.specs.Machine.{stateOf}
-use Rattle.reader.specs.internal.Walked.{Bounded}
-use Rattle.reader.specs.internal.Turn.{Opens, Judges}
-use Rattle.reader.proofs.Loops.{Walking, begun, answered, passed, list-answered, list-forward, list-gone-on}
-use Rattle.reader.proofs.Loops.{to-start, element-judges, item-judges, list-judges, value-judges}
-use Rattle.reader.proofs.Items.{Bare, is-list, bare-start, item-taken}
-use Rattle.reader.proofs.Turns.{step-goes, turn-end, turn-fault, turn-stuck, turn-item}
+use Rattle.reader.specs.internal.WalkAnswer.{Bounded}
+use Rattle.reader.specs.internal.Walk.{Opens, Judges}
+use Rattle.reader.proofs.lemmas.walk.LoopInvariant.{Walking, begun, answered, passed, list-answered, list-forward, list-gone-on}
+use Rattle.reader.proofs.lemmas.walk.LoopInvariant.{to-start, element-judges, item-judges, list-judges, value-judges}
+use Rattle.reader.proofs.lemmas.walk.ListItems.{Bare, is-list, bare-start, item-taken}
+use Rattle.reader.proofs.lemmas.walk.OneTurn.{step-goes, turn-end, turn-fault, turn-stuck, turn-item}
 use Prim.Native.Nat.{ℕ, _<_}
 use borrow.Fn.Kinds.{In}
 use borrow.Fn.PlainCycle.{Measures, is, falls, and}

@@ -1,5 +1,5 @@
 -- `at_end` meets its contract.
-use Rattle.reader.specs.internal.Walked.{walkedTo}
+use Rattle.reader.specs.internal.WalkAnswer.{walkedTo}
 use borrow.Author.Needs.{needs}
 use Rattle.reader.proofs.walk.at_end.Statement.{statement}
 use Rattle.reader.proofs.walk.at_end.Tie as tie

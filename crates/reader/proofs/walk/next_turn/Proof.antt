@@ -1,8 +1,8 @@
 -- `next_turn` meets its contract: each way out is one law of `Turns`.
 use native.Mathlib.Omega.{arith}
 use mathlib.Core.Path.{refl}
-use Rattle.reader.proofs.Turns.{ended-here, turn-end, turn-fault, turn-stuck, turn-atom, turn-list, seen-within}
-use Rattle.reader.proofs.Looks.{seen-bounds}
+use Rattle.reader.proofs.lemmas.walk.OneTurn.{ended-here, turn-end, turn-fault, turn-stuck, turn-atom, turn-list, seen-within}
+use Rattle.reader.proofs.lemmas.walk.SeenExpressions.{seen-bounds}
 use borrow.Author.Needs.{needs}
 use Rattle.reader.proofs.walk.next_turn.Statement.{statement}
 use Rattle.reader.proofs.walk.next_turn.Tie as tie

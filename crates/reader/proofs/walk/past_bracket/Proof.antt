@@ -1,7 +1,7 @@
 -- `past_bracket` meets its contract, by the tests on the way.
 use borrow.Author.Tests.{eq-eqb, ne-eqb, le-leb, lt-leb}
-use Rattle.reader.specs.internal.Turn.{pastBracket}
-use Rattle.reader.specs.internal.Walked.{walkedTo}
+use Rattle.reader.specs.internal.Walk.{pastBracket}
+use Rattle.reader.specs.internal.WalkAnswer.{walkedTo}
 use borrow.Author.Needs.{needs}
 use Rattle.reader.proofs.walk.past_bracket.Statement.{statement}
 use Rattle.reader.proofs.walk.past_bracket.Tie as tie

@@ -1,6 +1,6 @@
 -- `refusal` meets its contract.
 use mathlib.Core.Path.{refl}
-use Rattle.reader.specs.internal.Walked.{walkedTo}
+use Rattle.reader.specs.internal.WalkAnswer.{walkedTo}
 use Rattle.reader.proofs.walk.refusal.Statement.{statement}
 use Rattle.reader.proofs.walk.refusal.Tie as tie
 

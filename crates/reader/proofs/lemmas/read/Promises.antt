@@ -1,0 +1,360 @@
+-- From what the parts of a read ensure to what the read promises, way by way.
+use Prim.Native.Nat.{ℕ, _*_, _/_, _≤_, _<_, min}
+use mathlib.Core.Path.{_≡_, refl, sym, ap, _∙_}
+use mathlib.Core.Bool.{Bool, true, false, cond}
+use mathlib.Core.List.{List, []}
+use native.Mathlib.Nat.{zero-add}
+use native.Mathlib.Omega.{arith}
+use borrow.Author.Tests.{lt-ltb, le-ltb, ltb-false, le-leb}
+use Rattle.base.proofs.Booleans.{true-T}
+use lib.Dec.{ltb}
+use lib.ListN.{length, length-append, take, drop, getD, replicate, length-replicate, List·getD-append, List·getD-eq-default}
+use lib.Seq.{sets, sets-eq, take-at}
+use Rattle.syntax.specs.rules.Expression.{Expr, Exprs, none, and, depthAll}
+use Rattle.document.specs.rules.Document.{Node, says, Document}
+use Rattle.document.specs.rules.Spelling.{Spelling, nested, imperative, mostLevels}
+use Rattle.document.specs.reference.Meaning.{fine, judgeRoot, treeOf, places}
+use Rattle.document.specs.reference.Imperative.{regroup}
+use Rattle.document.specs.rules.Record.{recordLength}
+use Rattle.document.specs.rules.Table.{count, pool, tableOf}
+use Rattle.document.specs.reference.Check.{Check, sound, unsound, check}
+use Rattle.document.specs.rules.Account.{NestedForm, as-it-stands, regrouped}
+use Rattle.document.specs.rules.Memory as Defined
+use Rattle.document.specs.reference.Outcome.{oneExpression, checked, stored, outcome}
+use Rattle.document.specs.rules.Memory.{Memory, answerAt, refusal, noRoom, over, filled, nodeRoom}
+use Rattle.document.proofs.Places.{root-places}
+use Rattle.document.proofs.Records.{table-length}
+use Rattle.document.proofs.Numbers.{check-number}
+use Rattle.document.proofs.Takes.{takes-regroup}
+use Rattle.document.proofs.CheckedNode.{unsound-below}
+use Rattle.document.specs.rules.Canonical.{layout, treeLevels}
+use Rattle.document.specs.reference.Printing.{checkedAs, checking}
+use Rattle.document.proofs.PrintingDecided.{checks}
+use Rattle.validate.specs.Checked.{checkNumber, checkNode}
+use Rattle.validate.specs.Checks.{Checks}
+use Rattle.validate.specs.declared.Checked.{Checked}
+use Rattle.reader.specs.declared.Answer.{Answer}
+use Rattle.reader.specs.declared.walk.Walked.{Walked}
+use Rattle.reader.specs.internal.Stands.{Stands}
+use Rattle.reader.specs.internal.WalkAnswer.{readWalked}
+use Rattle.reader.specs.internal.TableCheck.{checkPlace, Held}
+use Rattle.reader.specs.internal.FirstGroups.{groupNumber, groupPlace, roomNumber}
+use Rattle.reader.specs.Read.{Answers, Reads}
+use Rattle.reader.specs.internal.Counts.{nodesOf}
+use Rattle.reader.specs.internal.Tape.{taped, Located}
+use Rattle.reader.specs.internal.Filling.{Fits32}
+use Rattle.reader.proofs.lemmas.walk.Counts.{nodes-places}
+use Rattle.reader.proofs.lemmas.read.PoolPlaces.{read-fits}
+use Rattle.reader.proofs.lemmas.read.Located.{form-located}
+use Rattle.reader.proofs.lemmas.read.FaultPlaces.{Placed}
+use Rattle.reader.proofs.lemmas.read.AnswerBounds.{group-place, place-list-within, read-placed, walk-within}
+use Rattle.reader.proofs.lemmas.read.AnswerGroups.{Passed, Judged, group-refused, group-passed, judged-refused, judged-read}
+
+-- ---- the ways through `room`: one of the tests that the nodes fit fails, or none does
+
+module _ (words places bytes n p : ℕ) where
+  pub room-nodes : min 4096 (min (words / recordLength) places) < n → 13 ≡ roomNumber words places bytes n p
+  unfolding roomNumber
+  room-nodes h = rw (lt-ltb (min 4096 (min (words / recordLength) places)) n h)
+
+  pub room-bytes : n ≤ min 4096 (min (words / recordLength) places) → bytes < p → 14 ≡ roomNumber words places bytes n p
+  unfolding roomNumber
+  room-bytes h g = rw (le-ltb (min 4096 (min (words / recordLength) places)) n h, lt-ltb bytes p g)
+
+  pub room-enough : n ≤ min 4096 (min (words / recordLength) places) → p ≤ bytes → 0 ≡ roomNumber words places bytes n p
+  unfolding roomNumber
+  room-enough h g = rw (le-ltb (min 4096 (min (words / recordLength) places)) n h, le-ltb bytes p g)
+
+  -- Where there is room, the nodes are few.
+  pub room-few : roomNumber words places bytes n p ≡ 0 → n ≤ 4096
+  unfolding roomNumber
+  room-few = go (ltb (min 4096 (min (words / recordLength) places)) n) refl
+    where
+      go : (a : Bool) → ltb (min 4096 (min (words / recordLength) places)) n ≡ a → _≡_ {A = ℕ} (cond a 13 (cond (ltb bytes p) 14 0)) 0 → n ≤ 4096
+      go true e z = absurd (omega arith)
+      go false e z = omega (arith, ltb-false (min 4096 (min (words / recordLength) places)) n e)
+
+-- ---- the ways through `checked`
+
+-- The check of a table that holds a document answers of that document.
+pub document-checked : (words : List ℕ) (n : ℕ) (bytes : List ℕ) (m : ℕ) (r : Checked) → Checks (checking words n bytes m) r → (d : Node) → Held words n bytes m d
+    → (r .number ≡ checkNumber (check d)) × (r .node ≡ checkNode (check d))
+unfolding checkNumber checkNode checkedAs
+document-checked words n bytes m r c d h =
+    let x = rw (checks words n bytes m d (h .words-within) (h .bytes-within) (h .draft)) at c in
+    go (check d) x
+  where
+    go : (k : Check) → Checks (checkedAs k) r → (r .number ≡ checkNumber k) × (r .node ≡ checkNode k)
+    go sound x = (x .number, x .node)
+    go (unsound i j) x = (x .number, x .node)
+
+module _ (ps : List ℕ) (d : Node) (number node : ℕ) (n-is : number ≡ checkNumber (check d)) (i-is : node ≡ checkNode (check d)) where
+  pub place-of-none : number ≡ 0 → (0 ≡ checkNumber (check d)) × (0 ≡ checkPlace ps (check d))
+  unfolding checkNumber checkPlace
+  place-of-none z = go (check d) refl (sym n-is ∙ z)
+    where
+      go : (c : Check) → check d ≡ c → checkNumber c ≡ 0 → (0 ≡ checkNumber c) × (0 ≡ checkPlace ps c)
+      go sound e k = (refl, refl)
+      go (unsound n i) e k = absurd (omega (arith, check-number d n i e))
+
+  pub place-of-node : (number ≡ 0 → ⊥) → (number ≡ checkNumber (check d)) × (getD ps node 0 ≡ checkPlace ps (check d))
+  unfolding checkNumber checkNode checkPlace
+  place-of-node h = (n-is, go (check d) n-is i-is)
+    where
+      go : (c : Check) → number ≡ checkNumber c → node ≡ checkNode c → getD ps node 0 ≡ checkPlace ps c
+      go sound k l = absurd (h k)
+      go (unsound n i) k l = rw l
+
+  pub place-past : (number ≡ 0 → ⊥) → length ps ≤ node → (number ≡ checkNumber (check d)) × (0 ≡ checkPlace ps (check d))
+  place-past h past = let (a, b) = place-of-node h in (a, sym (List·getD-eq-default ps 0 past) ∙ b)
+
+-- ---- the lent memory once it is filled
+
+sets-over : (l vs : List ℕ) → length vs ≤ length l → sets l 0 vs ≡ over vs l
+unfolding over
+sets-over l vs h = sets-eq vs l 0 (omega arith) ∙ rw (zero-add (length vs))
+
+pub written : Memory → List ℕ → Node → Memory
+written m ps d = record { nodes = sets (m .nodes) 0 (tableOf d); places = sets (m .places) 0 ps; pool = sets (m .pool) 0 (pool d) }
+
+module _ (text : List ℕ) (m : Memory) (ps : List ℕ) (d : Node) where
+  abbrev full : ℕ
+  full = roomNumber (length (m .nodes)) (length (m .places)) (length (m .pool)) (count d) (length (pool d))
+
+  stored-full : (full ≡ 0 → ⊥) → stored text m ps d ≡ record { answer = answerAt text full 0 (count d) (length (pool d)); memory = m }
+  unfolding stored nodeRoom roomNumber noRoom
+  stored-full = go (ltb (nodeRoom m) (count d)) (ltb (length (m .pool)) (length (pool d)))
+    where
+      go : (a b : Bool) → (_≡_ {A = ℕ} (cond a 13 (cond b 14 0)) 0 → ⊥)
+          → cond a (noRoom text m 13 d) (cond b (noRoom text m 14 d) (checked text m ps d (check d)))
+          ≡ record { answer = answerAt text (cond a 13 (cond b 14 0)) 0 (count d) (length (pool d)); memory = m }
+      go true b h = refl
+      go false true h = refl
+      go false false h = absurd (h refl)
+
+  stored-fits : full ≡ 0 → (stored text m ps d ≡ checked text m ps d (check d)) × (count d ≤ nodeRoom m) × (length (pool d) ≤ length (m .pool))
+  unfolding stored nodeRoom roomNumber
+  stored-fits = go (ltb (nodeRoom m) (count d)) refl (ltb (length (m .pool)) (length (pool d))) refl
+    where
+      go : (a : Bool) → ltb (nodeRoom m) (count d) ≡ a → (b : Bool) → ltb (length (m .pool)) (length (pool d)) ≡ b → _≡_ {A = ℕ} (cond a 13 (cond b 14 0)) 0
+          → (cond a (noRoom text m 13 d) (cond b (noRoom text m 14 d) (checked text m ps d (check d))) ≡ checked text m ps d (check d))
+          × (count d ≤ nodeRoom m) × (length (pool d) ≤ length (m .pool))
+      go true e b f z = absurd (omega arith)
+      go false e true f z = absurd (omega arith)
+      go false e false f z = (refl, ltb-false (nodeRoom m) (count d) e, ltb-false (length (m .pool)) (length (pool d)) f)
+
+  module _ (room : count d ≤ nodeRoom m) (bytes : length (pool d) ≤ length (m .pool)) (one-each : length ps ≡ count d) where
+    written-over : written m ps d ≡ record { nodes = over (tableOf d) (m .nodes); places = over ps (m .places); pool = over (pool d) (m .pool) }
+    unfolding written nodeRoom
+    written-over =
+        rw (sets-over (m .nodes) (tableOf d) (omega (arith, table-length d)), sets-over (m .places) ps (omega arith), sets-over (m .pool) (pool d) bytes)
+
+    written-holds : Document d → treeLevels (layout d) ≤ 64 → length (pool d) ≤ 65536 → Held (written m ps d .nodes) (count d) (written m ps d .pool) (length (pool d)) d
+    unfolding over nodeRoom
+    written-holds doc levels short =
+        let words = ap (λ (x : Memory). x .nodes) written-over in
+        let strings = ap (λ (x : Memory). x .pool) written-over in
+        record {
+          words-within = omega (arith, ap length words, length-append (tableOf d) (drop (length (tableOf d)) (m .nodes)), table-length d);
+          bytes-within = omega (arith, ap length strings, length-append (pool d) (drop (length (pool d)) (m .pool)));
+          draft = record {
+            document = doc;
+            node-words = sym (ap (take (recordLength * count d)) words ∙ take-at (tableOf d) _ (recordLength * count d) (table-length d));
+            pool-bytes = sym (ap (take (length (pool d))) strings ∙ take-at (pool d) _ (length (pool d)) refl);
+            few-nodes = true-T (le-leb (count d) 4096 (omega arith));
+            nests-within = true-T (le-leb (treeLevels (layout d)) 64 levels);
+            short-pool = true-T (le-leb (length (pool d)) 65536 short);
+          };
+        }
+
+    -- The place that the filled place list has for the checked node is the place of that node.
+    checked-place : checkPlace (written m ps d .places) (check d) ≡ checkPlace ps (check d)
+    unfolding checkPlace over
+    checked-place = go (check d) refl
+      where
+        go : (c : Check) → check d ≡ c → checkPlace (written m ps d .places) c ≡ checkPlace ps c
+        go sound e = refl
+        go (unsound n i) e =
+            ap (λ (x : Memory). getD (x .places) i 0) written-over
+            ∙ List·getD-append ps (drop (length ps) (m .places)) 0 i (omega (arith, unsound-below d n i e))
+
+    checked-answer : checked text m ps d (check d)
+        ≡ record { answer = answerAt text (checkNumber (check d)) (checkPlace ps (check d)) (count d) (length (pool d)); memory = written m ps d }
+    unfolding checked filled checkNumber checkPlace
+    checked-answer = rw written-over (go (check d))
+      where
+        go : (c : Check) → checked text m ps d c
+            ≡ record {
+              answer = answerAt text (checkNumber c) (checkPlace ps c) (count d) (length (pool d));
+              memory = record { nodes = over (tableOf d) (m .nodes); places = over ps (m .places); pool = over (pool d) (m .pool) };
+            }
+        go sound = refl
+        go (unsound n i) = refl
+
+-- ---- places and counts that fit
+
+-- What the judge of a spelling ensures.
+abbrev pub Judges : Spelling → List ℕ → Walked → Type 0
+Judges s text w = (es : Exprs) → Stands text 0 es (length text) → depthAll es ≤ mostLevels s → w ≡ readWalked (oneExpression s (length text) es)
+
+module _ (s : Spelling) (text : List ℕ) (n p : ℕ) (group : (n ≡ groupNumber (mostLevels s) text) × (p ≡ groupPlace (mostLevels s) text)) where
+  pub group-fits : p ≤ 65536
+  group-fits = omega (arith, group-place (mostLevels s) text, group .1)
+
+  pub group-short : n ≡ 0 → length text ≤ 65536
+  group-short z = group-passed s text (record { nodes = []; places = []; pool = [] }) (sym (group .0) ∙ z) .short
+
+  pub walk-fits : n ≡ 0 → (w : Walked) → Judges s text w → (w .place ≤ 65536) × (w .nodes ≤ 65536) × (w .pool ≤ 65536)
+  walk-fits z w judges =
+      let x : Passed s text (record { nodes = []; places = []; pool = [] }) = group-passed s text _ (sym (group .0) ∙ z) in
+      let short : length text ≤ 65536 = x .short in
+      let (a, b, c) = walk-within s text (x .es) (x .stands) w (judges (x .es) (x .stands) (x .shallow)) in
+      (omega arith, omega arith, omega arith)
+
+-- The tape that a read lends.
+abbrev pub blankTape : List ℕ
+blankTape = replicate 32768 0
+
+long : length blankTape ≡ 32768
+long = length-replicate {A = ℕ} 32768 0
+
+-- What the judge of a spelling leaves of the tape t.
+abbrev pub Tapes : Spelling → List ℕ → ℕ → List ℕ → List ℕ → Type 0
+Tapes s text n t tape =
+    (es : Exprs) (e : Expr) → NestedForm s es e → Stands text 0 es (length text) → depthAll es ≤ mostLevels s → n ≡ 0 → length t ≡ 32768
+    → tape ≡ taped t 0 4294967295 e
+
+pub nested-tapes : (text : List ℕ) (n : ℕ) (t tape : List ℕ)
+    → ((e : Expr) → Stands text 0 (and e none) (length text) → n ≡ 0 → length t ≡ 32768 → tape ≡ taped t 0 4294967295 e) → Tapes nested text n t tape
+nested-tapes text n t tape h es e as-it-stands st deep z l = h e st z l
+
+pub imperative-tapes : (text : List ℕ) (n : ℕ) (t tape : List ℕ)
+    → ((e : Expr) (es : Exprs) → Stands text 0 (and e es) (length text) → depthAll (and e es) ≤ 59 → n ≡ 0 → length t ≡ 32768
+    → tape ≡ taped t 0 4294967295 (regroup e es)) → Tapes imperative text n t tape
+unfolding mostLevels
+imperative-tapes text n t tape h es e (regrouped {e = x} {es = xs} k) st deep z l = rw (takes-regroup x k) (h x xs st deep z l)
+
+-- What the fill of this many nodes from a tape ensures.
+abbrev Filled : Memory → Memory → Expr → Type 0
+Filled m exit e =
+    (exit .nodes ≡ sets (m .nodes) 0 (tableOf (says (treeOf e))))
+    × (exit .places ≡ sets (m .places) 0 (places e))
+    × (exit .pool ≡ sets (m .pool) 0 (pool (says (treeOf e))))
+
+filled-written : (m exit : Memory) (e : Expr) → Filled m exit e → exit ≡ written m (places e) (says (treeOf e))
+unfolding written
+filled-written m exit e (a, b, c) = rw (← a, ← b, ← c)
+
+abbrev pub Fills : List ℕ → List ℕ → ℕ → Memory → Memory → Type 0
+Fills text tape n m exit =
+    (e : Expr) (t : List ℕ) → Located text e → judgeRoot e ≡ fine → length t ≡ 32768 → tape ≡ taped t 0 4294967295 e → n ≡ nodesOf e → Fits32 0 (and e none)
+    → Filled m exit e
+
+-- ---- the ways through a read
+
+module _ (s : Spelling) (text : List ℕ) (m : Memory) where
+  reads-of : (a : Defined.Answer) (exit : Memory) (r : Answer) → outcome s text m ≡ record { answer = a; memory = exit } → Answers a r → Reads s text m r exit
+  reads-of a exit r e h = record { answers = rw e h; leaves = rw e }
+
+  -- After the judge, over the expression that it found.
+  module _ (e : Expr) (ok : judgeRoot e ≡ fine) (doc : Document (says (treeOf e))) (levels : treeLevels (layout (says (treeOf e))) ≤ 64) (goes-on : outcome s text m ≡ stored text m (places e) (says (treeOf e)))
+      (nodes bytes : ℕ) (nodes-are : nodes ≡ count (says (treeOf e))) (bytes-are : bytes ≡ length (pool (says (treeOf e))))
+      (f : ℕ) (room : f ≡ roomNumber (length (m .nodes)) (length (m .places)) (length (m .pool)) nodes bytes) where
+    abbrev d : Node
+    d = says (treeOf e)
+
+    room-is : f ≡ full text m (places e) d
+    room-is = room ∙ rw (nodes-are, bytes-are)
+
+    full-after : (f ≡ 0 → ⊥) → (r : Answer) → Answers (answerAt text f 0 nodes bytes) r → Reads s text m r m
+    full-after h r =
+        reads-of (answerAt text f 0 nodes bytes) m r
+        (goes-on ∙ stored-full text m (places e) d (λ q. h (room-is ∙ q)) ∙ rw (← room-is, ← nodes-are, ← bytes-are))
+
+    module _ (y : f ≡ 0) (exit : Memory) (exit-is : exit ≡ written m (places e) d) (number place : ℕ)
+        (short : bytes ≤ 65536)
+        (checks : (d : Node) → Held (exit .nodes) nodes (exit .pool) bytes d
+        → (number ≡ checkNumber (check d)) × (place ≡ checkPlace (exit .places) (check d))) where
+      room-enough-for : (stored text m (places e) d ≡ checked text m (places e) d (check d)) × (count d ≤ nodeRoom m) × (length (pool d) ≤ length (m .pool))
+      room-enough-for = stored-fits text m (places e) d (sym room-is ∙ y)
+
+      check-is : (number ≡ checkNumber (check d)) × (place ≡ checkPlace (places e) (check d))
+      check-is =
+          let (q, few, fit) = room-enough-for in
+          let holds : Held (exit .nodes) nodes (exit .pool) bytes d
+          = rw (exit-is, nodes-are, bytes-are) (written-holds text m (places e) d few fit (root-places e ok) doc levels (rw bytes-are at short)) in
+          let (a, b) = checks d holds in
+          (a, b ∙ ap (λ (x : Memory). checkPlace (x .places) (check d)) exit-is ∙ checked-place text m (places e) d few fit (root-places e ok))
+
+      place-after : Placed (length text) e → place ≤ length text
+      unfolding checkPlace
+      place-after placed = rw (check-is .1) (go (check d))
+        where
+          go : (k : Check) → checkPlace (places e) k ≤ length text
+          go sound = omega arith
+          go (unsound n i) = place-list-within (length text) e placed i
+
+      filled-after : (r : Answer) → Answers (answerAt text number place nodes bytes) r → Reads s text m r exit
+      filled-after r =
+          let (q, few, fit) = room-enough-for in
+          reads-of (answerAt text number place nodes bytes) exit r
+          (goes-on ∙ q ∙ checked-answer text m (places e) d few fit (root-places e ok) ∙ rw (check-is .0, check-is .1, nodes-are, bytes-are, exit-is))
+
+  module _ (n p : ℕ) (group : (n ≡ groupNumber (mostLevels s) text) × (p ≡ groupPlace (mostLevels s) text)) where
+    -- 1 to 6.
+    pub group-reads : (n ≡ 0 → ⊥) → (r : Answer) → Answers (answerAt text n p 0 0) r → Reads s text m r m
+    unfolding refusal
+    group-reads h r =
+        reads-of (answerAt text n p 0 0) m r (group-refused s text m (λ z. h (group .0 ∙ z)) ∙ rw (← group .0, ← group .1))
+
+    module _ (z : n ≡ 0) (w : Walked) (judges : Judges s text w) where
+      abbrev passed : Passed s text m
+      passed = group-passed s text m (sym (group .0) ∙ z)
+
+      abbrev is : w ≡ readWalked (oneExpression s (length text) (passed .es))
+      is = judges (passed .es) (passed .stands) (passed .shallow)
+
+      -- 7 to 12 and 19.
+      pub walk-reads : (w .number ≡ 0 → ⊥) → (r : Answer) → Answers (answerAt text (w .number) (w .place) 0 0) r → Reads s text m r m
+      unfolding refusal
+      walk-reads h r = reads-of (answerAt text (w .number) (w .place) 0 0) m r (judged-refused s text m passed w is h)
+
+      module _ (z′ : w .number ≡ 0) (f : ℕ)
+          (room : f ≡ roomNumber (length (m .nodes)) (length (m .places)) (length (m .pool)) (w .nodes) (w .pool)) where
+        abbrev found : Judged s text m passed w
+        found = judged-read s text m passed w is z′
+
+        -- 13 and 14.
+        pub full-reads : (f ≡ 0 → ⊥) → (r : Answer) → Answers (answerAt text f 0 (w .nodes) (w .pool)) r → Reads s text m r m
+        full-reads =
+            full-after (found .expr) (found .fine-root) (found .document) (found .levels) (found .goes-on) (w .nodes) (w .pool) (found .nodes-are) (found .bytes-are) f room
+
+        module _ (y : f ≡ 0) (exit : Memory) (tape : List ℕ) (tapes : Tapes s text (w .number) blankTape tape)
+            (fills : Fills text tape (w .nodes) m exit) (number place : ℕ)
+            (checks : (d : Node) → Held (exit .nodes) (w .nodes) (exit .pool) (w .pool) d
+            → (number ≡ checkNumber (check d)) × (place ≡ checkPlace (exit .places) (check d))) where
+          exit-is : exit ≡ written m (places (found .expr)) (says (treeOf (found .expr)))
+          exit-is =
+              filled-written m exit (found .expr)
+              (fills (found .expr) blankTape (form-located s text (passed .es) (found .expr) (found .form) (passed .stands) (found .fine-root)) (found .fine-root) long
+              (tapes (passed .es) (found .expr) (found .form) (passed .stands) (passed .shallow) z′ long)
+              (found .nodes-are ∙ sym (root-places (found .expr) (found .fine-root)) ∙ nodes-places (found .expr))
+              (read-fits s text (passed .es) (passed .stands) (passed .short) (found .expr) (found .reads)))
+
+          few-bytes : w .pool ≤ 65536
+          few-bytes = walk-fits s text n p group z w judges .2
+
+          pub check-fits : place ≤ 65536
+          check-fits =
+              let short : length text ≤ 65536 = passed .short in
+              omega (
+                arith,
+                place-after (found .expr) (found .fine-root) (found .document) (found .levels) (found .goes-on) (w .nodes) (w .pool) (found .nodes-are) (found .bytes-are) f room
+                    y exit exit-is number place few-bytes checks (read-placed s text (passed .es) (passed .stands) (found .expr) (found .reads)),
+              )
+
+          -- 15 to 18, and 0.
+          pub filled-reads : (r : Answer) → Answers (answerAt text number place (w .nodes) (w .pool)) r → Reads s text m r exit
+          filled-reads =
+              filled-after (found .expr) (found .fine-root) (found .document) (found .levels) (found .goes-on) (w .nodes) (w .pool) (found .nodes-are) (found .bytes-are) f room
+              y exit exit-is number place few-bytes checks
