@@ -11,8 +11,8 @@ use Rattle.document.specs.rules.Table.{pool}
 use Rattle.document.specs.reference.Outcome.{oneExpression}
 use Rattle.document.proofs.NestedForms.{spelled-form, spelled-fine, spelled-means}
 use Rattle.document.proofs.Reading.{spelled-one}
-use Rattle.reader.specs.internal.Stands.{Stands}
-use Rattle.reader.specs.internal.Counts.{bytesOf}
+use Rattle.reader.specs.internal.RunStands.{RunStands}
+use Rattle.reader.specs.internal.Counts.{poolBytes}
 use Rattle.reader.specs.internal.WalkAnswer.{readWalked}
 use Rattle.reader.proofs.lemmas.read.ExpressionPlaces.{forest-stands}
 use Rattle.reader.proofs.lemmas.walk.Counts.{bytes-pool}
@@ -24,7 +24,7 @@ unfolding readWalked
 pool-within s d text sp l =
     let e = spelled-form sp .expression in
     let es : Exprs = locate 0 (sp .forest) in
-    let stands : Stands text 0 es (length text) = forest-stands text (sp .forest) (sp .syntax) (sp .spelled) in
+    let stands : RunStands text 0 es (length text) = forest-stands text (sp .forest) (sp .syntax) (sp .spelled) in
     let (p, n, b) = walk-within s text es stands (readWalked (oneExpression s (length text) es)) refl in
-    let within : bytesOf e ≤ length text = rw (spelled-one sp l) at b in
+    let within : poolBytes e ≤ length text = rw (spelled-one sp l) at b in
     omega (arith, within, bytes-pool e (root-node e (spelled-fine sp)), ap (λ (x : Node). length (pool x)) (spelled-means sp))

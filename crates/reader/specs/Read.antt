@@ -9,7 +9,7 @@ use Rattle.document.specs.rules.Memory.{Memory, Outcome}
 use Rattle.reader.specs.declared.Answer.{Answer}
 
 -- The answer that a function gives is the definition's.
-pub record Answers (a : Defined.Answer) (r : Answer) : Type 0 where
+pub record SameAnswer (a : Defined.Answer) (r : Answer) : Type 0 where
   pub number : r .number ≡ a .number
   pub place : r .place ≡ a .place
   pub line : r .line ≡ a .line
@@ -19,7 +19,7 @@ pub record Answers (a : Defined.Answer) (r : Answer) : Type 0 where
 
 -- Reading a text in a spelling into these lists gives this answer and leaves those lists.
 pub record Reads (s : Spelling) (text : List ℕ) (m : Memory) (r : Answer) (exit : Memory) : Type 0 where
-  pub answers : Answers (outcome s text m .answer) r
+  pub answers : SameAnswer (outcome s text m .answer) r
   pub leaves : exit ≡ outcome s text m .memory
 
 -- The outcome of a call: what it answered and what it left in the lent memory.

@@ -5,7 +5,7 @@ pub mod Filling
 pub mod FirstExpressions
 pub mod FirstGroups
 pub mod ParameterValue
-pub mod Stands
+pub mod RunStands
 pub mod TableCheck
 pub mod Tape
 pub mod Walk

@@ -22,9 +22,9 @@ ghost use Rattle.document.specs.rules.Spelling.{Spelling};
 ghost use Rattle.document.specs.reference.Imperative.{regroup};
 ghost use Rattle.document.specs.reference.Outcome.{oneExpression};
 ghost use Rattle.reader.specs.internal.Tape.{taped};
-ghost use Rattle.reader.specs.internal.Stands.{Stands};
+ghost use Rattle.reader.specs.internal.RunStands.{RunStands};
 ghost use Rattle.reader.specs.internal.WalkAnswer.{Bounded, readWalked};
-ghost use Rattle.reader.specs.internal.BlockWalk.{commandClass, looseClass, leadsCommand, endsAt, TurnedAs, InCommand, InContent, Belongs, Child};
+ghost use Rattle.reader.specs.internal.BlockWalk.{commandClass, looseClass, leadsCommand, endsAt, TurnAs, InCommand, InContent, Belongs, JudgesChild};
 
 // Title, id and type: the parameters of blocks.
 fn is_parameter(class: u8) -> bool
@@ -101,7 +101,7 @@ fn turn_as(
     tape: &mut [u32; 32768],
 ) -> Turn
     requires { ⌜ (nodes ≤ i) × (i < seen .next → pool + seen .length ≤ seen .next) × (i ≤ 65536) × (seen .place ≤ 65536) × (node ≤ 4294967295) ⌝ }
-    ensures { λ r. ⌜ TurnedAs at i (seen .sort) (seen .place) (seen .next) (seen .length) class kind state nodes pool node
+    ensures { λ r. ⌜ TurnAs at i (seen .sort) (seen .place) (seen .next) (seen .length) class kind state nodes pool node
         (now (tape .entry)) (now (tape .exit)) r ⌝ }
 {
     let place = seen.place;
@@ -269,7 +269,7 @@ fn child(
     requires { ⌜ (from ≤ length (now text)) × (nodes < from) × (pool ≤ from) × (length (now text) ≤ 65536) × (node ≤ 4294967295)
         × (at ≤ length (now text)) × Belongs parent class ⌝ }
     ensures { λ r. ⌜ Bounded (now (text .entry)) from r ⌝ }
-    ensures { λ r. ⌜ Child (now (text .entry)) at from parent class nodes pool node (now (tape .entry)) (now (tape .exit)) r ⌝ }
+    ensures { λ r. ⌜ JudgesChild (now (text .entry)) at from parent class nodes pool node (now (tape .entry)) (now (tape .exit)) r ⌝ }
 {
     if is_command(class) {
         enter(tape, nodes, at, class, node, 0);
@@ -286,9 +286,9 @@ fn child(
 // Judges an imperative text that was scanned: 7 to 12, or the counts of its document.
 pub fn judge_imperative(text: &[u8], tape: &mut [u32; 32768]) -> Walked
     requires { ⌜ length (now text) ≤ 65536 ⌝ }
-    ensures { λ r. ⌜ ((es : Exprs) → Stands (now (text .entry)) 0 es (length (now (text .entry))) → depthAll es ≤ 59
+    ensures { λ r. ⌜ ((es : Exprs) → RunStands (now (text .entry)) 0 es (length (now (text .entry))) → depthAll es ≤ 59
         → r ≡ readWalked (oneExpression Spelling.imperative (length (now (text .entry))) es)) ⌝ }
-    ensures { λ r. ⌜ ((e : Expr) (es : Exprs) → Stands (now (text .entry)) 0 (and e es) (length (now (text .entry))) → depthAll (and e es) ≤ 59
+    ensures { λ r. ⌜ ((e : Expr) (es : Exprs) → RunStands (now (text .entry)) 0 (and e es) (length (now (text .entry))) → depthAll (and e es) ≤ 59
         → r .number ≡ 0 → length (now (tape .entry)) ≡ 32768 → now (tape .exit) ≡ taped (now (tape .entry)) 0 4294967295 (regroup e es)) ⌝ }
 {
     let seen = look(text, 0);

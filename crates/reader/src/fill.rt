@@ -15,7 +15,7 @@ ghost use Rattle.document.specs.reference.Meaning.{fine, judgeRoot, treeOf};
 ghost use Rattle.document.specs.reference.Meaning as Meaning;
 ghost use Rattle.document.specs.rules.Table.{offset, tableOf};
 ghost use Rattle.document.specs.rules.Table as Table;
-ghost use Rattle.reader.specs.internal.Counts.{nodesOf};
+ghost use Rattle.reader.specs.internal.Counts.{nodeCount};
 ghost use Rattle.reader.specs.internal.Tape.{Located, taped};
 ghost use Rattle.reader.specs.internal.Filling.{Fits32, heldAt, entryAt, elementRow, nextRow, Rowed};
 
@@ -407,7 +407,7 @@ pub fn fill(
 )
     requires { ⌜ (length (now text) ≤ 65536) × (count ≤ 4096) ⌝ }
     ensures { λ _. ⌜ ((e : Expr) (t : List ℕ) → Located (now (text .entry)) e → judgeRoot e ≡ fine → length t ≡ 32768
-        → now (tape .entry) ≡ taped t 0 4294967295 e → count ≡ nodesOf e → Fits32 0 (and e none)
+        → now (tape .entry) ≡ taped t 0 4294967295 e → count ≡ nodeCount e → Fits32 0 (and e none)
         → (now (nodes .exit) ≡ sets (now (nodes .entry)) 0 (tableOf (says (treeOf e))))
         × (now (places .exit) ≡ sets (now (places .entry)) 0 (Meaning.places e))
         × (now (pool .exit) ≡ sets (now (pool .entry)) 0 (Table.pool (says (treeOf e))))) ⌝ }

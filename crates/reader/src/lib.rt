@@ -19,7 +19,7 @@ ghost use Rattle.document.specs.rules.Memory.{answerAt};
 ghost use Rattle.validate.specs.Checked.{checkNumber};
 ghost use Rattle.reader.specs.internal.TableCheck.{checkPlace, Held};
 ghost use Rattle.reader.specs.internal.FirstGroups.{groupNumber, groupPlace, roomNumber};
-ghost use Rattle.reader.specs.Read.{Answers, Reads};
+ghost use Rattle.reader.specs.Read.{SameAnswer, Reads};
 
 // "A read returns number, place, line, column, node count, pool count."
 pub struct Answer {
@@ -109,7 +109,7 @@ fn checked(nodes: &[u32], places: &[u32], pool: &[u8], count: usize, bytes: usiz
 // The answer, with line and column of its place. No place and no count passes the longest text.
 fn answer_at(text: &[u8], number: u32, place: usize, nodes: usize, pool: usize) -> Answer
     requires { ⌜ (place ≤ 65536) × (nodes ≤ 65536) × (pool ≤ 65536) ⌝ }
-    ensures { λ r. ⌜ Answers (answerAt (now (text .entry)) number place nodes pool) r ⌝ }
+    ensures { λ r. ⌜ SameAnswer (answerAt (now (text .entry)) number place nodes pool) r ⌝ }
 {
     let p = utf8::position(text, place);
     Answer {

@@ -12,14 +12,14 @@ ghost use lib.ListN.{length};
 ghost use Rattle.syntax.specs.rules.Expression.{Expr, Exprs, none, and};
 ghost use Rattle.document.specs.rules.Spelling.{nested};
 ghost use Rattle.document.specs.reference.Outcome.{oneExpression};
-ghost use Rattle.reader.specs.internal.Stands.{Stands};
+ghost use Rattle.reader.specs.internal.RunStands.{RunStands};
 ghost use Rattle.reader.specs.internal.FirstExpressions.{firstPlace, secondPlace, FirstJudged};
 ghost use Rattle.reader.specs.internal.WalkAnswer.{readWalked};
 ghost use Rattle.reader.specs.internal.Tape.{taped};
 
 // Where the run of expressions from a place on ends, whatever its lists hold.
 fn run_end(text: &[u8], from: usize) -> usize
-    ensures { λ r. ⌜ ((es : Exprs) (e : ℕ) → Stands (now (text .entry)) from es e → r ≡ e) ⌝ }
+    ensures { λ r. ⌜ ((es : Exprs) (e : ℕ) → RunStands (now (text .entry)) from es e → r ≡ e) ⌝ }
 {
     let mut i = from;
     let mut depth: usize = 0;
@@ -56,7 +56,7 @@ fn run_end(text: &[u8], from: usize) -> usize
 
 // The place after the first expression from a place on.
 fn past_first(text: &[u8], from: usize) -> usize
-    ensures { λ r. ⌜ ((x : Expr) (es : Exprs) (e : ℕ) → Stands (now (text .entry)) from (and x es) e → Stands (now (text .entry)) r es e) ⌝ }
+    ensures { λ r. ⌜ ((x : Expr) (es : Exprs) (e : ℕ) → RunStands (now (text .entry)) from (and x es) e → RunStands (now (text .entry)) r es e) ⌝ }
 {
     let seen = look(text, from);
     if seen.sort != 3 {
@@ -76,7 +76,7 @@ fn past_first(text: &[u8], from: usize) -> usize
 
 // The place of the first expression from a place on, and the text's length where there is none.
 fn first_place(text: &[u8], from: usize) -> usize
-    ensures { λ r. ⌜ ((es : Exprs) → Stands (now (text .entry)) from es (length (now (text .entry))) → r ≡ firstPlace (length (now (text .entry))) es) ⌝ }
+    ensures { λ r. ⌜ ((es : Exprs) → RunStands (now (text .entry)) from es (length (now (text .entry))) → r ≡ firstPlace (length (now (text .entry))) es) ⌝ }
 {
     let seen = look(text, from);
     if seen.sort == 0 {
@@ -87,7 +87,7 @@ fn first_place(text: &[u8], from: usize) -> usize
 
 // The place of the second expression of a text, and the text's length where there is none.
 fn second(text: &[u8]) -> usize
-    ensures { λ r. ⌜ ((es : Exprs) → Stands (now (text .entry)) 0 es (length (now (text .entry))) → r ≡ secondPlace (length (now (text .entry))) es) ⌝ }
+    ensures { λ r. ⌜ ((es : Exprs) → RunStands (now (text .entry)) 0 es (length (now (text .entry))) → r ≡ secondPlace (length (now (text .entry))) es) ⌝ }
 {
     let first = look(text, 0);
     if first.sort == 0 {
@@ -98,7 +98,7 @@ fn second(text: &[u8]) -> usize
 
 // The same where the first expression was answered by w. One with no fault need not be passed over again.
 fn second_after(text: &[u8], w: Walked) -> usize
-    ensures { λ r. ⌜ ((es : Exprs) → Stands (now (text .entry)) 0 es (length (now (text .entry))) → FirstJudged (now (text .entry)) es w
+    ensures { λ r. ⌜ ((es : Exprs) → RunStands (now (text .entry)) 0 es (length (now (text .entry))) → FirstJudged (now (text .entry)) es w
         → r ≡ secondPlace (length (now (text .entry))) es) ⌝ }
 {
     if w.number == 0 {
@@ -110,8 +110,8 @@ fn second_after(text: &[u8], w: Walked) -> usize
 // 7 for no expression, or 8 to 12 of the first one, whatever follows it. The root counts as one node.
 fn judge_first(text: &[u8], tape: &mut [u32; 32768]) -> Walked
     requires { ⌜ length (now text) ≤ 65536 ⌝ }
-    ensures { λ r. ⌜ ((es : Exprs) → Stands (now (text .entry)) 0 es (length (now (text .entry))) → FirstJudged (now (text .entry)) es r) ⌝ }
-    ensures { λ r. ⌜ ((e : Expr) (es : Exprs) → Stands (now (text .entry)) 0 (and e es) (length (now (text .entry))) → r .number ≡ 0
+    ensures { λ r. ⌜ ((es : Exprs) → RunStands (now (text .entry)) 0 es (length (now (text .entry))) → FirstJudged (now (text .entry)) es r) ⌝ }
+    ensures { λ r. ⌜ ((e : Expr) (es : Exprs) → RunStands (now (text .entry)) 0 (and e es) (length (now (text .entry))) → r .number ≡ 0
         → length (now (tape .entry)) ≡ 32768 → now (tape .exit) ≡ taped (now (tape .entry)) 0 4294967295 e) ⌝ }
 {
     let root = look(text, 0);
@@ -136,9 +136,9 @@ fn judge_first(text: &[u8], tape: &mut [u32; 32768]) -> Walked
 // 7 to 12, or the counts of the document. 7 comes before 8 to 12; but the walk over the root comes first, since it finds the root's end.
 pub fn judge_nested(text: &[u8], tape: &mut [u32; 32768]) -> Walked
     requires { ⌜ length (now text) ≤ 65536 ⌝ }
-    ensures { λ r. ⌜ ((es : Exprs) → Stands (now (text .entry)) 0 es (length (now (text .entry)))
+    ensures { λ r. ⌜ ((es : Exprs) → RunStands (now (text .entry)) 0 es (length (now (text .entry)))
         → r ≡ readWalked (oneExpression nested (length (now (text .entry))) es)) ⌝ }
-    ensures { λ r. ⌜ ((e : Expr) → Stands (now (text .entry)) 0 (and e none) (length (now (text .entry))) → r .number ≡ 0
+    ensures { λ r. ⌜ ((e : Expr) → RunStands (now (text .entry)) 0 (and e none) (length (now (text .entry))) → r .number ≡ 0
         → length (now (tape .entry)) ≡ 32768 → now (tape .exit) ≡ taped (now (tape .entry)) 0 4294967295 e) ⌝ }
 {
     let w = judge_first(text, tape);

@@ -15,10 +15,10 @@ ghost use Rattle.syntax.specs.rules.Expression.{Exprs, Expr};
 ghost use Rattle.lexer.specs.Token.{atomValue};
 ghost use Rattle.document.specs.rules.Value.{nonEmpty, isValue, namesBlock};
 ghost use Rattle.document.specs.reference.Meaning.{judgeValue, valueTree, sizeTree, numberOf};
-ghost use Rattle.reader.specs.internal.Stands.{Stands};
+ghost use Rattle.reader.specs.internal.RunStands.{RunStands};
 ghost use Rattle.reader.specs.internal.Counts.{valueSize};
 ghost use Rattle.reader.specs.internal.WalkAnswer.{walkedTo, Bounded};
-ghost use Rattle.reader.specs.internal.ParameterValue.{Holds, Reads, Notes, holdsSort};
+ghost use Rattle.reader.specs.internal.ParameterValue.{HoldsOne, ReadsNumber, Notes, holdsSort};
 
 // The one text or symbol of a run: its place, the length of what it stands for, and the place where the run ends.
 pub struct One {
@@ -37,7 +37,7 @@ pub struct Number {
 // What a parameter of a class holds from `from` on; of a type only a symbol counts.
 fn only(text: &[u8], from: usize, class: u8) -> One
     requires { ⌜ from ≤ length (now text) ⌝ }
-    ensures { λ r. ⌜ Holds (now (text .entry)) from class r ⌝ }
+    ensures { λ r. ⌜ HoldsOne (now (text .entry)) from class r ⌝ }
 {
     let first = look(text, from);
     let next = first.next;
@@ -144,7 +144,7 @@ fn decimal(text: &[u8], place: usize, length: usize) -> usize
 // The width or height that is seen from `from` on.
 fn number_at(text: &[u8], from: usize) -> Number
     requires { ⌜ from ≤ length (now text) ⌝ }
-    ensures { λ r. ⌜ Reads (now (text .entry)) from r ⌝ }
+    ensures { λ r. ⌜ ReadsNumber (now (text .entry)) from r ⌝ }
 {
     let seen = look(text, from);
     let next = seen.next;
@@ -180,7 +180,7 @@ fn size(
 ) -> Walked
     requires { ⌜ (from ≤ length (now text)) × (nodes ≤ from) × (pool ≤ from) ⌝ }
     ensures { λ r. ⌜ Bounded (now (text .entry)) from r ⌝ }
-    ensures { λ r. ⌜ ((es : Exprs) (m : ℕ) → Stands (now (text .entry)) from es m
+    ensures { λ r. ⌜ ((es : Exprs) (m : ℕ) → RunStands (now (text .entry)) from es m
         → r ≡ walkedTo m nodes pool (judgeValue kind at (sizeTree es))) ⌝ }
     ensures { λ r. ⌜ Notes (now (text .entry)) from Class.size node (now (tape .entry)) r (now (tape .exit)) ⌝ }
 {
@@ -231,7 +231,7 @@ pub fn value(
 ) -> Walked
     requires { ⌜ (from ≤ length (now text)) × (length (now text) ≤ 65536) × (nodes ≤ from) × (pool ≤ from) ⌝ }
     ensures { λ r. ⌜ Bounded (now (text .entry)) from r ⌝ }
-    ensures { λ r. ⌜ ((es : Exprs) (m : ℕ) → Stands (now (text .entry)) from es m
+    ensures { λ r. ⌜ ((es : Exprs) (m : ℕ) → RunStands (now (text .entry)) from es m
         → r ≡ walkedTo m nodes (pool + valueSize class es) (judgeValue kind at (valueTree class es))) ⌝ }
     ensures { λ r. ⌜ Notes (now (text .entry)) from class node (now (tape .entry)) r (now (tape .exit)) ⌝ }
 {

@@ -23,7 +23,7 @@ ghost use Rattle.lexer.specs.Token.{seen, the-end};
 ghost use Rattle.document.specs.reference.Meaning.{Verdict};
 ghost use Rattle.reader.specs.internal.WalkAnswer.{walkedTo, Bounded};
 ghost use Rattle.reader.specs.internal.Tape.{left};
-ghost use Rattle.reader.specs.internal.Walk.{Answers, Finishes, Judges, Turned, Within, pastBracket};
+ghost use Rattle.reader.specs.internal.Walk.{AnswersFrom, Finishes, JudgesList, TurnFrom, TurnWithin, pastBracket};
 
 pub struct Walked {
     pub number: u32,
@@ -104,8 +104,8 @@ fn next_turn(
     tape: &mut [u32; 32768],
 ) -> Turn
     requires { ⌜ (i ≤ length (now text)) × (nodes ≤ i) × (pool ≤ i) × (length (now text) ≤ 65536) × (node ≤ 4294967295) ⌝ }
-    ensures { λ r. ⌜ Within (now (text .entry)) i r ⌝ }
-    ensures { λ r. ⌜ Turned (now (text .entry)) at kind i state nodes pool node (now (tape .entry)) (now (tape .exit)) r ⌝ }
+    ensures { λ r. ⌜ TurnWithin (now (text .entry)) i r ⌝ }
+    ensures { λ r. ⌜ TurnFrom (now (text .entry)) at kind i state nodes pool node (now (tape .entry)) (now (tape .exit)) r ⌝ }
 {
     if closes(text, i) {
         return Turn::Done(at_end(at, kind, state, i, nodes, pool));
@@ -190,7 +190,7 @@ pub fn inside(
     requires { ⌜ (from ≤ length (now text)) × (nodes < from) × (pool ≤ from) × (length (now text) ≤ 65536) × (node ≤ 4294967295)
         × (at ≤ length (now text)) ⌝ }
     ensures { λ r. ⌜ Bounded (now (text .entry)) from r ⌝ }
-    ensures { λ r. ⌜ Judges (now (text .entry)) at from parent class nodes pool node (now (tape .entry)) (now (tape .exit)) r ⌝ }
+    ensures { λ r. ⌜ JudgesList (now (text .entry)) at from parent class nodes pool node (now (tape .entry)) (now (tape .exit)) r ⌝ }
 {
     if !is_element(class) {
         return value(text, at, from, parent, class, nodes, pool, node, tape);
@@ -235,7 +235,7 @@ pub fn inline(
 ) -> Walked
     requires { ⌜ (from ≤ length (now text)) × (nodes ≤ from) × (pool ≤ from) × (length (now text) ≤ 65536) × (node ≤ 4294967295) ⌝ }
     ensures { λ r. ⌜ Bounded (now (text .entry)) from r ⌝ }
-    ensures { λ r. ⌜ Answers (now (text .entry)) at kind from 0 nodes pool node (now (tape .entry)) (now (tape .exit)) r ⌝ }
+    ensures { λ r. ⌜ AnswersFrom (now (text .entry)) at kind from 0 nodes pool node (now (tape .entry)) (now (tape .exit)) r ⌝ }
 {
     let mut i = from;
     let mut state: u8 = 0;
@@ -292,7 +292,7 @@ fn list(
     requires { ⌜ (from ≤ length (now text)) × (nodes ≤ from) × (pool ≤ from) × (length (now text) ≤ 65536) × (node ≤ 4294967295)
         × ((kind ≡ 16) ⊎ (kind ≡ 17)) ⌝ }
     ensures { λ r. ⌜ Bounded (now (text .entry)) from r ⌝ }
-    ensures { λ r. ⌜ Answers (now (text .entry)) at kind from 0 nodes pool node (now (tape .entry)) (now (tape .exit)) r ⌝ }
+    ensures { λ r. ⌜ AnswersFrom (now (text .entry)) at kind from 0 nodes pool node (now (tape .entry)) (now (tape .exit)) r ⌝ }
 {
     let mut i = from;
     let mut state: u8 = 0;
@@ -340,7 +340,7 @@ fn item(
 ) -> Walked
     requires { ⌜ (from ≤ length (now text)) × (nodes ≤ from) × (pool ≤ from) × (length (now text) ≤ 65536) × (node ≤ 4294967295) ⌝ }
     ensures { λ r. ⌜ Bounded (now (text .entry)) from r ⌝ }
-    ensures { λ r. ⌜ Answers (now (text .entry)) at 18 from 0 nodes pool node (now (tape .entry)) (now (tape .exit)) r ⌝ }
+    ensures { λ r. ⌜ AnswersFrom (now (text .entry)) at 18 from 0 nodes pool node (now (tape .entry)) (now (tape .exit)) r ⌝ }
 {
     inline(text, at, from, 18, nodes, pool, node, tape)
 }

@@ -14,13 +14,12 @@ use Rattle.document.specs.rules.Spelling.{isBlockParameter}
 use Rattle.document.specs.rules.Command.{join, inCommand}
 use Rattle.document.specs.rules.Lead.{exprClass}
 use Rattle.document.specs.reference.Meaning.{fault, judge}
-use Rattle.reader.specs.internal.Stands.{Has, Stands}
-use Rattle.reader.specs.internal.Counts.{nodesOf, bytesOf}
+use Rattle.reader.specs.internal.RunStands.{Has, RunStands}
+use Rattle.reader.specs.internal.Counts.{nodeCount, poolBytes}
 use Rattle.reader.specs.internal.WalkAnswer.{walkedTo}
 use Rattle.reader.specs.internal.Tape.{entered, taped, tapedAll}
 use Rattle.document.specs.rules.Takes.{Takes}
-use Rattle.reader.specs.internal.Walk.{whole, Opened}
-use Rattle.reader.specs.internal.Walk as Turn
+use Rattle.reader.specs.internal.Walk.{runAnswer, NamedListFirst, StepTakes}
 use Rattle.reader.specs.declared.walk.Walked.{Walked}
 use Rattle.reader.specs.declared.walk.Turn.{Turn}
 use Rattle.reader.specs.declared.walk.Turn.the-variants.{Done, Atom, List as AList}
@@ -47,34 +46,34 @@ pub data Refuses (at i q j c k st : ℕ) (w : Walked) : Type 0 where
 
 -- It is taken, and something is passed.
 pub record TakenAs (i j c k st j′ st′ : ℕ) : Type 0 where
-  pub taken : Turn.Takes k st c st′
+  pub taken : StepTakes k st c st′
   pub forward : i < j
   pub next : j′ ≡ j
 
 -- A turn, of what is seen at q, up to j, as of this sort and with l bytes, and counts as of class c. A list is not yet on the tape.
-abbrev pub TurnedAs : ℕ → ℕ → ℕ → ℕ → ℕ → ℕ → ℕ → ℕ → ℕ → ℕ → ℕ → ℕ → List ℕ → List ℕ → Turn → Type 0
-TurnedAs at i sort q j l c k st n p node t z (Done w) = Refuses at i q j c k st w
-TurnedAs at i sort q j l c k st n p node t z (Atom j′ n′ p′ st′) =
+abbrev pub TurnAs : ℕ → ℕ → ℕ → ℕ → ℕ → ℕ → ℕ → ℕ → ℕ → ℕ → ℕ → ℕ → List ℕ → List ℕ → Turn → Type 0
+TurnAs at i sort q j l c k st n p node t z (Done w) = Refuses at i q j c k st w
+TurnAs at i sort q j l c k st n p node t z (Atom j′ n′ p′ st′) =
     TakenAs i j c k st j′ st′ × (sort ≡ 3 → ⊥) × (n′ ≡ n + 1) × (p′ ≡ p + l) × (length t ≡ 32768 → z ≡ entered t n q Class.text node (n + 1))
-TurnedAs at i sort q j l c k st n p node t z (AList q′ c′ j′ st′) = TakenAs i j c k st j′ st′ × (sort ≡ 3) × (q′ ≡ q) × (c′ ≡ c) × (z ≡ t)
+TurnAs at i sort q j l c k st n p node t z (AList q′ c′ j′ st′) = TakenAs i j c k st j′ st′ × (sort ≡ 3) × (q′ ≡ q) × (c′ ≡ c) × (z ≡ t)
 
 -- w is the answer of a block of kind k at `at` that is read so far to state st, with n nodes and p pool bytes counted, where `before` are left of its
 -- command and es, which end at e, follow; z is the tape after it, where t is the one before and `node` the block's number.
-pub record Answered (s : List ℕ) (at k node st n p : ℕ) (t z : List ℕ) (before es : Exprs) (e : ℕ) (w : Walked) : Type 0 where
+pub record BlockAnswer (s : List ℕ) (at k node st n p : ℕ) (t z : List ℕ) (before es : Exprs) (e : ℕ) (w : Walked) : Type 0 where
   pub content : Exprs
   pub rest : Exprs
   pub takes : Takes (Class.significance k) es content rest
-  pub same : w ≡ whole at k st n p (w .next) (join before content)
+  pub same : w ≡ runAnswer at k st n p (w .next) (join before content)
   pub tapes : w .number ≡ 0 → length t ≡ 32768 → z ≡ tapedAll t n node (join before content)
-  pub goes-on : w .number ≡ 0 → Stands s (w .next) rest e
+  pub goes-on : w .number ≡ 0 → RunStands s (w .next) rest e
 
 -- w is the answer from place i on, in the command's bracket, and in the content after it.
 pub record InCommand (s : List ℕ) (at k node i st n p : ℕ) (t z : List ℕ) (w : Walked) : Type 0 where
-  pub answers : (ps : Exprs) (m : ℕ) (x : Bracket) (es : Exprs) (e : ℕ) → Stands s i ps m → Has s m (closing x) → Stands s (m + 1) es e
-      → Answered s at k node st n p t z (inCommand ps) es e w
+  pub answers : (ps : Exprs) (m : ℕ) (x : Bracket) (es : Exprs) (e : ℕ) → RunStands s i ps m → Has s m (closing x) → RunStands s (m + 1) es e
+      → BlockAnswer s at k node st n p t z (inCommand ps) es e w
 
 pub record InContent (s : List ℕ) (at k node i st n p : ℕ) (t z : List ℕ) (w : Walked) : Type 0 where
-  pub answers : (es : Exprs) (e : ℕ) → Stands s i es e → Answered s at k node st n p t z none es e w
+  pub answers : (es : Exprs) (e : ℕ) → RunStands s i es e → BlockAnswer s at k node st n p t z none es e w
 
 -- A list led by a name of class c may stand in the content of a block of kind k: as a block of lesser significance, or as itself.
 pub record Belongs (k c : ℕ) : Type 0 where
@@ -83,15 +82,15 @@ pub record Belongs (k c : ℕ) : Type 0 where
 
 -- The first of the expressions es, which end at e, is of class c and counts as an expression, with those that follow if it is a command, and w is its answer in an
 -- element of kind k; z is the tape t with it.
-pub record Counted (s : List ℕ) (k c n p node : ℕ) (t z : List ℕ) (es : Exprs) (e : ℕ) (w : Walked) : Type 0 where
+pub record ChildAnswer (s : List ℕ) (k c n p node : ℕ) (t z : List ℕ) (es : Exprs) (e : ℕ) (w : Walked) : Type 0 where
   pub one : Expr
   pub after : Exprs
   pub takes : (content rest : Exprs) → Takes (Class.significance k) after content rest → Takes (Class.significance k) es (and one content) rest
   pub of-class : exprClass one ≡ c
-  pub same : w ≡ walkedTo (w .next) (n + nodesOf one) (p + bytesOf one) (judge k one)
+  pub same : w ≡ walkedTo (w .next) (n + nodeCount one) (p + poolBytes one) (judge k one)
   pub tapes : w .number ≡ 0 → length t ≡ 32768 → z ≡ taped t n node one
-  pub goes-on : w .number ≡ 0 → Stands s (w .next) after e
+  pub goes-on : w .number ≡ 0 → RunStands s (w .next) after e
 
 -- w is the answer of a list at `at`, led by a name of class c that is followed by what starts at j, in the content of a block of kind k.
-pub record Child (s : List ℕ) (at j k c n p node : ℕ) (t z : List ℕ) (w : Walked) : Type 0 where
-  pub counted : (es : Exprs) (e : ℕ) → Opened s at c j es e → Counted s k c n p node t z es e w
+pub record JudgesChild (s : List ℕ) (at j k c n p node : ℕ) (t z : List ℕ) (w : Walked) : Type 0 where
+  pub counted : (es : Exprs) (e : ℕ) → NamedListFirst s at c j es e → ChildAnswer s k c n p node t z es e w

@@ -13,29 +13,29 @@ unfoldable pub valueSize : ℕ → Exprs → ℕ
 valueSize c es = length (keyOf (valueTree c es)) + length (typeOf (valueTree c es))
 
 unfoldable mutual
-  pub nodesOf : Expr → ℕ
-  nodesOf (symbol at s) = 1
-  nodesOf (quoted at s) = 1
-  nodesOf (list at es) = nodesOfList es
+  pub nodeCount : Expr → ℕ
+  nodeCount (symbol at s) = 1
+  nodeCount (quoted at s) = 1
+  nodeCount (list at es) = nodeCountOfList es
 
-  pub nodesOfList : Exprs → ℕ
-  nodesOfList none = 0
-  nodesOfList (and e es) = cond (Class.isElement (leadClass e)) (suc (nodesIn es)) 0
+  pub nodeCountOfList : Exprs → ℕ
+  nodeCountOfList none = 0
+  nodeCountOfList (and e es) = cond (Class.isElement (leadClass e)) (suc (nodeCountIn es)) 0
 
-  pub nodesIn : Exprs → ℕ
-  nodesIn none = 0
-  nodesIn (and e es) = nodesOf e + nodesIn es
+  pub nodeCountIn : Exprs → ℕ
+  nodeCountIn none = 0
+  nodeCountIn (and e es) = nodeCount e + nodeCountIn es
 
 unfoldable mutual
-  pub bytesOf : Expr → ℕ
-  bytesOf (symbol at s) = length s
-  bytesOf (quoted at s) = length s
-  bytesOf (list at es) = bytesOfList es
+  pub poolBytes : Expr → ℕ
+  poolBytes (symbol at s) = length s
+  poolBytes (quoted at s) = length s
+  poolBytes (list at es) = poolBytesOfList es
 
-  pub bytesOfList : Exprs → ℕ
-  bytesOfList none = 0
-  bytesOfList (and e es) = cond (Class.isElement (leadClass e)) (bytesIn es) (valueSize (leadClass e) es)
+  pub poolBytesOfList : Exprs → ℕ
+  poolBytesOfList none = 0
+  poolBytesOfList (and e es) = cond (Class.isElement (leadClass e)) (poolBytesIn es) (valueSize (leadClass e) es)
 
-  pub bytesIn : Exprs → ℕ
-  bytesIn none = 0
-  bytesIn (and e es) = bytesOf e + bytesIn es
+  pub poolBytesIn : Exprs → ℕ
+  poolBytesIn none = 0
+  poolBytesIn (and e es) = poolBytes e + poolBytesIn es

@@ -5,8 +5,8 @@ use mathlib.Core.List.{List}
 use lib.ListN.{length}
 use Rattle.syntax.specs.rules.Expression.{Exprs, none, and, place}
 use Rattle.document.specs.reference.Meaning.{fault, judgeRoot}
-use Rattle.reader.specs.internal.Stands.{Stands}
-use Rattle.reader.specs.internal.Counts.{nodesOf, bytesOf}
+use Rattle.reader.specs.internal.RunStands.{RunStands}
+use Rattle.reader.specs.internal.Counts.{nodeCount, poolBytes}
 use Rattle.reader.specs.internal.WalkAnswer.{walkedTo}
 use Rattle.reader.specs.declared.walk.Walked.{Walked}
 
@@ -23,4 +23,4 @@ secondPlace n (and x es) = firstPlace n es
 -- w is the answer of the first expression of a text, whatever follows it: from w's next place on, where it has no fault.
 abbrev pub FirstJudged : List ℕ → Exprs → Walked → Type 0
 FirstJudged s none w = w ≡ walkedTo 0 0 0 (fault 7 (length s))
-FirstJudged s (and x es) w = (w ≡ walkedTo (w .next) (nodesOf x) (bytesOf x) (judgeRoot x)) × (w .number ≡ 0 → Stands s (w .next) es (length s))
+FirstJudged s (and x es) w = (w ≡ walkedTo (w .next) (nodeCount x) (poolBytes x) (judgeRoot x)) × (w .number ≡ 0 → RunStands s (w .next) es (length s))

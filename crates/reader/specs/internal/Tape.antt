@@ -14,7 +14,7 @@ use Rattle.base.specs.rules.Limits.{missing}
 use Rattle.document.specs.rules.Document.{widthOr, heightOr}
 use Rattle.document.specs.rules.Lead.{leadClass}
 use Rattle.document.specs.reference.Meaning.{sizeTree}
-use Rattle.reader.specs.internal.Counts.{nodesOf, nodesIn}
+use Rattle.reader.specs.internal.Counts.{nodeCount, nodeCountIn}
 
 -- Node n is entered: it stands at `at`, and none of its values is known yet.
 unfoldable pub entered : List ℕ → ℕ → ℕ → ℕ → ℕ → ℕ → List ℕ
@@ -24,15 +24,15 @@ entered t n at c parent end = sets t (8 * n) (at ∷ c ∷ parent ∷ end ∷ 0 
 unfoldable pub left : List ℕ → ℕ → ℕ → List ℕ
 left t n end = set t (8 * n + 3) end
 
-unfoldable pub firstPlace : Exprs → ℕ
-firstPlace none = 0
-firstPlace (and e es) = place e
+unfoldable pub valuePlace : Exprs → ℕ
+valuePlace none = 0
+valuePlace (and e es) = place e
 
 -- A list of class c, which holds es after its name, is a value of node n.
 unfoldable pub noted : List ℕ → ℕ → ℕ → Exprs → List ℕ
 noted t n c es =
     cond (eqb c Class.size) (sets t (8 * n + 6) (widthOr 0 (sizeTree es) ∷ heightOr 0 (sizeTree es) ∷ []))
-    (set t (8 * n + cond (eqb c Class.type) 5 4) (firstPlace es))
+    (set t (8 * n + cond (eqb c Class.type) 5 4) (valuePlace es))
 
 -- The tape after an expression, or a run of them, in the element with number `parent`, where n is the number of the next node.
 unfoldable mutual
@@ -45,12 +45,12 @@ unfoldable mutual
   tapedList t n parent at none = t
   tapedList t n parent at (and lead es) =
       cond (Class.isElement (leadClass lead))
-      (left (tapedAll (entered t n at (leadClass lead) parent 0) (n + 1) n es) n (n + 1 + nodesIn es))
+      (left (tapedAll (entered t n at (leadClass lead) parent 0) (n + 1) n es) n (n + 1 + nodeCountIn es))
       (noted t parent (leadClass lead) es)
 
   pub tapedAll : List ℕ → ℕ → ℕ → Exprs → List ℕ
   tapedAll t n parent none = t
-  tapedAll t n parent (and e es) = tapedAll (taped t n parent e) (n + nodesOf e) parent es
+  tapedAll t n parent (and e es) = tapedAll (taped t n parent e) (n + nodeCount e) parent es
 
 -- Each symbol and string of the expression stands at its place in the text s, and none at place 0, which is the root's bracket or before it:
 -- so 0 on the tape is no place of a value.

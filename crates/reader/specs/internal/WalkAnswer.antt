@@ -6,7 +6,7 @@ use lib.ListN.{length}
 use Rattle.document.specs.reference.Meaning.{Verdict, fine, fault}
 use Rattle.document.specs.reference.Outcome.{Reading, refused, read}
 use Rattle.reader.specs.declared.walk.Walked.{Walked}
-use Rattle.reader.specs.internal.Counts.{nodesOf, bytesOf}
+use Rattle.reader.specs.internal.Counts.{nodeCount, poolBytes}
 
 -- With no fault: the place where the run ends, and the counts of nodes and pool bytes so far. With a fault: its number and place.
 unfoldable pub walkedTo : ℕ → ℕ → ℕ → Verdict → Walked
@@ -20,4 +20,4 @@ pub record Bounded (s : List ℕ) (i : ℕ) (r : Walked) : Type 0 where
 -- The outcome of judging a whole text, as a walk's answer: a refusal, or the counts of the document.
 unfoldable pub readWalked : Reading → Walked
 readWalked (refused n p) = record { number = n; place = p; next = 0; nodes = 0; pool = 0 }
-readWalked (read e) = record { number = 0; place = 0; next = 0; nodes = nodesOf e; pool = bytesOf e }
+readWalked (read e) = record { number = 0; place = 0; next = 0; nodes = nodeCount e; pool = poolBytes e }

@@ -23,15 +23,14 @@ use Rattle.document.specs.rules.Command.{isCommand, block}
 use Rattle.document.specs.rules.Lead.{leadClass, exprClass, listClass}
 use Rattle.document.specs.reference.Meaning.{Verdict, fine, fault, finish, run, judge}
 use Rattle.document.proofs.Blocks.{block-element}
-use Rattle.reader.specs.internal.Stands.{Has, Stands}
-use Rattle.reader.specs.internal.Counts.{nodesOf, nodesIn, bytesOf, bytesIn}
+use Rattle.reader.specs.internal.RunStands.{Has, RunStands}
+use Rattle.reader.specs.internal.Counts.{nodeCount, nodeCountIn, poolBytes, poolBytesIn}
 use Rattle.reader.specs.internal.WalkAnswer.{walkedTo, Bounded}
 use Rattle.reader.specs.internal.Tape.{entered, left, taped, tapedAll}
 use Rattle.document.specs.rules.Takes.{Takes, at-end, at-command, expression, a-block}
-use Rattle.reader.specs.internal.Walk.{whole, Opened, Judges, verdictOf, pastBracket}
-use Rattle.reader.specs.internal.Walk as Turn
+use Rattle.reader.specs.internal.Walk.{runAnswer, NamedListFirst, JudgesList, verdictOf, pastBracket, StepTakes}
 use Rattle.reader.specs.internal.BlockWalk.{commandClass, looseClass, leadsCommand, endsAt, Refuses, by-step, stuck, TakenAs}
-use Rattle.reader.specs.internal.BlockWalk.{Answered, InCommand, InContent, Belongs, Counted, Child}
+use Rattle.reader.specs.internal.BlockWalk.{BlockAnswer, InCommand, InContent, Belongs, ChildAnswer, JudgesChild}
 use Rattle.reader.specs.declared.walk.Walked.{Walked}
 use Rattle.reader.proofs.lemmas.walk.SeenExpressions.{SeenAs, saw-end, saw-symbol, saw-string, saw-list, look-stands, seen-bounds}
 use Rattle.reader.proofs.lemmas.walk.OneTurn.{Looked, none-taken, run-bad, run-fine, run-fault, seen-forward, open-list, seen-within}
@@ -116,23 +115,23 @@ module _ {s : List ℕ} {j : ℕ} {w r : Walked} (bounded : Bounded s j w) (past
       (g ∙ e, λ y. absurd (z (sym (ap (λ (w : Walked). w .number) g) ∙ y)))
 
 -- The list that is opened.
-abbrev pub listed : {s : List ℕ} {q c j : ℕ} {es : Exprs} {m : ℕ} → Opened s q c j es m → Expr
+abbrev pub listed : {s : List ℕ} {q c j : ℕ} {es : Exprs} {m : ℕ} → NamedListFirst s q c j es m → Expr
 listed {q} o = list q (and (o .lead) (o .rest))
 
-pub list-answer : {s t z : List ℕ} {q j k c n p node : ℕ} {w r : Walked} → Bounded s j w → Judges s q j k c n p node t z w
+pub list-answer : {s t z : List ℕ} {q j k c n p node : ℕ} {w r : Walked} → Bounded s j w → JudgesList s q j k c n p node t z w
     → r ≡ pastBracket (length s) w → 0 < j
-    → {es : Exprs} {m : ℕ} (o : Opened s q c j es m)
-    → (r ≡ walkedTo (r .next) (n + nodesOf (listed o)) (p + bytesOf (listed o)) (judge k (listed o))) × (r .number ≡ 0 → Stands s (r .next) (o .others) m)
-unfolding verdictOf nodesOf bytesOf judge
+    → {es : Exprs} {m : ℕ} (o : NamedListFirst s q c j es m)
+    → (r ≡ walkedTo (r .next) (n + nodeCount (listed o)) (p + poolBytes (listed o)) (judge k (listed o))) × (r .number ≡ 0 → RunStands s (r .next) (o .others) m)
+unfolding verdictOf nodeCount poolBytes judge
 list-answer {k = k} {n = n} {p = p} {w = w} bounded judged past-it h o =
-    let e : w ≡ walkedTo (o .end) (n + nodesOf (listed o)) (p + bytesOf (listed o)) (judge k (listed o))
+    let e : w ≡ walkedTo (o .end) (n + nodeCount (listed o)) (p + poolBytes (listed o)) (judge k (listed o))
     = rw (o .of-class) (judged .judged (o .rest) (o .end) (o .follows)) in
-    let (same, next) = past-by bounded past-it (o .end) (n + nodesOf (listed o)) (p + bytesOf (listed o)) (judge k (listed o)) e (o .closed .inside) h in
+    let (same, next) = past-by bounded past-it (o .end) (n + nodeCount (listed o)) (p + poolBytes (listed o)) (judge k (listed o)) e (o .closed .inside) h in
     (same, λ z. rw (next z) (o .goes-on))
 
 -- The list is on the tape.
-pub list-tape : {s t z : List ℕ} {q j k c n p node : ℕ} {w r : Walked} → Judges s q j k c n p node t z w → r ≡ pastBracket (length s) w
-    → {es : Exprs} {m : ℕ} (o : Opened s q c j es m) → r .number ≡ 0 → length t ≡ 32768 → z ≡ taped t n node (listed o)
+pub list-tape : {s t z : List ℕ} {q j k c n p node : ℕ} {w r : Walked} → JudgesList s q j k c n p node t z w → r ≡ pastBracket (length s) w
+    → {es : Exprs} {m : ℕ} (o : NamedListFirst s q c j es m) → r .number ≡ 0 → length t ≡ 32768 → z ≡ taped t n node (listed o)
 unfolding taped
 list-tape {s = s} {w = w} {r = r} judged past-it o y full =
     rw (o .of-class) (judged .tapes (o .rest) (o .end) (o .follows) (past-none (length s) w r past-it y .0) full)
@@ -141,11 +140,11 @@ list-tape {s = s} {w = w} {r = r} judged past-it o y full =
 
 -- In a block's content: nothing inside it is at fault, and the answer is that of what follows; or something is, and the answer is that.
 content-passed : {s t t′ z : List ℕ} {at k node st n p st′ : ℕ} {es after : Exprs} {e : ℕ} {w : Walked} (one : Expr)
-    → Turn.Takes k st (exprClass one) st′
+    → StepTakes k st (exprClass one) st′
     → judge k one ≡ fine
     → ((content rest : Exprs) → Takes (Class.significance k) after content rest → Takes (Class.significance k) es (and one content) rest)
-    → (length t ≡ 32768 → t′ ≡ taped t n node one) → Answered s at k node st′ (n + nodesOf one) (p + bytesOf one) t′ z none after e w
-    → Answered s at k node st n p t z none es e w
+    → (length t ≡ 32768 → t′ ≡ taped t n node one) → BlockAnswer s at k node st′ (n + nodeCount one) (p + poolBytes one) t′ z none after e w
+    → BlockAnswer s at k node st n p t z none es e w
 unfolding join
 content-passed {t = t} {t′ = t′} {z = z} {at = at} {k = k} {node = node} {st = st} {n = n} {p = p} {st′ = st′} {w = w} one u f takes stored a =
     record {
@@ -158,9 +157,9 @@ content-passed {t = t} {t′ = t′} {z = z} {at = at} {k = k} {node = node} {st
     }
 
 content-stopped : {s t z : List ℕ} {at k node st : ℕ} (st′ n p : ℕ) {es : Exprs} (after : Exprs) (e : ℕ) {w : Walked} (one : Expr) (f q : ℕ)
-    → Turn.Takes k st (exprClass one) st′ → judge k one ≡ fault f q
+    → StepTakes k st (exprClass one) st′ → judge k one ≡ fault f q
     → ((content rest : Exprs) → Takes (Class.significance k) after content rest → Takes (Class.significance k) es (and one content) rest)
-    → (w .number ≡ 0 → ⊥) → (m a b : ℕ) → w ≡ walkedTo m a b (fault f q) → Answered s at k node st n p t z none es e w
+    → (w .number ≡ 0 → ⊥) → (m a b : ℕ) → w ≡ walkedTo m a b (fault f q) → BlockAnswer s at k node st n p t z none es e w
 unfolding join
 content-stopped {at = at} {k = k} {st = st} st′ n p after e {w = w} one f q u h takes x m a b g =
     let r = taken (Class.significance k) after in
@@ -175,10 +174,10 @@ content-stopped {at = at} {k = k} {st = st} st′ n p after e {w = w} one f q u 
 
 -- In a command's bracket it is a parameter.
 command-passed : {s t t′ z : List ℕ} {at k node st n p st′ : ℕ} (ps : Exprs) {es : Exprs} {e : ℕ} {w : Walked} (one : Expr)
-    → isBlockParameter (exprClass one) ≡ true → Turn.Takes k st (exprClass one) st′ → judge k one ≡ fine
+    → isBlockParameter (exprClass one) ≡ true → StepTakes k st (exprClass one) st′ → judge k one ≡ fine
     → (length t ≡ 32768 → t′ ≡ taped t n node one)
-    → Answered s at k node st′ (n + nodesOf one) (p + bytesOf one) t′ z (inCommand ps) es e w
-    → Answered s at k node st n p t z (inCommand (and one ps)) es e w
+    → BlockAnswer s at k node st′ (n + nodeCount one) (p + poolBytes one) t′ z (inCommand ps) es e w
+    → BlockAnswer s at k node st n p t z (inCommand (and one ps)) es e w
 unfolding join inCommand
 command-passed {t = t} {t′ = t′} {z = z} {at = at} {k = k} {node = node} {st = st} {n = n} {p = p} {st′ = st′} ps {w = w} one i u f stored a =
     record {
@@ -191,8 +190,8 @@ command-passed {t = t} {t′ = t′} {z = z} {at = at} {k = k} {node = node} {st
     }
 
 command-stopped : {s t z : List ℕ} {at k node st : ℕ} (st′ n p : ℕ) (ps es : Exprs) (e : ℕ) {w : Walked} (one : Expr) (f q : ℕ)
-    → isBlockParameter (exprClass one) ≡ true → Turn.Takes k st (exprClass one) st′ → judge k one ≡ fault f q → (w .number ≡ 0 → ⊥)
-    → (m a b : ℕ) → w ≡ walkedTo m a b (fault f q) → Answered s at k node st n p t z (inCommand (and one ps)) es e w
+    → isBlockParameter (exprClass one) ≡ true → StepTakes k st (exprClass one) st′ → judge k one ≡ fault f q → (w .number ≡ 0 → ⊥)
+    → (m a b : ℕ) → w ≡ walkedTo m a b (fault f q) → BlockAnswer s at k node st n p t z (inCommand (and one ps)) es e w
 unfolding join inCommand
 command-stopped {at = at} {k = k} {st = st} st′ n p ps es e {w = w} one f q i u h x m a b g =
     let r = taken (Class.significance k) es in
@@ -214,8 +213,8 @@ unfolding inCommand
 command-end {s = s} {t = t} {y = y} {at = at} {k = k} {node = node} {i = i} {st = st} {n = n} {p = p} {q = q} {w = w} looked z a =
     record { answers = λ ps m x es e t h u. by (look-stands s i m ps t) (sym (looked .0) ∙ z) u }
   where
-    by : {ps es : Exprs} {m e : ℕ} → SeenAs s (seen i (drop i s)) ps m → seen i (drop i s) .sort ≡ 0 → Stands s (m + 1) es e
-        → Answered s at k node st n p t y (inCommand ps) es e w
+    by : {ps es : Exprs} {m e : ℕ} → SeenAs s (seen i (drop i s)) ps m → seen i (drop i s) .sort ≡ 0 → RunStands s (m + 1) es e
+        → BlockAnswer s at k node st n p t y (inCommand ps) es e w
     by {es} {e} (saw-end h) z u = a .answers es e (rw (looked .1) u)
     by (saw-symbol h c l f t) z u = let o : _≡_ {A = ℕ} 0 1 = cc in absurd (omega arith)
     by (saw-string h c l f t) z u = let o : _≡_ {A = ℕ} 0 1 = cc in absurd (omega arith)
@@ -257,8 +256,8 @@ ended-takes {r} {es} k t h =
     by (saw-list x h c f t d b v) z = let o : _≡_ {A = ℕ} 0 1 = cc in absurd (omega arith)
 
 end-same : (at k st n p i : ℕ) (v : Verdict) → v ≡ cond (ended k (stateOf k st)) fine (fault 9 at)
-    → walkedTo i n p v ≡ whole at k st n p (walkedTo i n p v .next) (join none none)
-unfolding whole run finish nodesIn bytesIn join
+    → walkedTo i n p v ≡ runAnswer at k st n p (walkedTo i n p v .next) (join none none)
+unfolding runAnswer run finish nodeCountIn poolBytesIn join
 end-same at k st n p i v d = next-same i n p v ∙ rw (add-zero n, add-zero p, ← d)
 
 pub content-end : {s t : List ℕ} {at k node i st n p sort q c j l : ℕ} {w : Walked} → Looked s i sort q c j l → i ≤ length s → n ≤ i → p ≤ i
@@ -304,16 +303,16 @@ pub taken-forward : {s : List ℕ} {i j d k st j′ st′ : ℕ} {r : Walked} �
 taken-forward h b y = omega (arith, b .bounds y, h .forward, h .next)
 
 -- The answer of an expression in an element of kind k: nothing is at fault, or something is.
-pub data Outcome (k n p : ℕ) (one : Expr) (r : Walked) : Type 0 where
-  passed : judge k one ≡ fine → r .number ≡ 0 → r .nodes ≡ n + nodesOf one → r .pool ≡ p + bytesOf one → Outcome k n p one r
-  stopped : (f q : ℕ) → judge k one ≡ fault f q → (r .number ≡ 0 → ⊥) → r ≡ walkedTo (r .next) (n + nodesOf one) (p + bytesOf one) (fault f q) → Outcome k n p one r
+pub data ChildVerdict (k n p : ℕ) (one : Expr) (r : Walked) : Type 0 where
+  passed : judge k one ≡ fine → r .number ≡ 0 → r .nodes ≡ n + nodeCount one → r .pool ≡ p + poolBytes one → ChildVerdict k n p one r
+  stopped : (f q : ℕ) → judge k one ≡ fault f q → (r .number ≡ 0 → ⊥) → r ≡ walkedTo (r .next) (n + nodeCount one) (p + poolBytes one) (fault f q) → ChildVerdict k n p one r
 
-pub outcome : (s : List ℕ) (j k n p : ℕ) (one : Expr) (r : Walked) → Bounded s j r → 0 < j
-    → r ≡ walkedTo (r .next) (n + nodesOf one) (p + bytesOf one) (judge k one) → Outcome k n p one r
+pub child-verdict : (s : List ℕ) (j k n p : ℕ) (one : Expr) (r : Walked) → Bounded s j r → 0 < j
+    → r ≡ walkedTo (r .next) (n + nodeCount one) (p + poolBytes one) (judge k one) → ChildVerdict k n p one r
 unfolding walkedTo
-outcome s j k n p one r b h e = by (judge k one) refl e
+child-verdict s j k n p one r b h e = by (judge k one) refl e
   where
-    by : (v : Verdict) → judge k one ≡ v → r ≡ walkedTo (r .next) (n + nodesOf one) (p + bytesOf one) v → Outcome k n p one r
+    by : (v : Verdict) → judge k one ≡ v → r ≡ walkedTo (r .next) (n + nodeCount one) (p + poolBytes one) v → ChildVerdict k n p one r
     by fine d g = passed d (ap (λ (w : Walked). w .number) g) (ap (λ (w : Walked). w .nodes) g) (ap (λ (w : Walked). w .pool) g)
     by (fault f q) d g = stopped f q d (λ y. omega (arith, b .bounds y, ap (λ (w : Walked). w .next) g)) g
 
@@ -332,12 +331,12 @@ module _ (s : List ℕ) (i : ℕ) {sort q c j l : ℕ} (looked : Looked s i sort
   pub list-forward : {d k st j′ st′ : ℕ} → TakenAs i j d k st j′ st′ → (i < j′) × (j′ ≤ length s)
   list-forward h = omega (arith, turn-within (h .forward), h .forward, h .next)
 
-  first-of : {es : Exprs} {e : ℕ} → Stands s i es e → FirstSeen (seen i (drop i s)) es
+  first-of : {es : Exprs} {e : ℕ} → RunStands s i es e → FirstSeen (seen i (drop i s)) es
   first-of {es} {e} t = first-seen (look-stands s i e es t) (λ z. some (looked .0 ∙ z))
 
   -- It is refused: the answer of a run in which what it counts as is the first.
-  refused-first : {at k st d : ℕ} {w : Walked} {es : Exprs} {e : ℕ} (n p m : ℕ) → Refuses at i q j d k st w → Stands s i es e → (one : Expr) (rest : Exprs)
-      → exprClass one ≡ d → place one ≡ q → w ≡ whole at k st n p m (and one rest)
+  refused-first : {at k st d : ℕ} {w : Walked} {es : Exprs} {e : ℕ} (n p m : ℕ) → Refuses at i q j d k st w → RunStands s i es e → (one : Expr) (rest : Exprs)
+      → exprClass one ≡ d → place one ≡ q → w ≡ runAnswer at k st n p m (and one rest)
   refused-first {at} {k} {st} n p m (by-step f z h g) t one rest a b = g ∙ rw (← b) (run-bad at k st n p m one rest f (rw a h))
   refused-first {es} {e} n p m (stuck h g) t one rest a b =
       absurd (omega (arith, seen-bounds s i within .place-from, looked .3, seen-forward (look-stands s i e es t) (λ z. some (looked .0 ∙ z))))
@@ -386,10 +385,10 @@ module _ (s : List ℕ) (i : ℕ) {sort q c j l : ℕ} (looked : Looked s i sort
       }
 
   -- A symbol or string is seen.
-  atom-of : (sort ≡ 3 → ⊥) → {es : Exprs} {e : ℕ} → Stands s i es e → AtomSeen s (seen i (drop i s)) es e
+  atom-of : (sort ≡ 3 → ⊥) → {es : Exprs} {e : ℕ} → RunStands s i es e → AtomSeen s (seen i (drop i s)) es e
   atom-of a {es} {e} t = atom-seen (look-stands s i e es t) (λ z. some (looked .0 ∙ z)) (λ z. a (looked .0 ∙ z))
 
-  to-next : {j′ e : ℕ} {others : Exprs} → j′ ≡ j → Stands s (seen i (drop i s) .next) others e → Stands s j′ others e
+  to-next : {j′ e : ℕ} {others : Exprs} → j′ ≡ j → RunStands s (seen i (drop i s) .next) others e → RunStands s j′ others e
   to-next h t = rw (h, looked .3) t
 
   -- It is no parameter.
@@ -418,7 +417,7 @@ module _ (s : List ℕ) (i : ℕ) {sort q c j l : ℕ} (looked : Looked s i sort
       }
 
   -- A list is seen, and it counts as itself.
-  opened : {k st j′ st′ d : ℕ} → TakenAs i j d k st j′ st′ → d ≡ c → sort ≡ 3 → {es : Exprs} {e : ℕ} → Stands s i es e → Opened s q d j′ es e
+  opened : {k st j′ st′ d : ℕ} → TakenAs i j d k st j′ st′ → d ≡ c → sort ≡ 3 → {es : Exprs} {e : ℕ} → RunStands s i es e → NamedListFirst s q d j′ es e
   opened {k} {st} {st′ = st′} {d} h same z {es} {e} t =
       rw (same, h .next, looked .1, looked .2, looked .3)
       (open-list (look-stands s i e es t) (sym (looked .0) ∙ z) (λ y. none-taken k st st′ (rw (same ∙ looked .2 ∙ y) at (h .taken))))
@@ -426,7 +425,7 @@ module _ (s : List ℕ) (i : ℕ) {sort q c j l : ℕ} (looked : Looked s i sort
   -- A parameter: w is its answer, and r that past its closing bracket.
   module _ {k node st n p j′ st′ : ℕ} {t t′ : List ℕ} {w r : Walked} (taking : TakenAs i j (commandClass c) k st j′ st′) (z : sort ≡ 3)
       (bounded : Bounded s j′ w)
-      (judged : Judges s q j′ k (commandClass c) n p node t t′ w) (past-it : r ≡ pastBracket (length s) w) where
+      (judged : JudgesList s q j′ k (commandClass c) n p node t t′ w) (past-it : r ≡ pastBracket (length s) w) where
     counts : commandClass c ≡ 0 → ⊥
     counts y = none-taken k st st′ (rw y at (taking .taken))
 
@@ -439,16 +438,16 @@ module _ (s : List ℕ) (i : ℕ) {sort q c j l : ℕ} (looked : Looked s i sort
     before : 0 < j′
     before = omega (arith, taking .forward, taking .next)
 
-    by-outcome : {ps : Exprs} {m : ℕ} (o : Opened s q (commandClass c) j′ ps m) → Outcome k n p (listed o) r
-    by-outcome o = outcome s j′ k n p (listed o) r (past-bounded bounded past-it) before (list-answer bounded judged past-it before o .0)
+    by-outcome : {ps : Exprs} {m : ℕ} (o : NamedListFirst s q (commandClass c) j′ ps m) → ChildVerdict k n p (listed o) r
+    by-outcome o = child-verdict s j′ k n p (listed o) r (past-bounded bounded past-it) before (list-answer bounded judged past-it before o .0)
 
     pub parameter-stopped : {at : ℕ} {z : List ℕ} → (r .number ≡ 0 → ⊥) → InCommand s at k node i st n p t z r
     unfolding exprClass listClass
     parameter-stopped {at} {z = z′} y =
         record { answers = λ ps m x es e u g v. let o = opened taking same z u in rw (o .made) (by es e o (by-outcome o)) }
       where
-        by : (es : Exprs) (e : ℕ) {ps : Exprs} {m : ℕ} (o : Opened s q (commandClass c) j′ ps m) → Outcome k n p (listed o) r
-            → Answered s at k node st n p t z′ (inCommand (and (listed o) (o .others))) es e r
+        by : (es : Exprs) (e : ℕ) {ps : Exprs} {m : ℕ} (o : NamedListFirst s q (commandClass c) j′ ps m) → ChildVerdict k n p (listed o) r
+            → BlockAnswer s at k node st n p t z′ (inCommand (and (listed o) (o .others))) es e r
         by es e o (passed d x a b) = absurd (y x)
         by es e o (stopped f v d x g) =
             command-stopped st′ n p (o .others) es e (listed o) f v (rw (o .of-class, same) is-parameter) (rw (o .of-class) (taking .taken)) d x _ _ _ g
@@ -459,8 +458,8 @@ module _ (s : List ℕ) (i : ℕ) {sort q c j l : ℕ} (looked : Looked s i sort
     parameter-passed {at} y z′ w b =
         record { answers = λ ps m x es e u g v. let o = opened taking same z u in rw (o .made) (by x es e o (by-outcome o) g v) }
       where
-        by : (x : Bracket) (es : Exprs) (e : ℕ) {ps : Exprs} {m : ℕ} (o : Opened s q (commandClass c) j′ ps m) → Outcome k n p (listed o) r → Has s m (closing x)
-            → Stands s (m + 1) es e → Answered s at k node st n p t z′ (inCommand (and (listed o) (o .others))) es e w
+        by : (x : Bracket) (es : Exprs) (e : ℕ) {ps : Exprs} {m : ℕ} (o : NamedListFirst s q (commandClass c) j′ ps m) → ChildVerdict k n p (listed o) r → Has s m (closing x)
+            → RunStands s (m + 1) es e → BlockAnswer s at k node st n p t z′ (inCommand (and (listed o) (o .others))) es e w
         by x es e {m} o (passed d v nodes pool) g u =
             command-passed {st′ = st′} (o .others) (listed o) (rw (o .of-class, same) is-parameter) (rw (o .of-class) (taking .taken)) d
             (list-tape judged past-it o y)
@@ -476,15 +475,15 @@ module _ (s : List ℕ) (i : ℕ) {sort q c j l : ℕ} (looked : Looked s i sort
     belongs lesser = record { lesser = rw itself lesser; itself = ap looseClass itself }
 
     module _ {n p node : ℕ} {t t′ : List ℕ} {r : Walked} (z : sort ≡ 3) (bounded : Bounded s j′ r)
-        (child : Child s q j′ k (looseClass c) n p node t t′ r) where
-      by-child : {es : Exprs} {e : ℕ} (d : Counted s k (looseClass c) n p node t t′ es e r) → Outcome k n p (d .one) r
-      by-child d = outcome s j′ k n p (d .one) r bounded (omega (arith, taking .forward, taking .next)) (d .same)
+        (child : JudgesChild s q j′ k (looseClass c) n p node t t′ r) where
+      by-child : {es : Exprs} {e : ℕ} (d : ChildAnswer s k (looseClass c) n p node t t′ es e r) → ChildVerdict k n p (d .one) r
+      by-child d = child-verdict s j′ k n p (d .one) r bounded (omega (arith, taking .forward, taking .next)) (d .same)
 
       pub child-stopped : {at : ℕ} {z : List ℕ} → (r .number ≡ 0 → ⊥) → InContent s at k node i st n p t z r
       child-stopped {at} {z = z′} y = record { answers = λ es e u. let d = child .counted es e (opened taking itself z u) in by d (by-child d) }
         where
-          by : {es : Exprs} {e : ℕ} (d : Counted s k (looseClass c) n p node t t′ es e r) → Outcome k n p (d .one) r
-              → Answered s at k node st n p t z′ none es e r
+          by : {es : Exprs} {e : ℕ} (d : ChildAnswer s k (looseClass c) n p node t t′ es e r) → ChildVerdict k n p (d .one) r
+              → BlockAnswer s at k node st n p t z′ none es e r
           by d (passed h x a b) = absurd (y x)
           by {e} d (stopped f v h x g) = content-stopped st′ n p (d .after) e (d .one) f v (rw (d .of-class) (taking .taken)) h (d .takes) x _ _ _ g
 
@@ -492,8 +491,8 @@ module _ (s : List ℕ) (i : ℕ) {sort q c j l : ℕ} (looked : Looked s i sort
           → InContent s at k node i st n p t z w
       child-passed {at} y z′ w b = record { answers = λ es e u. let d = child .counted es e (opened taking itself z u) in by d (by-child d) }
         where
-          by : {es : Exprs} {e : ℕ} (d : Counted s k (looseClass c) n p node t t′ es e r) → Outcome k n p (d .one) r
-              → Answered s at k node st n p t z′ none es e w
+          by : {es : Exprs} {e : ℕ} (d : ChildAnswer s k (looseClass c) n p node t t′ es e r) → ChildVerdict k n p (d .one) r
+              → BlockAnswer s at k node st n p t z′ none es e w
           by {e} d (passed h x nodes pool) =
               content-passed {st′ = st′} {after = d .after} (d .one) (rw (d .of-class) (taking .taken)) h (d .takes) (d .tapes y)
               (rw (← nodes, ← pool) (b .answers (d .after) e (d .goes-on y)))
@@ -501,27 +500,27 @@ module _ (s : List ℕ) (i : ℕ) {sort q c j l : ℕ} (looked : Looked s i sort
 
 -- ---- a child's answer
 
-pub block-same : (q c k n p m : ℕ) (lead : Expr) (es : Exprs) {w : Walked} → leadClass lead ≡ c → Class.isElement c ≡ true → w ≡ whole q c 0 (n + 1) p m es
-    → w ≡ walkedTo m (n + nodesOf (list q (and lead es))) (p + bytesOf (list q (and lead es))) (judge k (list q (and lead es)))
-unfolding whole judge nodesOf bytesOf
+pub block-same : (q c k n p m : ℕ) (lead : Expr) (es : Exprs) {w : Walked} → leadClass lead ≡ c → Class.isElement c ≡ true → w ≡ runAnswer q c 0 (n + 1) p m es
+    → w ≡ walkedTo m (n + nodeCount (list q (and lead es))) (p + poolBytes (list q (and lead es))) (judge k (list q (and lead es)))
+unfolding runAnswer judge nodeCount poolBytes
 block-same q c k n p m lead es e h g = rw (e, h) (g ∙ rw (start-state c, add-one n, suc-add n, ← add-suc n))
 
 -- And it is on the tape: its node is entered before the block is walked, and left after it.
 pub block-tape : {s t₁ t₂ z : List ℕ} {j : ℕ} {w : Walked} (t : List ℕ) (q c n node p m : ℕ) (lead : Expr) (es : Exprs) → leadClass lead ≡ c
     → Class.isElement c ≡ true
-    → Bounded s j w → 0 < j → w ≡ whole q c 0 (n + 1) p m es → (length t ≡ 32768 → t₁ ≡ entered t n q c node 0)
+    → Bounded s j w → 0 < j → w ≡ runAnswer q c 0 (n + 1) p m es → (length t ≡ 32768 → t₁ ≡ entered t n q c node 0)
     → (length t₁ ≡ 32768 → t₂ ≡ tapedAll t₁ (n + 1) n es) → (length t₂ ≡ 32768 → z ≡ left t₂ n (w .nodes)) → w .number ≡ 0 → length t ≡ 32768
     → z ≡ taped t n node (list q (and lead es))
-unfolding whole
+unfolding runAnswer
 block-tape {t₁ = t₁} {t₂ = t₂} {z = z} {w = w} t q c n node p m lead es e h bounded some g before walked after y full =
     element-tape t t₁ t₂ z n node q c (w .nodes) es before walked after
-    (nodes-counted m (n + 1 + nodesIn es) (p + bytesIn es) (finish q c (run q c (stateOf c 0) es)) bounded some g y) full
+    (nodes-counted m (n + 1 + nodeCountIn es) (p + poolBytesIn es) (finish q c (run q c (stateOf c 0) es)) bounded some g y) full
     ∙ sym (taped-element t n node q c lead es e h)
 
 -- A command's block is the child.
 pub command-child : {s t t₁ t₂ z : List ℕ} {q j k c n p node : ℕ} {w : Walked} → leadsCommand c ≡ true → Belongs k c → 0 < j → Bounded s j w
     → InCommand s q c n j 0 (n + 1) p t₁ t₂ w → (length t ≡ 32768 → t₁ ≡ entered t n q c node 0)
-    → (w .number ≡ 0 → length t₂ ≡ 32768 → z ≡ left t₂ n (w .nodes)) → Child s q j k c n p node t z w
+    → (w .number ≡ 0 → length t₂ ≡ 32768 → z ≡ left t₂ n (w .nodes)) → JudgesChild s q j k c n p node t z w
 unfolding leadsCommand isCommand exprClass listClass block
 command-child {t = t} {q = q} {k = k} {c = c} {n = n} {p = p} {node = node} {w = w} h b some bounded a before after =
     record {
@@ -545,7 +544,7 @@ command-child {t = t} {q = q} {k = k} {c = c} {n = n} {p = p} {node = node} {w =
 
 -- Any other list is itself the child.
 pub inside-child : {s t z : List ℕ} {q j k c n p node : ℕ} {w r : Walked} → leadsCommand c ≡ false → Belongs k c → Bounded s j w
-    → Judges s q j k c n p node t z w → r ≡ pastBracket (length s) w → 0 < j → Child s q j k c n p node t z r
+    → JudgesList s q j k c n p node t z w → r ≡ pastBracket (length s) w → 0 < j → JudgesChild s q j k c n p node t z r
 unfolding leadsCommand isCommand exprClass listClass
 inside-child h b bounded judged past-it some =
     record {

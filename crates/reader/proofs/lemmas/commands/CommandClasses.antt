@@ -18,8 +18,8 @@ use Rattle.document.specs.rules.Command.{notAllowed}
 use Rattle.document.specs.rules.Command.{loose, isCommand, block}
 use Rattle.document.proofs.Blocks.{block-no-parameter}
 use Rattle.document.proofs.Regroup.{block-class}
-use Rattle.reader.specs.internal.Stands.{Stands}
-use Rattle.reader.specs.internal.Counts.{nodesOf, bytesOf}
+use Rattle.reader.specs.internal.RunStands.{RunStands}
+use Rattle.reader.specs.internal.Counts.{nodeCount, poolBytes}
 use Rattle.reader.specs.internal.Tape.{entered, taped}
 use Rattle.document.specs.rules.Takes.{Takes, at-command, expression, a-block}
 use Rattle.reader.specs.internal.BlockWalk.{commandClass, looseClass, leadsCommand, endsAt}
@@ -145,18 +145,18 @@ pub record AtomSeen (s : List ℕ) (r : Seen) (es : Exprs) (e : ℕ) : Type 0 wh
   pub one : Expr
   pub others : Exprs
   pub made : es ≡ and one others
-  pub stands : Stands s (r .next) others e
+  pub stands : RunStands s (r .next) others e
   pub text : r .class ≡ Class.text
   pub of-class : exprClass one ≡ Class.text
   pub no-command : isCommand one ≡ false
   pub itself : loose one ≡ one
   pub judged : (k : ℕ) → judge k one ≡ fine
-  pub nodes : nodesOf one ≡ 1
-  pub bytes : bytesOf one ≡ r .length
+  pub nodes : nodeCount one ≡ 1
+  pub bytes : poolBytes one ≡ r .length
   pub on-tape : (t : List ℕ) (n node : ℕ) → taped t n node one ≡ entered t n (r .place) Class.text node (n + 1)
 
 pub atom-seen : {s : List ℕ} {r : Seen} {es : Exprs} {e : ℕ} → SeenAs s r es e → (r .sort ≡ 0 → ⊥) → (r .sort ≡ 3 → ⊥) → AtomSeen s r es e
-unfolding exprClass isCommand loose isBlockParameter Class.isBlock judge nodesOf bytesOf taped
+unfolding exprClass isCommand loose isBlockParameter Class.isBlock judge nodeCount poolBytes taped
 atom-seen (saw-end h) z a = absurd (z h)
 atom-seen {s} {r} (saw-symbol h c l f t) z a =
     record {

@@ -17,25 +17,25 @@ use Rattle.document.specs.rules.Command.{block}
 use Rattle.document.specs.reference.Outcome.{tooDeep, judged, oneExpression}
 use Rattle.document.proofs.Regroup.{block-class}
 use Rattle.document.proofs.Depth.{depth-regrouped}
-use Rattle.reader.specs.internal.Stands.{Stands}
-use Rattle.reader.specs.internal.Counts.{nodesOf, bytesOf}
+use Rattle.reader.specs.internal.RunStands.{RunStands}
+use Rattle.reader.specs.internal.Counts.{nodeCount, poolBytes}
 use Rattle.reader.specs.internal.WalkAnswer.{walkedTo, Bounded, readWalked}
 use Rattle.reader.specs.internal.Tape.{entered, left, taped}
 use Rattle.document.specs.rules.Takes.{Takes}
-use Rattle.reader.specs.internal.Walk.{Opened}
+use Rattle.reader.specs.internal.Walk.{NamedListFirst}
 use Rattle.reader.specs.internal.BlockWalk.{InCommand}
 use Rattle.reader.specs.declared.walk.Walked.{Walked}
 use Rattle.reader.proofs.lemmas.walk.SeenExpressions.{SeenAs, saw-end, saw-symbol, saw-string, saw-list, look-stands}
 use Rattle.reader.proofs.lemmas.walk.OneTurn.{Looked, seen-forward, open-list}
 use Rattle.document.proofs.Takes.{takes-contents}
 use Rattle.reader.proofs.lemmas.commands.CommandClasses.{FirstSeen, first-seen, block-place}
-use Rattle.reader.proofs.lemmas.commands.BlockLoops.{Outcome, passed, stopped, outcome, block-same, block-tape, listed}
+use Rattle.reader.proofs.lemmas.commands.BlockLoops.{ChildVerdict, passed, stopped, child-verdict, block-same, block-tape, listed}
 
 -- w is the answer of a text that was scanned, and z the tape t with its document.
-abbrev pub Judges : List ℕ → List ℕ → List ℕ → Walked → Type 0
-Judges s t z w =
-    ((es : Exprs) → Stands s 0 es (length s) → depthAll es ≤ 59 → w ≡ readWalked (oneExpression imperative (length s) es))
-    × ((e : Expr) (es : Exprs) → Stands s 0 (and e es) (length s) → depthAll (and e es) ≤ 59 → w .number ≡ 0 → length t ≡ 32768
+abbrev pub JudgesImperative : List ℕ → List ℕ → List ℕ → Walked → Type 0
+JudgesImperative s t z w =
+    ((es : Exprs) → RunStands s 0 es (length s) → depthAll es ≤ 59 → w ≡ readWalked (oneExpression imperative (length s) es))
+    × ((e : Expr) (es : Exprs) → RunStands s 0 (and e es) (length s) → depthAll (and e es) ≤ 59 → w .number ≡ 0 → length t ≡ 32768
     → z ≡ taped t 0 4294967295 (regroup e es))
 
 -- What a block takes is the content that regrouping gives the document.
@@ -65,25 +65,25 @@ module _ (n : ℕ) (x : Expr) (es : Exprs) where
   fault-answer f p m a b h = rw h
 
   fine-answer : judgeRoot (regroup x es) ≡ fine → depthAll (and x es) ≤ 59
-      → record { number = 0; place = 0; next = 0; nodes = nodesOf (regroup x es); pool = bytesOf (regroup x es) } ≡ readWalked (oneExpression imperative n (and x es))
+      → record { number = 0; place = 0; next = 0; nodes = nodeCount (regroup x es); pool = poolBytes (regroup x es) } ≡ readWalked (oneExpression imperative n (and x es))
   unfolding readWalked oneExpression judged tooDeep
   fine-answer h d = rw (h, le-ltb 64 (depth (regroup x es)) (depth-regrouped x es h d))
 
 -- Where a document is seen, it is a list that is opened.
 document-opened : {s : List ℕ} {r : Seen} {es : Exprs} {e : ℕ} → SeenAs s r es e → (r .sort ≡ 0 → ⊥) → r .class ≡ Class.document
-    → Opened s (r .place) (r .class) (r .next) es e
+    → NamedListFirst s (r .place) (r .class) (r .next) es e
 document-opened (saw-end h) z d = absurd (z h)
 document-opened (saw-symbol h c l f t) z d = absurd (omega (arith, c, d))
 document-opened (saw-string h c l f t) z d = absurd (omega (arith, c, d))
 document-opened (saw-list x h c f t g b u) z d = open-list (saw-list x h c f t g b u) h (λ y. omega (arith, y, d))
 
 -- A document's block: the answer is that of its nested form.
-module _ {s t₁ t₂ : List ℕ} {q j e : ℕ} {es : Exprs} {w : Walked} (o : Opened s q Class.document j es e)
+module _ {s t₁ t₂ : List ℕ} {q j e : ℕ} {es : Exprs} {w : Walked} (o : NamedListFirst s q Class.document j es e)
     (answer : InCommand s q Class.document 0 j 0 1 0 t₁ t₂ w) where
   abbrev nested : Expr
   nested = regroup (listed o) (o .others)
 
-  document-answer : w ≡ walkedTo (w .next) (0 + nodesOf nested) (0 + bytesOf nested) (judge 0 nested)
+  document-answer : w ≡ walkedTo (w .next) (0 + nodeCount nested) (0 + poolBytes nested) (judge 0 nested)
   unfolding block Class.isElement Class.isKind Class.significance
   document-answer =
       let a = answer .answers (o .rest) (o .end) (o .bracket) (o .others) e (o .follows) (o .closed) (o .goes-on) in
@@ -102,17 +102,17 @@ module _ {s t₁ t₂ : List ℕ} {q j e : ℕ} {es : Exprs} {w : Walked} (o : O
   unfolding judgeRoot regroup exprClass listClass
   root = rw (block-class (listed o) (innermost (contentsOf (Class.significance Class.document ∷ []) (o .others))), o .of-class)
 
-  by-outcome : Bounded s j w → 0 < j → Outcome 0 0 0 nested w
-  by-outcome b h = outcome s j 0 0 0 nested w b h document-answer
+  by-outcome : Bounded s j w → 0 < j → ChildVerdict 0 0 0 nested w
+  by-outcome b h = child-verdict s j 0 0 0 nested w b h document-answer
 
-  document-stopped : (n : ℕ) → Outcome 0 0 0 nested w → (w .number ≡ 0 → ⊥) → w ≡ readWalked (oneExpression imperative n es)
+  document-stopped : (n : ℕ) → ChildVerdict 0 0 0 nested w → (w .number ≡ 0 → ⊥) → w ≡ readWalked (oneExpression imperative n es)
   document-stopped n (passed d x a b) y = absurd (y x)
   document-stopped n (stopped f p d x g) y = rw (o .made) (g ∙ fault-answer n (listed o) (o .others) f p (w .next) _ _ (root ∙ d))
 
-  document-passed : (n : ℕ) → Outcome 0 0 0 nested w → w .number ≡ 0 → depthAll es ≤ 59
+  document-passed : (n : ℕ) → ChildVerdict 0 0 0 nested w → w .number ≡ 0 → depthAll es ≤ 59
       → record { number = 0; place = 0; next = 0; nodes = w .nodes; pool = w .pool } ≡ readWalked (oneExpression imperative n es)
   document-passed n (passed d x nodes pool) y h =
-      rw (o .made, nodes, pool, zero-add (nodesOf nested), zero-add (bytesOf nested))
+      rw (o .made, nodes, pool, zero-add (nodeCount nested), zero-add (poolBytes nested))
       (fine-answer n (listed o) (o .others) (root ∙ d) (rw (o .made) at h))
   document-passed n (stopped f p d x g) y h = absurd (x y)
 
@@ -121,7 +121,7 @@ same-regrouped : {x y : Expr} {es others : Exprs} → and y es ≡ and x others 
 same-regrouped {x} {y} {es} {others} e = let a : x ≡ y = cc in let b : others ≡ es = cc in rw (a, b)
 
 module _ (s t : List ℕ) {sort q c j l : ℕ} (looked : Looked s 0 sort q c j l) where
-  pub nothing-seen : {z : List ℕ} {w : Walked} → sort ≡ 0 → w ≡ walkedTo 0 0 0 (fault 7 (length s)) → Judges s t z w
+  pub nothing-seen : {z : List ℕ} {w : Walked} → sort ≡ 0 → w ≡ walkedTo 0 0 0 (fault 7 (length s)) → JudgesImperative s t z w
   unfolding walkedTo
   nothing-seen z g = (
     λ es u d. g ∙ none-judged (length s) (look-stands s 0 (length s) es u) (sym (looked .0) ∙ z),
@@ -129,7 +129,7 @@ module _ (s t : List ℕ) {sort q c j l : ℕ} (looked : Looked s 0 sort q c j l
   )
 
   module _ (some : sort ≡ 0 → ⊥) where
-    pub no-document : {z : List ℕ} {w : Walked} → (c ≡ Class.document → ⊥) → w ≡ walkedTo 0 0 0 (fault 8 q) → Judges s t z w
+    pub no-document : {z : List ℕ} {w : Walked} → (c ≡ Class.document → ⊥) → w ≡ walkedTo 0 0 0 (fault 8 q) → JudgesImperative s t z w
     unfolding walkedTo
     no-document h g = (
       λ es u d.
@@ -138,20 +138,20 @@ module _ (s t : List ℕ) {sort q c j l : ℕ} (looked : Looked s 0 sort q c j l
       λ e es u d y full. absurd (omega (arith, y, ap (λ (w : Walked). w .number) g)),
     )
 
-    forward-some : {es : Exprs} → Stands s 0 es (length s) → j < 1 → ⊥
+    forward-some : {es : Exprs} → RunStands s 0 es (length s) → j < 1 → ⊥
     forward-some {es} u h = omega (arith, looked .3, seen-forward (look-stands s 0 (length s) es u) (λ z. some (looked .0 ∙ z)))
 
-    pub nothing-passed : {z : List ℕ} {w : Walked} → j < 1 → Judges s t z w
+    pub nothing-passed : {z : List ℕ} {w : Walked} → j < 1 → JudgesImperative s t z w
     nothing-passed h = (λ es u d. absurd (forward-some u h), λ e es u d y full. absurd (forward-some u h))
 
     -- A document is seen, and w is the answer of its block.
     module _ {t₁ t₂ : List ℕ} {w : Walked} (h : c ≡ Class.document) (forward : 0 < j) (bounded : Bounded s j w)
         (answer : InCommand s q Class.document 0 j 0 1 0 t₁ t₂ w) where
-      opened : {es : Exprs} → Stands s 0 es (length s) → Opened s q c j es (length s)
+      opened : {es : Exprs} → RunStands s 0 es (length s) → NamedListFirst s q c j es (length s)
       opened {es} u =
           rw (looked .1, looked .2, looked .3) (document-opened (look-stands s 0 (length s) es u) (λ z. some (looked .0 ∙ z)) (sym (looked .2) ∙ h))
 
-      pub document-fault : {z : List ℕ} → (w .number ≡ 0 → ⊥) → Judges s t z w
+      pub document-fault : {z : List ℕ} → (w .number ≡ 0 → ⊥) → JudgesImperative s t z w
       document-fault y = (
         λ es u d. let o = rw h at (opened u) in document-stopped o answer (length s) (by-outcome o answer bounded forward) y,
         λ e es u d x full. absurd (y x),
@@ -159,7 +159,7 @@ module _ (s t : List ℕ) {sort q c j l : ℕ} (looked : Looked s 0 sort q c j l
 
       pub document-fine : {z : List ℕ} → w .number ≡ 0 → (length t ≡ 32768 → t₁ ≡ entered t 0 q 1 4294967295 0)
           → (w .number ≡ 0 → length t₂ ≡ 32768 → z ≡ left t₂ 0 (w .nodes))
-          → Judges s t z (record { number = 0; place = 0; next = 0; nodes = w .nodes; pool = w .pool })
+          → JudgesImperative s t z (record { number = 0; place = 0; next = 0; nodes = w .nodes; pool = w .pool })
       document-fine {z} y before after = (
         λ es u d. let o = rw h at (opened u) in document-passed o answer (length s) (by-outcome o answer bounded forward) y d,
         λ e es u d x full.

@@ -16,13 +16,13 @@ use Rattle.document.specs.rules.Lead.{leadClass}
 use Rattle.document.specs.reference.Meaning.{treeOf, treesOf, places, allPlaces}
 use Rattle.document.specs.rules.Table.{count, countAll, pool, poolAll, rows, rowsAll, offset}
 use Rattle.document.proofs.Records.{rows-length-all}
-use Rattle.reader.specs.internal.Counts.{nodesIn}
+use Rattle.reader.specs.internal.Counts.{nodeCountIn}
 use Rattle.reader.specs.internal.Filling.{Filling, saidBy, withRow}
 use Rattle.reader.proofs.lemmas.walk.Counts.{value-no-node, all-places}
 use Rattle.reader.proofs.lemmas.fill.Stores.{sets-on}
 
 -- Between a and z the run was written, its nodes under this parent.
-pub record Wrote (parent : ℕ) (es : Exprs) (a z : Filling) : Type 0 where
+pub record WroteRun (parent : ℕ) (es : Exprs) (a z : Filling) : Type 0 where
   pub counted : z .node ≡ a .node + countAll (saidBy es)
   pub pooled : z .bytes ≡ a .bytes + length (poolAll (saidBy es))
   pub placed : length (allPlaces es) ≡ countAll (saidBy es)
@@ -68,8 +68,8 @@ unfolding allPlaces
 places-joined x es = ap (λ (l : List ℕ). l ++ allPlaces es) (sym (append-nil (places x)))
 
 -- An expression was written, and then those that follow it.
-pub wrote-on : (parent : ℕ) (x : Expr) (es : Exprs) (a m z : Filling) → Wrote parent (and x none) a m → Wrote parent es m z
-    → Wrote parent (and x es) a z
+pub wrote-on : (parent : ℕ) (x : Expr) (es : Exprs) (a m z : Filling) → WroteRun parent (and x none) a m → WroteRun parent es m z
+    → WroteRun parent (and x es) a z
 wrote-on parent x es a m z v w =
     let ns : Nodes = saidBy (and x none) in
     let ms : Nodes = saidBy es in
@@ -105,7 +105,7 @@ unfolding allPlaces
 value-places at lead inner i = rw i
 
 -- Nothing is written where nothing is said.
-wrote-nothing : (parent : ℕ) (es : Exprs) (a : Filling) → saidBy es ≡ childless → allPlaces es ≡ [] → Wrote parent es a a
+wrote-nothing : (parent : ℕ) (es : Exprs) (a : Filling) → saidBy es ≡ childless → allPlaces es ≡ [] → WroteRun parent es a a
 unfolding countAll poolAll rowsAll
 wrote-nothing parent es a e f = record {
   counted = rw e (sym (add-zero (a .node)));
@@ -116,12 +116,12 @@ wrote-nothing parent es a e f = record {
   pool-is = rw e;
 }
 
-pub wrote-none : (parent : ℕ) (a : Filling) → Wrote parent none a a
+pub wrote-none : (parent : ℕ) (a : Filling) → WroteRun parent none a a
 unfolding saidBy treesOf sayAll allPlaces
 wrote-none parent a = wrote-nothing parent none a refl refl
 
 pub wrote-value : (parent at : ℕ) (lead : Expr) (inner : Exprs) (a : Filling) → Class.isElement (leadClass lead) ≡ false
-    → Wrote parent (and (list at (and lead inner)) none) a a
+    → WroteRun parent (and (list at (and lead inner)) none) a a
 wrote-value parent at lead inner a i = wrote-nothing parent _ a (value-said at lead inner i) (value-places at lead inner i)
 
 text-said : (x : Expr) (s : List ℕ) → treeOf x ≡ text s → saidBy (and x none) ≡ child (node Class.text [] [] s missing missing childless) childless
@@ -162,7 +162,7 @@ element-rows i parent p k e key type w h ns q = rw (
 )
 
 pub wrote-text : (parent p : ℕ) (x : Expr) (s : List ℕ) (a : Filling) → treeOf x ≡ text s → places x ≡ p ∷ []
-    → Wrote parent (and x none) a (withRow p Class.text parent (a .node + 1) missing missing [] [] s a)
+    → WroteRun parent (and x none) a (withRow p Class.text parent (a .node + 1) missing missing [] [] s a)
 unfolding countAll poolAll withRow offset
 wrote-text parent p x s a e f =
     let said : saidBy (and x none) ≡ child (node Class.text [] [] s missing missing childless) childless = text-said x s e in
@@ -178,10 +178,10 @@ wrote-text parent p x s a e f =
 
 -- An element is written by its row and the rows of what it holds.
 pub wrote-element : (parent at c : ℕ) (lead : Expr) (inner : Exprs) (a z : Filling) → Class.isElement (leadClass lead) ≡ true → leadClass lead ≡ c
-    → Wrote (a .node) inner (withRow at c parent (a .node + 1 + nodesIn inner) (widthIn (treesOf inner)) (heightIn (treesOf inner))
+    → WroteRun (a .node) inner (withRow at c parent (a .node + 1 + nodeCountIn inner) (widthIn (treesOf inner)) (heightIn (treesOf inner))
     (keyIn (treesOf inner))
     (typeIn (treesOf inner)) [] a) z
-    → Wrote parent (and (list at (and lead inner)) none) a z
+    → WroteRun parent (and (list at (and lead inner)) none) a z
 unfolding countAll poolAll withRow offset
 wrote-element parent at c lead inner a z i l v =
     let ts : Trees = treesOf inner in
@@ -191,7 +191,7 @@ wrote-element parent at c lead inner a z i l v =
     let h : ℕ = heightIn ts in
     let ns : Nodes = saidBy inner in
     let by : ℕ = a .bytes + length key + length type in
-    let end : ℕ = a .node + 1 + nodesIn inner in
+    let end : ℕ = a .node + 1 + nodeCountIn inner in
     let said : saidBy (and (list at (and lead inner)) none) ≡ child (node c key type [] w h ns) childless = element-said at lead inner c i l in
     let ats : allPlaces (and (list at (and lead inner)) none) ≡ at ∷ allPlaces inner = element-places at lead inner i in
     let e : end ≡ a .node + suc (countAll ns) = omega (arith, v .placed, all-places inner) in

@@ -73,13 +73,13 @@ unfoldable fits : ℕ → ℕ → Rule → Bool
 fits a b r = single a b (r .parameters) && (not (allows (r .content) a) && not (allows (r .content) b))
 
 -- The pairs of classes that are looked for: keys, types, sizes.
-pub data Sought : ℕ → ℕ → Type 0 where
-  keys : Sought Class.id Class.target
-  types : Sought Class.type Class.type
-  sizes : Sought Class.size Class.size
+pub data ValueClasses : ℕ → ℕ → Type 0 where
+  keys : ValueClasses Class.id Class.target
+  types : ValueClasses Class.type Class.type
+  sizes : ValueClasses Class.size Class.size
 
 -- The computed test over the table of elements.
-fits-table : {a b : ℕ} → Sought a b → T (every (fits a b) rules)
+fits-table : {a b : ℕ} → ValueClasses a b → T (every (fits a b) rules)
 unfolding fits single last takes allows someHas alternativesOf among rules
 fits-table keys = tt
 fits-table types = tt
@@ -189,7 +189,7 @@ next-taken a b (exactly-one k) na nb before ks c s =
     cond-case (λ (r : Step). r ≡ go s → After a b before c s) (isInclude c) (λ i g. absurd (not-go 12 s g)) (λ i g. absurd (not-go 8 s g))
 
 -- What the table says of the row of kind k.
-row-of : {a b : ℕ} → Sought a b → (k : ℕ)
+row-of : {a b : ℕ} → ValueClasses a b → (k : ℕ)
     → T (single a b (ruleOf k .parameters)) × T (not (allows (ruleOf k .content) a)) × T (not (allows (ruleOf k .content) b))
 unfolding fits single allows someHas alternativesOf
 row-of {a} {b} w k =
@@ -199,7 +199,7 @@ row-of {a} {b} w k =
     (t .0, u .0, u .1)
 
 -- An expression of class c is taken in an element of kind k.
-step-taken : {a b : ℕ} → Sought a b → (k : ℕ) (s : State) (c : ℕ) (s′ : State) → T (singleIn a b s) → step k s c ≡ go s′
+step-taken : {a b : ℕ} → ValueClasses a b → (k : ℕ) (s : State) (c : ℕ) (s′ : State) → T (singleIn a b s) → step k s c ≡ go s′
     → After a b (takesIn a b s) c s′
 unfolding step
 step-taken {a} {b} w k (expecting ps) c s′ o g =
@@ -256,7 +256,7 @@ value-keeps k at lead es i h = value-fine k at (valueTree (leadClass lead) es) (
 apart : (a b c : ℕ) → is a b c ≡ false → (c ≡ a → ⊥) × (c ≡ b → ⊥)
 apart a b c e = let h = or-false (eqb c a) (eqb c b) e in (eqb-false c a (h .0), eqb-false c b (h .1))
 
-run-without : {a b : ℕ} → Sought a b → (at k : ℕ) (s : State) → takesIn a b s ≡ false → T (singleIn a b s) → (es : Exprs) → Read at k s es → Without a b es
+run-without : {a b : ℕ} → ValueClasses a b → (at k : ℕ) (s : State) → takesIn a b s ≡ false → T (singleIn a b s) → (es : Exprs) → Read at k s es → Without a b es
 run-without w at k s n o none h = tt
 run-without {a} {b} w at k s n o (and e es) h =
     let on = read-on at k s e es h in
@@ -266,19 +266,19 @@ run-without {a} {b} w at k s n o (and e es) h =
     (i .0, i .1, run-without w at k (on .0) (m .1) (x .on) es (on .3))
 
 -- What is looked for is a list.
-high : {a b : ℕ} → Sought a b → (26 ≤ a) × (26 ≤ b)
+high : {a b : ℕ} → ValueClasses a b → (26 ≤ a) × (26 ≤ b)
 high keys = (omega arith, omega arith)
 high types = (omega arith, omega arith)
 high sizes = (omega arith, omega arith)
 
-first-single : {a b : ℕ} → Sought a b → (e : Expr) (es : Exprs) → (exprClass e ≡ a) ⊎ (exprClass e ≡ b) → Without a b es → Single a b (and e es)
+first-single : {a b : ℕ} → ValueClasses a b → (e : Expr) (es : Exprs) → (exprClass e ≡ a) ⊎ (exprClass e ≡ b) → Without a b es → Single a b (and e es)
 unfolding exprClass listClass
 first-single w (symbol at s) es o u = let (h, h′) = high w in absurd (⊎-elim (λ e. omega arith) (λ e. omega arith) o)
 first-single w (quoted at s) es o u = let (h, h′) = high w in absurd (⊎-elim (λ e. omega arith) (λ e. omega arith) o)
 first-single w (list at none) es o u = let (h, h′) = high w in absurd (⊎-elim (λ e. omega arith) (λ e. omega arith) o)
 first-single w (list at (and lead inner)) es o u = here o u
 
-run-single : {a b : ℕ} → Sought a b → (at k : ℕ) (s : State) → T (singleIn a b s) → (es : Exprs) → Read at k s es → Single a b es
+run-single : {a b : ℕ} → ValueClasses a b → (at k : ℕ) (s : State) → T (singleIn a b s) → (es : Exprs) → Read at k s es → Single a b es
 run-single w at k s o none h = nowhere tt
 run-single {a} {b} w at k s o (and e es) h =
     let on = read-on at k s e es h in
@@ -289,7 +289,7 @@ run-single {a} {b} w at k s o (and e es) h =
     (run-without w at k (on .0) (x .taken i) (x .on) es (on .3)))
     (λ i. let n = apart a b (exprClass e) i in later (n .0) (n .1) (run-single w at k (on .0) (x .on) es (on .3)))
 
-pub read-single : {a b : ℕ} → Sought a b → (at k : ℕ) (es : Exprs) → Read at k (start k) es → Single a b es
+pub read-single : {a b : ℕ} → ValueClasses a b → (at k : ℕ) (es : Exprs) → Read at k (start k) es → Single a b es
 unfolding start
 read-single w at k es h = run-single w at k (start k) (row-of w k .0) es h
 

@@ -20,8 +20,8 @@ use Rattle.document.specs.rules.Lead.{leadClass, listClass, exprClass}
 use Rattle.document.specs.reference.Meaning.{fine, judge, textBytes, onlyOne, sizeTree, valueTree, treesOf}
 use Rattle.document.proofs.Nested.{not-fine}
 use Rattle.document.proofs.Blocks.{Read}
-use Rattle.reader.specs.internal.Counts.{nodesOf}
-use Rattle.reader.specs.internal.Tape.{noted, firstPlace, taped, tapedAll, LocatedAll}
+use Rattle.reader.specs.internal.Counts.{nodeCount}
+use Rattle.reader.specs.internal.Tape.{noted, valuePlace, taped, tapedAll, LocatedAll}
 use Rattle.reader.specs.internal.Filling.{heldAt}
 use Rattle.reader.proofs.lemmas.fill.SingleValues.{EachFine, OneText, no-text, one-symbol, one-string, Without, Single, nowhere, here, later, keys, types, sizes, read-single, read-each, value-keeps}
 use Rattle.reader.proofs.lemmas.fill.ElementValues.{key-class, no-key, no-type, no-size, without-key, without-type, without-size, no-element, key-here, type-here, size-here}
@@ -64,7 +64,7 @@ module _ {s : List ℕ} {a b j d : ℕ} {Wants : Exprs → ℕ → Type 0} (f : 
   unfolding taped
   all-kept k t m n none h g w = refl
   all-kept k t m n (and e es) h g w =
-      all-kept k (taped t m n e) (m + nodesOf e) n es (omega arith) (g .1) (w .2) ∙ one-kept k t m n e h (g .0) (w .0) (w .1)
+      all-kept k (taped t m n e) (m + nodeCount e) n es (omega arith) (g .1) (w .2) ∙ one-kept k t m n e h (g .0) (w .0) (w .1)
 
   -- The word after a run in which at most one list is of class a or b.
   word-wanted : (k : ℕ) (t : List ℕ) (m n : ℕ) (es : Exprs) → n < m → 8 * n + 8 ≤ length t → getD t (8 * n + j) 0 ≡ d → EachFine k es → LocatedAll s es
@@ -74,14 +74,14 @@ module _ {s : List ℕ} {a b j d : ℕ} {Wants : Exprs → ℕ → Type 0} (f : 
   word-wanted k t m n es h l e g o (here {at} {lead} {inner} {es = rest} x w) =
       let i : Class.isElement (leadClass lead) ≡ false = ⊎-elim (λ q. rw q (f .values .0)) (λ q. rw q (f .values .1)) x in
       rw (
-        all-kept k (taped t m n (list at (and lead inner))) (m + nodesOf (list at (and lead inner))) n rest (omega arith) (g .1) w,
+        all-kept k (taped t m n (list at (and lead inner))) (m + nodeCount (list at (and lead inner))) n rest (omega arith) (g .1) w,
         value-taped t m
             n at lead inner i,
       )
       (f .held k at lead inner rest t n x g w (o .0 .1) l)
   word-wanted k t m n es h l e g o (later {e = x} {es = rest} u v q) =
       f .passed k _ x rest (g .0) u v
-      (word-wanted k (taped t m n x) (m + nodesOf x) n rest (omega arith) (rw (length-taped t m n x) l) (one-kept k t m n x h (g .0) u v ∙ e) (g .1)
+      (word-wanted k (taped t m n x) (m + nodeCount x) n rest (omega arith) (rw (length-taped t m n x) l) (one-kept k t m n x h (g .0) u v ∙ e) (g .1)
       (o .1) q)
 
 -- What a list of each class notes.
@@ -89,11 +89,11 @@ note-size : (t : List ℕ) (n c : ℕ) (es : Exprs) → c ≡ Class.size → not
 unfolding noted
 note-size t n c es e = rw e
 
-note-type : (t : List ℕ) (n c : ℕ) (es : Exprs) → c ≡ Class.type → noted t n c es ≡ set t (8 * n + 5) (firstPlace es)
+note-type : (t : List ℕ) (n c : ℕ) (es : Exprs) → c ≡ Class.type → noted t n c es ≡ set t (8 * n + 5) (valuePlace es)
 unfolding noted
 note-type t n c es e = rw e
 
-note-key : (t : List ℕ) (n c : ℕ) (es : Exprs) → (c ≡ Class.id) ⊎ (c ≡ Class.target) → noted t n c es ≡ set t (8 * n + 4) (firstPlace es)
+note-key : (t : List ℕ) (n c : ℕ) (es : Exprs) → (c ≡ Class.id) ⊎ (c ≡ Class.target) → noted t n c es ≡ set t (8 * n + 4) (valuePlace es)
 unfolding noted
 note-key t n c es = ⊎-elim (λ e. rw e) (λ e. rw e)
 
@@ -105,16 +105,16 @@ key-sort k c es e f v = key-class k c (onlyOne textBytes es) (rw (e, f) at v) f
 
 -- A list notes a word of its own only.
 note-sort : (P : List ℕ → Type 0) (k c : ℕ) (es : Exprs) (t : List ℕ) (n : ℕ) → T (keepsRules k (valueTree c es))
-    → (c ≡ Class.size → P (sets t (8 * n + 6) (sizeWords es))) → (c ≡ Class.type → P (set t (8 * n + 5) (firstPlace es)))
-    → ((c ≡ Class.id) ⊎ (c ≡ Class.target) → P (set t (8 * n + 4) (firstPlace es))) → P (noted t n c es)
+    → (c ≡ Class.size → P (sets t (8 * n + 6) (sizeWords es))) → (c ≡ Class.type → P (set t (8 * n + 5) (valuePlace es)))
+    → ((c ≡ Class.id) ⊎ (c ≡ Class.target) → P (set t (8 * n + 4) (valuePlace es))) → P (noted t n c es)
 unfolding noted
 note-sort P k c es t n v z y i =
     cond-case P (eqb c Class.size) (λ e. z (eqb-true c Class.size e))
     (λ e. bool-case (eqb c Class.type) (λ f. rw f (y (eqb-true c Class.type f))) (λ f. rw f (i (key-sort k c es e f v))))
 
 -- The bytes of the one symbol or string that a list holds are found at the first place in it.
-held-one : (s : List ℕ) (es : Exprs) → OneText es → LocatedAll s es → heldAt s (firstPlace es) ≡ onlyOne textBytes es
-unfolding heldAt firstPlace place onlyOne textBytes
+held-one : (s : List ℕ) (es : Exprs) → OneText es → LocatedAll s es → heldAt s (valuePlace es) ≡ onlyOne textBytes es
+unfolding heldAt valuePlace place onlyOne textBytes
 held-one s es no-text o = refl
 held-one s es (one-symbol {at} {s = b}) o = rw (ne-eqb at 0 (λ e. let h = o .0 .0 in omega arith)) (o .0 .1)
 held-one s es (one-string {at} {s = b}) o = rw (ne-eqb at 0 (λ e. let h = o .0 .0 in omega arith)) (o .0 .1)
@@ -128,13 +128,13 @@ key-field s = record {
   kept = λ k c es t n v x y.
       note-sort (λ (u : List ℕ). getD u (8 * n + 4) 0 ≡ getD t (8 * n + 4) 0) k c es t n v
       (λ e. sets-other t (8 * n + 6) (sizeWords es) (8 * n + 4) (λ h h′. omega arith))
-      (λ e. getD-set-other t (8 * n + 5) (8 * n + 4) (firstPlace es) 0 (λ q. omega arith))
+      (λ e. getD-set-other t (8 * n + 5) (8 * n + 4) (valuePlace es) 0 (λ q. omega arith))
       (λ e. absurd (⊎-elim x y e));
   without = λ k es g w. sym (without-key k es g w);
   held = λ k at lead inner es t n x g w o l.
       let q = key-here k at lead inner es x g w in
-      let e : getD (noted t n (leadClass lead) inner) (8 * n + 4) 0 ≡ firstPlace inner =
-      rw (note-key t n (leadClass lead) inner x) (getD-set-same t (8 * n + 4) (firstPlace inner) 0 (omega arith)) in
+      let e : getD (noted t n (leadClass lead) inner) (8 * n + 4) 0 ≡ valuePlace inner =
+      rw (note-key t n (leadClass lead) inner x) (getD-set-same t (8 * n + 4) (valuePlace inner) 0 (omega arith)) in
       ap (heldAt s) e ∙ held-one s inner (q .1) o ∙ sym (q .0);
   passed = λ k w e es g x y h. rw (no-key k e g x y) h;
 }
@@ -148,13 +148,13 @@ type-field s = record {
       note-sort (λ (u : List ℕ). getD u (8 * n + 5) 0 ≡ getD t (8 * n + 5) 0) k c es t n v
       (λ e. sets-other t (8 * n + 6) (sizeWords es) (8 * n + 5) (λ h h′. omega arith))
       (λ e. absurd (x e))
-      (λ e. getD-set-other t (8 * n + 4) (8 * n + 5) (firstPlace es) 0 (λ q. omega arith));
+      (λ e. getD-set-other t (8 * n + 4) (8 * n + 5) (valuePlace es) 0 (λ q. omega arith));
   without = λ k es g w. sym (without-type es w);
   held = λ k at lead inner es t n x g w o l.
       let c : leadClass lead ≡ Class.type = ⊎-elim (λ e. e) (λ e. e) x in
       let q = type-here k at lead inner es c g w in
-      let e : getD (noted t n (leadClass lead) inner) (8 * n + 5) 0 ≡ firstPlace inner =
-      rw (note-type t n (leadClass lead) inner c) (getD-set-same t (8 * n + 5) (firstPlace inner) 0 (omega arith)) in
+      let e : getD (noted t n (leadClass lead) inner) (8 * n + 5) 0 ≡ valuePlace inner =
+      rw (note-type t n (leadClass lead) inner c) (getD-set-same t (8 * n + 5) (valuePlace inner) 0 (omega arith)) in
       ap (heldAt s) e ∙ held-one s inner (q .1) o ∙ sym (q .0);
   passed = λ k w e es g x y h. rw (no-type e x) h;
 }
@@ -164,8 +164,8 @@ size-kept : (j : ℕ) → 6 ≤ j → (k c : ℕ) (es : Exprs) (t : List ℕ) (n
     → getD (noted t n c es) (8 * n + j) 0 ≡ getD t (8 * n + j) 0
 size-kept j i k c es t n v x =
     note-sort (λ (u : List ℕ). getD u (8 * n + j) 0 ≡ getD t (8 * n + j) 0) k c es t n v (λ e. absurd (x e))
-    (λ e. getD-set-other t (8 * n + 5) (8 * n + j) (firstPlace es) 0 (λ q. omega arith))
-    (λ e. getD-set-other t (8 * n + 4) (8 * n + j) (firstPlace es) 0 (λ q. omega arith))
+    (λ e. getD-set-other t (8 * n + 5) (8 * n + j) (valuePlace es) 0 (λ q. omega arith))
+    (λ e. getD-set-other t (8 * n + 4) (8 * n + j) (valuePlace es) 0 (λ q. omega arith))
 
 size-word : (t : List ℕ) (n : ℕ) (lead : Expr) (inner : Exprs) → leadClass lead ≡ Class.size → 8 * n + 8 ≤ length t
     → (getD (noted t n (leadClass lead) inner) (8 * n + 6) 0 ≡ widthOr 0 (sizeTree inner))
@@ -207,7 +207,7 @@ height-field s = record {
 }
 
 -- The entry of node n on the tape t has the values of an element that holds es.
-pub record Valued (s t : List ℕ) (n : ℕ) (es : Exprs) : Type 0 where
+pub record TapeHoldsValues (s t : List ℕ) (n : ℕ) (es : Exprs) : Type 0 where
   pub key-is : heldAt s (getD t (8 * n + 4) 0) ≡ keyIn (treesOf es)
   pub type-is : heldAt s (getD t (8 * n + 5) 0) ≡ typeIn (treesOf es)
   pub width-is : getD t (8 * n + 6) 0 ≡ widthIn (treesOf es)
@@ -216,7 +216,7 @@ pub record Valued (s t : List ℕ) (n : ℕ) (es : Exprs) : Type 0 where
 -- So it is after the walk over what a fine element holds.
 pub values-noted : (s t : List ℕ) (at k n : ℕ) (es : Exprs) → 8 * n + 8 ≤ length t → (getD t (8 * n + 4) 0 ≡ 0) × (getD t (8 * n + 5) 0 ≡ 0)
     → (getD t (8 * n + 6) 0 ≡ missing) × (getD t (8 * n + 7) 0 ≡ missing) → LocatedAll s es → Read at k (start k) es
-    → Valued s (tapedAll t (n + 1) n es) n es
+    → TapeHoldsValues s (tapedAll t (n + 1) n es) n es
 values-noted s t at k n es l u v o r =
     let g = read-each at k (start k) es r in
     let m : n < n + 1 = omega arith in

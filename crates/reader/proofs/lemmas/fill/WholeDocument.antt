@@ -14,16 +14,16 @@ use Rattle.document.specs.rules.Lead.{listClass, exprClass}
 use Rattle.document.specs.reference.Meaning.{fine, judgeRoot, treeOf, treesOf, places, allPlaces}
 use Rattle.document.specs.rules.Table.{pool, poolAll, rowsAll, tableOf}
 use Rattle.document.proofs.Blocks.{root-document}
-use Rattle.reader.specs.internal.Counts.{nodesOf}
+use Rattle.reader.specs.internal.Counts.{nodeCount}
 use Rattle.reader.specs.internal.Tape.{taped, Located}
 use Rattle.reader.specs.internal.Filling.{Filling, saidBy, Fits32}
 use Rattle.reader.proofs.lemmas.fill.Rows.{rowsOf, Written}
-use Rattle.reader.proofs.lemmas.fill.RunWrites.{Wrote}
+use Rattle.reader.proofs.lemmas.fill.RunWrites.{WroteRun}
 use Rattle.reader.proofs.lemmas.fill.DocumentRows.{wrote-one}
 
 -- The whole of a document in the lent memory.
-abbrev pub Whole : Expr → Filling → Filling → Type 0
-Whole e a z =
+abbrev pub WroteDocument : Expr → Filling → Filling → Type 0
+WroteDocument e a z =
     (z .words ≡ sets (a .words) 0 (tableOf (says (treeOf e)))) × (z .places ≡ sets (a .places) 0 (places e))
     × (z .pool ≡ sets (a .pool) 0 (pool (says (treeOf e))))
 
@@ -38,7 +38,7 @@ root-said : (e : Expr) → isNode (treeOf e) ≡ true → saidBy (and e none) �
 unfolding saidBy treesOf sayAll
 root-said e i = rw i
 
-root-whole : (e : Expr) (a z : Filling) → a .node ≡ 0 → a .bytes ≡ 0 → exprClass e ≡ Class.document → Wrote missing (and e none) a z → Whole e a z
+root-whole : (e : Expr) (a z : Filling) → a .node ≡ 0 → a .bytes ≡ 0 → exprClass e ≡ Class.document → WroteRun missing (and e none) a z → WroteDocument e a z
 unfolding tableOf rowsAll poolAll allPlaces
 root-whole e a z n b c w = (
   w .words-are ∙ rw (n, b, root-said e (root-node e c), append-nil),
@@ -47,12 +47,12 @@ root-whole e a z n b c w = (
 )
 
 pub filled-whole : (s T : List ℕ) (k : ℕ) (a z : Filling) → a .node ≡ 0 → a .bytes ≡ 0 → k ≤ 4096 → Written s T k a z → (e : Expr) (t : List ℕ)
-    → Located s e → judgeRoot e ≡ fine → length t ≡ 32768 → T ≡ taped t 0 missing e → k ≡ nodesOf e → Fits32 0 (and e none) → Whole e a z
+    → Located s e → judgeRoot e ≡ fine → length t ≡ 32768 → T ≡ taped t 0 missing e → k ≡ nodeCount e → Fits32 0 (and e none) → WroteDocument e a z
 unfolding Fits32
 filled-whole s T k a z n b few w e t o f l is c fits =
     let r = root-document e f in
-    let v : Wrote missing (and e none) a (rowsOf s T (nodesOf e) a) =
+    let v : WroteRun missing (and e none) a (rowsOf s T (nodeCount e) a) =
     wrote-one s T e 0 t 0 missing a n (omega arith) (λ i h h′. ap (λ (u : List ℕ). getD u i 0) is) o (r .1) in
-    let v′ : Wrote missing (and e none) a (rowsOf s T k a) = rw c v in
+    let v′ : WroteRun missing (and e none) a (rowsOf s T k a) = rw c v in
     let i : z ≡ rowsOf s T k a = w .same (omega (arith, v′ .pooled)) in
     root-whole e a z n b (r .0) (rw i v′)

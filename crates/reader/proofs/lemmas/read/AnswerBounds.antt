@@ -28,7 +28,7 @@ use Rattle.document.specs.rules.Command.{notAllowed}
 use Rattle.document.specs.reference.Outcome.{Reading, refused, read, tooDeep, judged, oneExpression}
 use Rattle.document.proofs.RegroupedAll.{Laws, regrouped-all}
 use Rattle.reader.specs.declared.walk.Walked.{Walked}
-use Rattle.reader.specs.internal.Stands.{Stands, ended, after-blank, after-line-end, a-symbol, a-string, a-list}
+use Rattle.reader.specs.internal.RunStands.{RunStands, ended, after-blank, after-line-end, a-symbol, a-string, a-list}
 use Rattle.reader.specs.internal.WalkAnswer.{readWalked}
 use Rattle.reader.specs.internal.FirstGroups.{groupPlace}
 use Rattle.reader.proofs.lemmas.walk.Counts.{weight, weightAll, weighed, stands-weight}
@@ -105,7 +105,7 @@ group-place room text =
 
 -- ---- the places of expressions that stand in a text
 
-stands-placed : {s : List ℕ} {i e : ℕ} {es : Exprs} → Stands s i es e → AllPlaced (length s) es
+stands-placed : {s : List ℕ} {i e : ℕ} {es : Exprs} → RunStands s i es e → AllPlaced (length s) es
 unfolding Placed
 stands-placed (ended h) = tt
 stands-placed (after-blank h st) = stands-placed st
@@ -205,7 +205,7 @@ one-within imperative n (and e es) u t =
     judged-within imperative n (regroup e es) (judgeRoot (regroup e es)) (root-within n (regroup e es) r) r
     (regrouped-all (λ (n : ℕ) (e : Expr). weight e ≤ n) (λ (n : ℕ) (es : Exprs). weightAll es ≤ n) weight-laws n e es t)
 
-module _ (s : Spelling) (text : List ℕ) (es : Exprs) (st : Stands text 0 es (length text)) where
+module _ (s : Spelling) (text : List ℕ) (es : Exprs) (st : RunStands text 0 es (length text)) where
   reading-within : ReadingIn (length text) (oneExpression s (length text) es)
   reading-within = one-within s (length text) es (stands-placed st) (omega (arith, stands-weight st))
 

@@ -35,23 +35,23 @@ use Rattle.document.specs.rules.Account.{no-syntax, NestedForm, as-it-stands}
 use Rattle.document.proofs.Numbers.{refused-number}
 use Rattle.reader.specs.declared.walk.Walked.{Walked}
 use Rattle.reader.specs.internal.WalkAnswer.{readWalked}
-use Rattle.reader.specs.internal.Stands.{Stands}
+use Rattle.reader.specs.internal.RunStands.{RunStands}
 use Rattle.reader.specs.internal.FirstGroups.{groupNumber, groupPlace}
 use Rattle.reader.proofs.lemmas.read.ExpressionPlaces.{forest-stands}
 use Rattle.reader.proofs.lemmas.walk.Counts.{nodes-places, bytes-pool}
 
 -- What is known of a text that passes the groups 1 to 6.
-pub record Passed (s : Spelling) (text : List ℕ) (m : Memory) : Type 0 where
+pub record PassedGroups (s : Spelling) (text : List ℕ) (m : Memory) : Type 0 where
   pub short : length text ≤ 65536
   pub utf8 : IsUtf8 text
   pub es : Exprs
-  pub stands : Stands text 0 es (length text)
+  pub stands : RunStands text 0 es (length text)
   pub shallow : depthAll es ≤ mostLevels s
   pub found-as : reading s text ≡ oneExpression s (length text) es
   pub goes-on : outcome s text m ≡ afterReading text m (oneExpression s (length text) es)
 
 -- The expression of a document that was read, and what is known of it.
-pub record Judged (s : Spelling) (text : List ℕ) (m : Memory) (x : Passed s text m) (w : Walked) : Type 0 where
+pub record DocumentRead (s : Spelling) (text : List ℕ) (m : Memory) (x : PassedGroups s text m) (w : Walked) : Type 0 where
   pub expr : Expr
   pub reads : oneExpression s (length text) (x .es) ≡ read expr
   pub form : NestedForm s (x .es) expr
@@ -111,7 +111,7 @@ module _ (s : Spelling) (text : List ℕ) (m : Memory) where
       go false e false f (Scan.scanned t) g h = absurd (h refl)
 
   passed-scan : ltb 65536 (length text) ≡ false → ltb (validUpTo text) (length text) ≡ false → (r : Scanned) → scan (mostLevels s) text ≡ r → scanNumber r ≡ 0
-      → Passed s text m
+      → PassedGroups s text m
   unfolding outcome reading afterScan scanNumber validUpTo
   passed-scan short whole (Scan.refused n p) e z =
       absurd (omega (arith, refused-number {s = s} {text = text} (no-syntax (refused-fault (mostLevels s) text n p e))))
@@ -127,17 +127,17 @@ module _ (s : Spelling) (text : List ℕ) (m : Memory) where
         goes-on = rw (short, whole, e);
       }
 
-  pub group-passed : groupNumber (mostLevels s) text ≡ 0 → Passed s text m
+  pub group-passed : groupNumber (mostLevels s) text ≡ 0 → PassedGroups s text m
   unfolding groupNumber
   group-passed z = go (ltb 65536 (length text)) refl (ltb (validUpTo text) (length text)) refl z
     where
       go : (a : Bool) → ltb 65536 (length text) ≡ a → (b : Bool) → ltb (validUpTo text) (length text) ≡ b
-          → cond a 1 (cond b 2 (scanNumber (scan (mostLevels s) text))) ≡ 0 → Passed s text m
+          → cond a 1 (cond b 2 (scanNumber (scan (mostLevels s) text))) ≡ 0 → PassedGroups s text m
       go true e b f z = absurd (omega arith)
       go false e true f z = absurd (omega arith)
       go false e false f z = passed-scan e f (scan (mostLevels s) text) refl z
 
-  module _ (x : Passed s text m) (w : Walked) (is : w ≡ readWalked (oneExpression s (length text) (x .es))) where
+  module _ (x : PassedGroups s text m) (w : Walked) (is : w ≡ readWalked (oneExpression s (length text) (x .es))) where
     -- A fault of 7 to 12 is the answer.
     pub judged-refused : (w .number ≡ 0 → ⊥) → outcome s text m ≡ refusal text m (w .number) (w .place)
     unfolding afterReading readWalked
@@ -148,11 +148,11 @@ module _ (s : Spelling) (text : List ℕ) (m : Memory) where
         go (read e′) e = absurd (h (ap (λ (v : Walked). v .number) e))
 
     -- No fault: the document that was read, with its counts, and how the answer goes on.
-    pub judged-read : w .number ≡ 0 → Judged s text m x w
+    pub judged-read : w .number ≡ 0 → DocumentRead s text m x w
     unfolding readWalked afterReading
     judged-read z = go (oneExpression s (length text) (x .es)) refl is
       where
-        go : (r : Reading) → oneExpression s (length text) (x .es) ≡ r → w ≡ readWalked r → Judged s text m x w
+        go : (r : Reading) → oneExpression s (length text) (x .es) ≡ r → w ≡ readWalked r → DocumentRead s text m x w
         go (refused n p) o e = absurd (no-zero s text (x .utf8) (x .es) n p (x .found-as) o (sym (ap (λ (v : Walked). v .number) e) ∙ z))
         go (read e′) o e =
             let (form, ok) = one-read s (length text) (x .es) e′ o in

@@ -35,12 +35,12 @@ use Rattle.validate.specs.Checks.{Checks}
 use Rattle.validate.specs.declared.Checked.{Checked}
 use Rattle.reader.specs.declared.Answer.{Answer}
 use Rattle.reader.specs.declared.walk.Walked.{Walked}
-use Rattle.reader.specs.internal.Stands.{Stands}
+use Rattle.reader.specs.internal.RunStands.{RunStands}
 use Rattle.reader.specs.internal.WalkAnswer.{readWalked}
 use Rattle.reader.specs.internal.TableCheck.{checkPlace, Held}
 use Rattle.reader.specs.internal.FirstGroups.{groupNumber, groupPlace, roomNumber}
-use Rattle.reader.specs.Read.{Answers, Reads}
-use Rattle.reader.specs.internal.Counts.{nodesOf}
+use Rattle.reader.specs.Read.{SameAnswer, Reads}
+use Rattle.reader.specs.internal.Counts.{nodeCount}
 use Rattle.reader.specs.internal.Tape.{taped, Located}
 use Rattle.reader.specs.internal.Filling.{Fits32}
 use Rattle.reader.proofs.lemmas.walk.Counts.{nodes-places}
@@ -48,7 +48,7 @@ use Rattle.reader.proofs.lemmas.read.PoolPlaces.{read-fits}
 use Rattle.reader.proofs.lemmas.read.Located.{form-located}
 use Rattle.reader.proofs.lemmas.read.FaultPlaces.{Placed}
 use Rattle.reader.proofs.lemmas.read.AnswerBounds.{group-place, place-list-within, read-placed, walk-within}
-use Rattle.reader.proofs.lemmas.read.AnswerGroups.{Passed, Judged, group-refused, group-passed, judged-refused, judged-read}
+use Rattle.reader.proofs.lemmas.read.AnswerGroups.{PassedGroups, DocumentRead, group-refused, group-passed, judged-refused, judged-read}
 
 -- ---- the ways through `room`: one of the tests that the nodes fit fails, or none does
 
@@ -194,8 +194,8 @@ module _ (text : List ℕ) (m : Memory) (ps : List ℕ) (d : Node) where
 -- ---- places and counts that fit
 
 -- What the judge of a spelling ensures.
-abbrev pub Judges : Spelling → List ℕ → Walked → Type 0
-Judges s text w = (es : Exprs) → Stands text 0 es (length text) → depthAll es ≤ mostLevels s → w ≡ readWalked (oneExpression s (length text) es)
+abbrev pub JudgesText : Spelling → List ℕ → Walked → Type 0
+JudgesText s text w = (es : Exprs) → RunStands text 0 es (length text) → depthAll es ≤ mostLevels s → w ≡ readWalked (oneExpression s (length text) es)
 
 module _ (s : Spelling) (text : List ℕ) (n p : ℕ) (group : (n ≡ groupNumber (mostLevels s) text) × (p ≡ groupPlace (mostLevels s) text)) where
   pub group-fits : p ≤ 65536
@@ -204,9 +204,9 @@ module _ (s : Spelling) (text : List ℕ) (n p : ℕ) (group : (n ≡ groupNumbe
   pub group-short : n ≡ 0 → length text ≤ 65536
   group-short z = group-passed s text (record { nodes = []; places = []; pool = [] }) (sym (group .0) ∙ z) .short
 
-  pub walk-fits : n ≡ 0 → (w : Walked) → Judges s text w → (w .place ≤ 65536) × (w .nodes ≤ 65536) × (w .pool ≤ 65536)
+  pub walk-fits : n ≡ 0 → (w : Walked) → JudgesText s text w → (w .place ≤ 65536) × (w .nodes ≤ 65536) × (w .pool ≤ 65536)
   walk-fits z w judges =
-      let x : Passed s text (record { nodes = []; places = []; pool = [] }) = group-passed s text _ (sym (group .0) ∙ z) in
+      let x : PassedGroups s text (record { nodes = []; places = []; pool = [] }) = group-passed s text _ (sym (group .0) ∙ z) in
       let short : length text ≤ 65536 = x .short in
       let (a, b, c) = walk-within s text (x .es) (x .stands) w (judges (x .es) (x .stands) (x .shallow)) in
       (omega arith, omega arith, omega arith)
@@ -219,18 +219,18 @@ long : length blankTape ≡ 32768
 long = length-replicate {A = ℕ} 32768 0
 
 -- What the judge of a spelling leaves of the tape t.
-abbrev pub Tapes : Spelling → List ℕ → ℕ → List ℕ → List ℕ → Type 0
-Tapes s text n t tape =
-    (es : Exprs) (e : Expr) → NestedForm s es e → Stands text 0 es (length text) → depthAll es ≤ mostLevels s → n ≡ 0 → length t ≡ 32768
+abbrev pub TapeOfText : Spelling → List ℕ → ℕ → List ℕ → List ℕ → Type 0
+TapeOfText s text n t tape =
+    (es : Exprs) (e : Expr) → NestedForm s es e → RunStands text 0 es (length text) → depthAll es ≤ mostLevels s → n ≡ 0 → length t ≡ 32768
     → tape ≡ taped t 0 4294967295 e
 
 pub nested-tapes : (text : List ℕ) (n : ℕ) (t tape : List ℕ)
-    → ((e : Expr) → Stands text 0 (and e none) (length text) → n ≡ 0 → length t ≡ 32768 → tape ≡ taped t 0 4294967295 e) → Tapes nested text n t tape
+    → ((e : Expr) → RunStands text 0 (and e none) (length text) → n ≡ 0 → length t ≡ 32768 → tape ≡ taped t 0 4294967295 e) → TapeOfText nested text n t tape
 nested-tapes text n t tape h es e as-it-stands st deep z l = h e st z l
 
 pub imperative-tapes : (text : List ℕ) (n : ℕ) (t tape : List ℕ)
-    → ((e : Expr) (es : Exprs) → Stands text 0 (and e es) (length text) → depthAll (and e es) ≤ 59 → n ≡ 0 → length t ≡ 32768
-    → tape ≡ taped t 0 4294967295 (regroup e es)) → Tapes imperative text n t tape
+    → ((e : Expr) (es : Exprs) → RunStands text 0 (and e es) (length text) → depthAll (and e es) ≤ 59 → n ≡ 0 → length t ≡ 32768
+    → tape ≡ taped t 0 4294967295 (regroup e es)) → TapeOfText imperative text n t tape
 unfolding mostLevels
 imperative-tapes text n t tape h es e (regrouped {e = x} {es = xs} k) st deep z l = rw (takes-regroup x k) (h x xs st deep z l)
 
@@ -247,13 +247,13 @@ filled-written m exit e (a, b, c) = rw (← a, ← b, ← c)
 
 abbrev pub Fills : List ℕ → List ℕ → ℕ → Memory → Memory → Type 0
 Fills text tape n m exit =
-    (e : Expr) (t : List ℕ) → Located text e → judgeRoot e ≡ fine → length t ≡ 32768 → tape ≡ taped t 0 4294967295 e → n ≡ nodesOf e → Fits32 0 (and e none)
+    (e : Expr) (t : List ℕ) → Located text e → judgeRoot e ≡ fine → length t ≡ 32768 → tape ≡ taped t 0 4294967295 e → n ≡ nodeCount e → Fits32 0 (and e none)
     → Filled m exit e
 
 -- ---- the ways through a read
 
 module _ (s : Spelling) (text : List ℕ) (m : Memory) where
-  reads-of : (a : Defined.Answer) (exit : Memory) (r : Answer) → outcome s text m ≡ record { answer = a; memory = exit } → Answers a r → Reads s text m r exit
+  reads-of : (a : Defined.Answer) (exit : Memory) (r : Answer) → outcome s text m ≡ record { answer = a; memory = exit } → SameAnswer a r → Reads s text m r exit
   reads-of a exit r e h = record { answers = rw e h; leaves = rw e }
 
   -- After the judge, over the expression that it found.
@@ -266,7 +266,7 @@ module _ (s : Spelling) (text : List ℕ) (m : Memory) where
     room-is : f ≡ full text m (places e) d
     room-is = room ∙ rw (nodes-are, bytes-are)
 
-    full-after : (f ≡ 0 → ⊥) → (r : Answer) → Answers (answerAt text f 0 nodes bytes) r → Reads s text m r m
+    full-after : (f ≡ 0 → ⊥) → (r : Answer) → SameAnswer (answerAt text f 0 nodes bytes) r → Reads s text m r m
     full-after h r =
         reads-of (answerAt text f 0 nodes bytes) m r
         (goes-on ∙ stored-full text m (places e) d (λ q. h (room-is ∙ q)) ∙ rw (← room-is, ← nodes-are, ← bytes-are))
@@ -294,7 +294,7 @@ module _ (s : Spelling) (text : List ℕ) (m : Memory) where
           go sound = omega arith
           go (unsound n i) = place-list-within (length text) e placed i
 
-      filled-after : (r : Answer) → Answers (answerAt text number place nodes bytes) r → Reads s text m r exit
+      filled-after : (r : Answer) → SameAnswer (answerAt text number place nodes bytes) r → Reads s text m r exit
       filled-after r =
           let (q, few, fit) = room-enough-for in
           reads-of (answerAt text number place nodes bytes) exit r
@@ -302,34 +302,34 @@ module _ (s : Spelling) (text : List ℕ) (m : Memory) where
 
   module _ (n p : ℕ) (group : (n ≡ groupNumber (mostLevels s) text) × (p ≡ groupPlace (mostLevels s) text)) where
     -- 1 to 6.
-    pub group-reads : (n ≡ 0 → ⊥) → (r : Answer) → Answers (answerAt text n p 0 0) r → Reads s text m r m
+    pub group-reads : (n ≡ 0 → ⊥) → (r : Answer) → SameAnswer (answerAt text n p 0 0) r → Reads s text m r m
     unfolding refusal
     group-reads h r =
         reads-of (answerAt text n p 0 0) m r (group-refused s text m (λ z. h (group .0 ∙ z)) ∙ rw (← group .0, ← group .1))
 
-    module _ (z : n ≡ 0) (w : Walked) (judges : Judges s text w) where
-      abbrev passed : Passed s text m
+    module _ (z : n ≡ 0) (w : Walked) (judges : JudgesText s text w) where
+      abbrev passed : PassedGroups s text m
       passed = group-passed s text m (sym (group .0) ∙ z)
 
       abbrev is : w ≡ readWalked (oneExpression s (length text) (passed .es))
       is = judges (passed .es) (passed .stands) (passed .shallow)
 
       -- 7 to 12 and 19.
-      pub walk-reads : (w .number ≡ 0 → ⊥) → (r : Answer) → Answers (answerAt text (w .number) (w .place) 0 0) r → Reads s text m r m
+      pub walk-reads : (w .number ≡ 0 → ⊥) → (r : Answer) → SameAnswer (answerAt text (w .number) (w .place) 0 0) r → Reads s text m r m
       unfolding refusal
       walk-reads h r = reads-of (answerAt text (w .number) (w .place) 0 0) m r (judged-refused s text m passed w is h)
 
       module _ (z′ : w .number ≡ 0) (f : ℕ)
           (room : f ≡ roomNumber (length (m .nodes)) (length (m .places)) (length (m .pool)) (w .nodes) (w .pool)) where
-        abbrev found : Judged s text m passed w
+        abbrev found : DocumentRead s text m passed w
         found = judged-read s text m passed w is z′
 
         -- 13 and 14.
-        pub full-reads : (f ≡ 0 → ⊥) → (r : Answer) → Answers (answerAt text f 0 (w .nodes) (w .pool)) r → Reads s text m r m
+        pub full-reads : (f ≡ 0 → ⊥) → (r : Answer) → SameAnswer (answerAt text f 0 (w .nodes) (w .pool)) r → Reads s text m r m
         full-reads =
             full-after (found .expr) (found .fine-root) (found .document) (found .levels) (found .goes-on) (w .nodes) (w .pool) (found .nodes-are) (found .bytes-are) f room
 
-        module _ (y : f ≡ 0) (exit : Memory) (tape : List ℕ) (tapes : Tapes s text (w .number) blankTape tape)
+        module _ (y : f ≡ 0) (exit : Memory) (tape : List ℕ) (tapes : TapeOfText s text (w .number) blankTape tape)
             (fills : Fills text tape (w .nodes) m exit) (number place : ℕ)
             (checks : (d : Node) → Held (exit .nodes) (w .nodes) (exit .pool) (w .pool) d
             → (number ≡ checkNumber (check d)) × (place ≡ checkPlace (exit .places) (check d))) where
@@ -354,7 +354,7 @@ module _ (s : Spelling) (text : List ℕ) (m : Memory) where
               )
 
           -- 15 to 18, and 0.
-          pub filled-reads : (r : Answer) → Answers (answerAt text number place (w .nodes) (w .pool)) r → Reads s text m r exit
+          pub filled-reads : (r : Answer) → SameAnswer (answerAt text number place (w .nodes) (w .pool)) r → Reads s text m r exit
           filled-reads =
               filled-after (found .expr) (found .fine-root) (found .document) (found .levels) (found .goes-on) (w .nodes) (w .pool) (found .nodes-are) (found .bytes-are) f room
               y exit exit-is number place few-bytes checks

@@ -15,8 +15,8 @@ use Rattle.base.specs.rules.Limits.{missing}
 use Rattle.document.specs.rules.Document.{widthOr, heightOr}
 use Rattle.document.specs.rules.Lead.{leadClass}
 use Rattle.document.specs.reference.Meaning.{sizeTree}
-use Rattle.reader.specs.internal.Counts.{nodesOf, nodesIn}
-use Rattle.reader.specs.internal.Tape.{entered, left, firstPlace, noted, taped, tapedList, tapedAll}
+use Rattle.reader.specs.internal.Counts.{nodeCount, nodeCountIn}
+use Rattle.reader.specs.internal.Tape.{entered, left, valuePlace, noted, taped, tapedList, tapedAll}
 
 -- Past the end nothing is stored.
 sets-out : (l : List ℕ) (i : ℕ) (vs : List ℕ) → length l ≤ i → sets l i vs ≡ l
@@ -44,7 +44,7 @@ unfolding noted
 length-noted t n c es =
     cond-case (λ (z : List ℕ). length z ≡ length t) (eqb c Class.size)
     (λ e. length-sets t (8 * n + 6) (widthOr 0 (sizeTree es) ∷ heightOr 0 (sizeTree es) ∷ []))
-    (λ e. length-set t (8 * n + cond (eqb c Class.type) 5 4) (firstPlace es))
+    (λ e. length-set t (8 * n + cond (eqb c Class.type) 5 4) (valuePlace es))
 
 mutual
   unfolding taped
@@ -58,13 +58,13 @@ mutual
   length-list t n parent at none = refl
   length-list t n parent at (and lead es) =
       cond-case (λ (z : List ℕ). length z ≡ length t) (Class.isElement (leadClass lead))
-      (λ h. length-left (tapedAll (entered t n at (leadClass lead) parent 0) (n + 1) n es) n (n + 1 + nodesIn es)
+      (λ h. length-left (tapedAll (entered t n at (leadClass lead) parent 0) (n + 1) n es) n (n + 1 + nodeCountIn es)
       ∙ length-all (entered t n at (leadClass lead) parent 0) (n + 1) n es ∙ length-entered t n at (leadClass lead) parent 0)
       (λ h. length-noted t parent (leadClass lead) es)
 
   pub length-all : (t : List ℕ) (n parent : ℕ) (es : Exprs) → length (tapedAll t n parent es) ≡ length t
   length-all t n parent none = refl
-  length-all t n parent (and e es) = length-all (taped t n parent e) (n + nodesOf e) parent es ∙ length-taped t n parent e
+  length-all t n parent (and e es) = length-all (taped t n parent e) (n + nodeCount e) parent es ∙ length-taped t n parent e
 
 -- What has the same words after it is as long.
 pub kept-full : (t t′ : List ℕ) (n n′ node : ℕ) (es others : Exprs) → length t ≡ 32768 → tapedAll t′ n′ node others ≡ tapedAll t n node es
@@ -76,18 +76,18 @@ taped-full t t′ n node e full h = ap length h ∙ length-taped t n node e ∙ 
 
 -- The tape after a run, by its first expression.
 pub taped-first : (t t′ : List ℕ) (n node : ℕ) (e : Expr) (es : Exprs) → t′ ≡ taped t n node e
-    → tapedAll t′ (n + nodesOf e) node es ≡ tapedAll t n node (and e es)
+    → tapedAll t′ (n + nodeCount e) node es ≡ tapedAll t n node (and e es)
 unfolding taped
 taped-first t t′ n node e es h = rw h
 
 pub taped-on : (t t′ z : List ℕ) (n node : ℕ) (e : Expr) (es : Exprs) → (length t ≡ 32768 → t′ ≡ taped t n node e)
-    → (length t′ ≡ 32768 → z ≡ tapedAll t′ (n + nodesOf e) node es) → length t ≡ 32768 → z ≡ tapedAll t n node (and e es)
+    → (length t′ ≡ 32768 → z ≡ tapedAll t′ (n + nodeCount e) node es) → length t ≡ 32768 → z ≡ tapedAll t n node (and e es)
 taped-on t t′ z n node e es h g full = g (taped-full t t′ n node e full (h full)) ∙ taped-first t t′ n node e es (h full)
 
 -- An element is entered, its content is walked, and it is left.
 pub element-tape : (t t₁ t₂ z : List ℕ) (n node at c m : ℕ) (es : Exprs) → (length t ≡ 32768 → t₁ ≡ entered t n at c node 0)
-    → (length t₁ ≡ 32768 → t₂ ≡ tapedAll t₁ (n + 1) n es) → (length t₂ ≡ 32768 → z ≡ left t₂ n m) → m ≡ n + 1 + nodesIn es → length t ≡ 32768
-    → z ≡ left (tapedAll (entered t n at c node 0) (n + 1) n es) n (n + 1 + nodesIn es)
+    → (length t₁ ≡ 32768 → t₂ ≡ tapedAll t₁ (n + 1) n es) → (length t₂ ≡ 32768 → z ≡ left t₂ n m) → m ≡ n + 1 + nodeCountIn es → length t ≡ 32768
+    → z ≡ left (tapedAll (entered t n at c node 0) (n + 1) n es) n (n + 1 + nodeCountIn es)
 element-tape t t₁ t₂ z n node at c m es f g h e full =
     let a : t₁ ≡ entered t n at c node 0 = f full in
     let long : length t₁ ≡ 32768 = ap length a ∙ length-entered t n at c node 0 ∙ full in
@@ -97,6 +97,6 @@ element-tape t t₁ t₂ z n node at c m es f g h e full =
 
 -- That is the tape after the list which the element is.
 pub taped-element : (t : List ℕ) (n node at c : ℕ) (lead : Expr) (es : Exprs) → leadClass lead ≡ c → Class.isElement c ≡ true
-    → taped t n node (list at (and lead es)) ≡ left (tapedAll (entered t n at c node 0) (n + 1) n es) n (n + 1 + nodesIn es)
+    → taped t n node (list at (and lead es)) ≡ left (tapedAll (entered t n at c node 0) (n + 1) n es) n (n + 1 + nodeCountIn es)
 unfolding taped
 taped-element t n node at c lead es e h = rw (e, h)

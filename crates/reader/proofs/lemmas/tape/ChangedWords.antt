@@ -15,8 +15,8 @@ use Rattle.base.specs.rules.Limits.{missing}
 use Rattle.document.specs.rules.Document.{widthOr, heightOr}
 use Rattle.document.specs.rules.Lead.{leadClass}
 use Rattle.document.specs.reference.Meaning.{sizeTree}
-use Rattle.reader.specs.internal.Counts.{nodesOf, nodesOfList, nodesIn}
-use Rattle.reader.specs.internal.Tape.{entered, left, noted, firstPlace, taped, tapedList, tapedAll}
+use Rattle.reader.specs.internal.Counts.{nodeCount, nodeCountOfList, nodeCountIn}
+use Rattle.reader.specs.internal.Tape.{entered, left, noted, valuePlace, taped, tapedList, tapedAll}
 
 -- A run of stores changes no word before or after it.
 pub sets-other : (l : List ℕ) (j : ℕ) (vs : List ℕ) (i : ℕ) → (j ≤ i → i < j + length vs → ⊥) → getD (sets l j vs) i 0 ≡ getD l i 0
@@ -44,17 +44,17 @@ sizeWords es = widthOr 0 (sizeTree es) ∷ heightOr 0 (sizeTree es) ∷ []
 abbrev pub Beside : ℕ → ℕ → ℕ → Type 0
 Beside n k i = 8 * n ≤ i → i < 8 * (n + k) → ⊥
 
-abbrev pub NoValue : ℕ → ℕ → Type 0
-NoValue n i = 8 * n + 4 ≤ i → i < 8 * n + 8 → ⊥
+abbrev pub NotValueWord : ℕ → ℕ → Type 0
+NotValueWord n i = 8 * n + 4 ≤ i → i < 8 * n + 8 → ⊥
 
-noted-other : (t : List ℕ) (n c : ℕ) (es : Exprs) (i : ℕ) → NoValue n i → getD (noted t n c es) i 0 ≡ getD t i 0
+noted-other : (t : List ℕ) (n c : ℕ) (es : Exprs) (i : ℕ) → NotValueWord n i → getD (noted t n c es) i 0 ≡ getD t i 0
 unfolding noted
 noted-other t n c es i out =
     cond-case (λ (u : List ℕ). getD u i 0 ≡ getD t i 0) (eqb c Class.size)
     (λ e. sets-other t (8 * n + 6) (sizeWords es) i (λ h h′. out (omega arith) (omega arith)))
     (λ e. by (eqb c Class.type))
   where
-    by : (b : Bool) → getD (set t (8 * n + cond b 5 4) (firstPlace es)) i 0 ≡ getD t i 0
+    by : (b : Bool) → getD (set t (8 * n + cond b 5 4) (valuePlace es)) i 0 ≡ getD t i 0
     by true = getD-set-other t (8 * n + 5) i _ 0 (λ e. out (omega arith) (omega arith))
     by false = getD-set-other t (8 * n + 4) i _ 0 (λ e. out (omega arith) (omega arith))
 
@@ -69,46 +69,46 @@ left-other t n end i out = getD-set-other t (8 * n + 3) i end 0 out
 
 -- A node and its descendants.
 abbrev pub elementTape : List ℕ → ℕ → ℕ → ℕ → ℕ → Exprs → List ℕ
-elementTape t n parent at c es = left (tapedAll (entered t n at c parent 0) (n + 1) n es) n (n + 1 + nodesIn es)
+elementTape t n parent at c es = left (tapedAll (entered t n at c parent 0) (n + 1) n es) n (n + 1 + nodeCountIn es)
 
-element-by : (t : List ℕ) (n parent at c : ℕ) (es : Exprs) (i : ℕ) → Beside n (suc (nodesIn es)) i
+element-by : (t : List ℕ) (n parent at c : ℕ) (es : Exprs) (i : ℕ) → Beside n (suc (nodeCountIn es)) i
     → getD (tapedAll (entered t n at c parent 0) (n + 1) n es) i 0 ≡ getD (entered t n at c parent 0) i 0
     → getD (elementTape t n parent at c es) i 0 ≡ getD t i 0
 element-by t n parent at c es i out inside =
-    left-other (tapedAll (entered t n at c parent 0) (n + 1) n es) n (n + 1 + nodesIn es) i (λ e. out (omega arith) (omega arith))
+    left-other (tapedAll (entered t n at c parent 0) (n + 1) n es) n (n + 1 + nodeCountIn es) i (λ e. out (omega arith) (omega arith))
     ∙ inside
     ∙ entered-other t n at c parent 0 i (λ h h′. out (omega arith) (omega arith))
 
 mutual
-  unfolding taped nodesOf
+  unfolding taped nodeCount
 
-  pub taped-other : (t : List ℕ) (n parent : ℕ) (e : Expr) (i : ℕ) → Beside n (nodesOf e) i → NoValue parent i
+  pub taped-other : (t : List ℕ) (n parent : ℕ) (e : Expr) (i : ℕ) → Beside n (nodeCount e) i → NotValueWord parent i
       → getD (taped t n parent e) i 0 ≡ getD t i 0
   taped-other t n parent (symbol at s) i out nv = entered-other t n at Class.text parent (n + 1) i out
   taped-other t n parent (quoted at s) i out nv = entered-other t n at Class.text parent (n + 1) i out
   taped-other t n parent (list at es) i out nv = list-other t n parent at es i out nv
 
-  list-other : (t : List ℕ) (n parent at : ℕ) (es : Exprs) (i : ℕ) → Beside n (nodesOfList es) i → NoValue parent i
+  list-other : (t : List ℕ) (n parent at : ℕ) (es : Exprs) (i : ℕ) → Beside n (nodeCountOfList es) i → NotValueWord parent i
       → getD (tapedList t n parent at es) i 0 ≡ getD t i 0
   list-other t n parent at none i out nv = refl
   list-other t n parent at (and lead es) i out nv =
       cond-case (λ (u : List ℕ). getD u i 0 ≡ getD t i 0) (Class.isElement (leadClass lead))
       (λ e.
-      let o : Beside n (suc (nodesIn es)) i = rw e at out in
+      let o : Beside n (suc (nodeCountIn es)) i = rw e at out in
       element-by t n parent at (leadClass lead) es i o
       (all-other (entered t n at (leadClass lead) parent 0) (n + 1) n es i (λ h h′. o (omega arith) (omega arith))
       (λ h h′. o (omega arith) (omega arith))))
       (λ e. noted-other t parent (leadClass lead) es i nv)
 
-  pub all-other : (t : List ℕ) (n parent : ℕ) (es : Exprs) (i : ℕ) → Beside n (nodesIn es) i → NoValue parent i
+  pub all-other : (t : List ℕ) (n parent : ℕ) (es : Exprs) (i : ℕ) → Beside n (nodeCountIn es) i → NotValueWord parent i
       → getD (tapedAll t n parent es) i 0 ≡ getD t i 0
   all-other t n parent none i out nv = refl
   all-other t n parent (and e es) i out nv =
-      all-other (taped t n parent e) (n + nodesOf e) parent es i (λ h h′. out (omega arith) (omega arith)) nv
+      all-other (taped t n parent e) (n + nodeCount e) parent es i (λ h h′. out (omega arith) (omega arith)) nv
       ∙ taped-other t n parent e i (λ h h′. out (omega arith) (omega arith)) nv
 
 -- An element changes the words of its own nodes only.
-pub element-other : (t : List ℕ) (n parent at c : ℕ) (es : Exprs) (i : ℕ) → Beside n (suc (nodesIn es)) i
+pub element-other : (t : List ℕ) (n parent at c : ℕ) (es : Exprs) (i : ℕ) → Beside n (suc (nodeCountIn es)) i
     → getD (elementTape t n parent at c es) i 0 ≡ getD t i 0
 element-other t n parent at c es i out =
     element-by t n parent at c es i out

@@ -17,10 +17,10 @@ use Rattle.document.specs.rules.Value.{isSize, isDecimal, nonEmpty}
 use Rattle.document.specs.rules.Document.{widthOr, heightOr}
 use Rattle.document.specs.reference.RulesTest.{keepsRules}
 use Rattle.document.specs.reference.Meaning.{numberOf, symbolBytes, sizeTree, judgeValue, fault}
-use Rattle.reader.specs.internal.Stands.{Stands}
+use Rattle.reader.specs.internal.RunStands.{RunStands}
 use Rattle.reader.specs.internal.WalkAnswer.{walkedTo, Bounded}
 use Rattle.reader.specs.internal.Tape.{noted}
-use Rattle.reader.specs.internal.ParameterValue.{Begins, Unfit, Reads, Notes}
+use Rattle.reader.specs.internal.ParameterValue.{BeginsWithNumber, Unfit, ReadsNumber, Notes}
 use Rattle.reader.specs.declared.walk.Walked.{Walked}
 use Rattle.reader.specs.declared.value.Number.{Number}
 use Rattle.reader.proofs.lemmas.walk.SeenExpressions.{SeenAs, saw-end, saw-symbol, saw-string, saw-list, look-stands, seen-bounds}
@@ -76,34 +76,34 @@ module _ {s : List ℕ} {r : Seen} where
   unfit-seen (saw-list {inner} x h k p t d b u) z = not-symbol (list (r .place) inner) refl
 
   symbol-seen : {es : Exprs} {m : ℕ} → SeenAs s r es m → r .sort ≡ 1
-      → (others : Exprs) × (es ≡ and (symbol (r .place) (atomValue (drop (r .place) s))) others) × Stands s (r .next) others m
+      → (others : Exprs) × (es ≡ and (symbol (r .place) (atomValue (drop (r .place) s))) others) × RunStands s (r .next) others m
   symbol-seen (saw-end h) z = absurd (omega arith)
   symbol-seen (saw-symbol {es} h k l p t) z = (es, refl, t)
   symbol-seen (saw-string h k l p t) z = absurd (omega arith)
   symbol-seen (saw-list x h k p t d b u) z = absurd (omega arith)
 
 module _ (s : List ℕ) (i : ℕ) {sort q k j l : ℕ} (looked : Looked s i sort q k j l) (within : i ≤ length s) where
-  none-read : ((es : Exprs) (m : ℕ) → Stands s i es m → Unfit es) → Reads s i (record { number = 65536; next = i })
+  none-read : ((es : Exprs) (m : ℕ) → RunStands s i es m → Unfit es) → ReadsNumber s i (record { number = 65536; next = i })
   none-read h = record { within = λ e. absurd (omega arith); begins = λ e. absurd (omega arith); unfit = λ e. h }
 
-  pub read-other : (sort ≡ 1 → ⊥) → Reads s i (record { number = 65536; next = i })
+  pub read-other : (sort ≡ 1 → ⊥) → ReadsNumber s i (record { number = 65536; next = i })
   read-other z = none-read (λ es m t. unfit-seen (look-stands s i m es t) (λ e. z (looked .0 ∙ e)))
 
   module _ (a : sort ≡ 1) where
-    pub read-stuck : j ≤ i → Reads s i (record { number = 65536; next = i })
+    pub read-stuck : j ≤ i → ReadsNumber s i (record { number = 65536; next = i })
     read-stuck h = none-read (λ es m t. absurd (stuck s i looked within (omega arith) h t))
 
     module _ (h : i < j) where
       pub read-within : q + l ≤ length s
       read-within = let b = seen-bounds s i within .forward (λ e. omega (arith, looked .0)) (rw (looked .3) at h) in omega (arith, b, looked .1, looked .4)
 
-      begins-with : {n : ℕ} → n ≡ numberOf (symbol q (take l (drop q s))) → (es : Exprs) (m : ℕ) → Stands s i es m → Begins s es m n j
+      begins-with : {n : ℕ} → n ≡ numberOf (symbol q (take l (drop q s))) → (es : Exprs) (m : ℕ) → RunStands s i es m → BeginsWithNumber s es m n j
       begins-with e es m t =
           let (others, made, stands) = symbol-seen (look-stands s i m es t) (sym (looked .0) ∙ a) in
           let spelt = symbol-spelt s i (sym (looked .0) ∙ a) in
           record { first = symbol _ _; others = others; made = made; is = rw spelt (rw (looked .1, looked .4) at (sym e)); stands = rw (looked .3) stands }
 
-      pub read-number : {n : ℕ} → n ≡ numberOf (symbol q (take l (drop q s))) → Reads s i (record { number = n; next = j })
+      pub read-number : {n : ℕ} → n ≡ numberOf (symbol q (take l (drop q s))) → ReadsNumber s i (record { number = n; next = j })
       read-number e =
           let b = seen-within s i looked within (omega arith) h in
           record {
@@ -146,19 +146,19 @@ size-notes t m z node a b e e′ f g full p q =
 -- Whatever stands from place i on, r is the answer of a size in an element of kind k, and z the tape t with the size.
 abbrev pub SizeAnswers : List ℕ → ℕ → ℕ → ℕ → ℕ → ℕ → ℕ → List ℕ → Walked → List ℕ → Type 0
 SizeAnswers s at i k n p node t r z =
-    Bounded s i r × (((es : Exprs) (m : ℕ) → Stands s i es m → r ≡ walkedTo m n p (judgeValue k at (sizeTree es))) × Notes s i 29 node t r z)
+    Bounded s i r × (((es : Exprs) (m : ℕ) → RunStands s i es m → r ≡ walkedTo m n p (judgeValue k at (sizeTree es))) × Notes s i 29 node t r z)
 
 module _ {s : List ℕ} {i node : ℕ} {t z : List ℕ} (at k n p : ℕ) where
-  size-bad : ((es : Exprs) (m : ℕ) → Stands s i es m → keepsRules k (sizeTree es) ≡ false)
+  size-bad : ((es : Exprs) (m : ℕ) → RunStands s i es m → keepsRules k (sizeTree es) ≡ false)
       → SizeAnswers s at i k n p node t (walkedTo 0 0 0 (fault 10 at)) z
   unfolding judgeValue
   size-bad h = (refused-within s i at, (λ es m u. rw (h es m u) (refused-as at m n p), refused-notes s i 29 node at t z))
 
-  module _ {w : Number} (width : Reads s i w) where
+  module _ {w : Number} (width : ReadsNumber s i w) where
     pub size-unfit : 65535 < w .number → SizeAnswers s at i k n p node t (walkedTo 0 0 0 (fault 10 at)) z
     size-unfit f = size-bad (λ es m t. unfit-width k es (width .unfit f es m t))
 
-    module _ (f : w .number ≤ 65535) {h : Number} (height : Reads s (w .next) h) where
+    module _ (f : w .number ≤ 65535) {h : Number} (height : ReadsNumber s (w .next) h) where
       pub size-unfit-height : 65535 < h .number → SizeAnswers s at i k n p node t (walkedTo 0 0 0 (fault 10 at)) z
       size-unfit-height g =
           size-bad (λ es m t.

@@ -20,11 +20,11 @@ use Rattle.document.specs.rules.Value.{nonEmpty, every, namesBlock, targetChara
 use Rattle.document.specs.rules.Document.{value, keyOf, typeOf}
 use Rattle.document.specs.reference.RulesTest.{keepsRules}
 use Rattle.document.specs.reference.Meaning.{onlyOne, textBytes, symbolBytes, sizeTree, valueTree, judgeValue, fine, fault}
-use Rattle.reader.specs.internal.Stands.{Stands, ended, after-blank, after-line-end, a-symbol, a-string, a-list}
+use Rattle.reader.specs.internal.RunStands.{RunStands, ended, after-blank, after-line-end, a-symbol, a-string, a-list}
 use Rattle.reader.specs.internal.Counts.{valueSize}
 use Rattle.reader.specs.internal.WalkAnswer.{walkedTo, Bounded}
-use Rattle.reader.specs.internal.Tape.{firstPlace, noted}
-use Rattle.reader.specs.internal.ParameterValue.{holdsSort, heldBytes, Alone, Holds, Notes}
+use Rattle.reader.specs.internal.Tape.{valuePlace, noted}
+use Rattle.reader.specs.internal.ParameterValue.{holdsSort, heldBytes, Alone, HoldsOne, Notes}
 use Rattle.reader.specs.declared.walk.Walked.{Walked}
 use Rattle.reader.specs.declared.value.One.{One}
 use Rattle.reader.proofs.lemmas.walk.FirstToken.{symbol-here, string-here}
@@ -100,7 +100,7 @@ Some (and (symbol at v) es) = 0 < length v
 Some (and (quoted at v) es) = 0 < length v
 Some (and (list at is) es) = Unit {0}
 
-first-some : {s : List ℕ} {i e : ℕ} {es : Exprs} → Stands s i es e → Some es
+first-some : {s : List ℕ} {i e : ℕ} {es : Exprs} → RunStands s i es e → Some es
 unfolding Some
 first-some (ended h) = tt
 first-some (after-blank h st) = first-some st
@@ -152,14 +152,14 @@ holds-atom : (c n : ℕ) → holdsSort c n ≡ true → (n ≡ 0 → ⊥) × (n 
 holds-atom c n f = (λ e. omega (arith, holds-some c n f (omega arith)), λ e. omega (arith, holds-some c n f (omega arith)))
 
 -- What stands first, at place q, counts: its bytes v, and the others from place j on.
-record First (s : List ℕ) (c q j : ℕ) (v : List ℕ) (es : Exprs) (m : ℕ) : Type 0 where
+record FirstHeld (s : List ℕ) (c q j : ℕ) (v : List ℕ) (es : Exprs) (m : ℕ) : Type 0 where
   first : Expr
   others : Exprs
   made : es ≡ and first others
   placed : place first ≡ q
   bytes : heldOf c first ≡ v
   some : 0 < length v
-  stands : Stands s j others m
+  stands : RunStands s j others m
 
 module _ {s : List ℕ} {r : Seen} where
   held-not : (c : ℕ) {es : Exprs} {m : ℕ} → SeenAs s r es m → holdsSort c (r .sort) ≡ false → heldBytes c es ≡ []
@@ -172,7 +172,7 @@ module _ {s : List ℕ} {r : Seen} where
   held-not c (saw-list {inner} {es} x h k p t d b u) f = held-nothing c (list (r .place) inner) es (same-cond (eqb c Class.type) [])
 
   held-first : (c : ℕ) {es : Exprs} {m : ℕ} → Some es → SeenAs s r es m → holdsSort c (r .sort) ≡ true
-      → First s c (r .place) (r .next) (atomValue (drop (r .place) s)) es m × (r .length ≡ length (atomValue (drop (r .place) s)))
+      → FirstHeld s c (r .place) (r .next) (atomValue (drop (r .place) s)) es m × (r .length ≡ length (atomValue (drop (r .place) s)))
   unfolding Some symbolBytes textBytes place
   held-first c n (saw-end h) f = absurd (holds-atom c (r .sort) f .0 h)
   held-first c n (saw-symbol {es} h k l p t) f = (
@@ -207,14 +207,14 @@ module _ {s : List ℕ} {r : Seen} where
   seen-more (saw-list {inner} {es} x h k p t d b u) z = (_, es, refl)
 
 -- Where expressions stand, something is passed.
-pub stuck : (s : List ℕ) (i : ℕ) {sort q c j l : ℕ} {es : Exprs} {m : ℕ} → Looked s i sort q c j l → i ≤ length s → (sort ≡ 0 → ⊥) → j ≤ i → Stands s i es m → ⊥
+pub stuck : (s : List ℕ) (i : ℕ) {sort q c j l : ℕ} {es : Exprs} {m : ℕ} → Looked s i sort q c j l → i ≤ length s → (sort ≡ 0 → ⊥) → j ≤ i → RunStands s i es m → ⊥
 stuck s i {es = es} {m = m} looked within some h t =
     omega (arith, seen-bounds s i within .place-from, looked .3, seen-forward (look-stands s i m es t) (λ e. some (looked .0 ∙ e)))
 
 -- ---- the ways through `only`
 
 module _ {s : List ℕ} {i sort q k j l : ℕ} (c : ℕ) (looked : Looked s i sort q k j l) (within : i ≤ length s) where
-  pub only-nothing : holdsSort c sort ≡ false → Holds s i c (record { good = false; place = 0; length = 0; end = 0 })
+  pub only-nothing : holdsSort c sort ≡ false → HoldsOne s i c (record { good = false; place = 0; length = 0; end = 0 })
   only-nothing f =
       record {
         within = λ e. let z : _≡_ {A = ℕ} 0 1 = cc in absurd (omega arith);
@@ -223,7 +223,7 @@ module _ {s : List ℕ} {i sort q k j l : ℕ} (c : ℕ) (looked : Looked s i so
       }
 
   module _ (f : holdsSort c sort ≡ true) where
-    pub only-stuck : j ≤ i → Holds s i c (record { good = false; place = 0; length = 0; end = 0 })
+    pub only-stuck : j ≤ i → HoldsOne s i c (record { good = false; place = 0; length = 0; end = 0 })
     only-stuck h =
         record {
           within = λ e. let z : _≡_ {A = ℕ} 0 1 = cc in absurd (omega arith);
@@ -231,13 +231,13 @@ module _ {s : List ℕ} {i sort q k j l : ℕ} (c : ℕ) (looked : Looked s i so
           alone = λ e. let z : _≡_ {A = ℕ} 0 1 = cc in absurd (omega arith);
         }
 
-    first-of : (es : Exprs) (m : ℕ) → Stands s i es m → First s c q j (atomValue (drop q s)) es m × (l ≡ length (atomValue (drop q s)))
+    first-of : (es : Exprs) (m : ℕ) → RunStands s i es m → FirstHeld s c q j (atomValue (drop q s)) es m × (l ≡ length (atomValue (drop q s)))
     first-of es m t = rw (looked .1, looked .3, looked .4) (held-first c (first-some t) (look-stands s i m es t) (rw (← (looked .0)) f))
 
     -- After it `sort′` is seen at `q′`.
     pub only-one : {sort′ q′ k′ j′ l′ : ℕ} → i < j → Looked s j sort′ q′ k′ j′ l′
-        → Holds s i c (record { good = eqb sort′ 0; place = q; length = l; end = q′ })
-    unfolding firstPlace
+        → HoldsOne s i c (record { good = eqb sort′ 0; place = q; length = l; end = q′ })
+    unfolding valuePlace
     only-one {sort′} {q′} h last =
         let (fits, long) = seen-within s i looked within (holds-atom c sort f .0) h in
         let after = seen-bounds s j fits in
@@ -251,12 +251,12 @@ module _ {s : List ℕ} {i sort q k j l : ℕ} (c : ℕ) (looked : Looked s i so
           alone = λ e es m t. let (x, more) = first-of es m t in alone′ (eqb-true sort′ 0 e) m x more;
         }
       where
-        nothing′ : eqb sort′ 0 ≡ false → {es : Exprs} (m : ℕ) → First s c q j (atomValue (drop q s)) es m → heldBytes c es ≡ []
+        nothing′ : eqb sort′ 0 ≡ false → {es : Exprs} (m : ℕ) → FirstHeld s c q j (atomValue (drop q s)) es m → heldBytes c es ≡ []
         nothing′ e m x =
             let (e′, es′, made) = seen-more (look-stands s j m (x .others) (x .stands)) (λ z. eqb-false sort′ 0 e (last .0 ∙ z)) in
             rw (x .made, made) (held-two c (x .first) e′ es′)
 
-        alone′ : sort′ ≡ 0 → {es : Exprs} (m : ℕ) → First s c q j (atomValue (drop q s)) es m → l ≡ length (atomValue (drop q s))
+        alone′ : sort′ ≡ 0 → {es : Exprs} (m : ℕ) → FirstHeld s c q j (atomValue (drop q s)) es m → l ≡ length (atomValue (drop q s))
             → Alone c es m q (atomValue (drop q s)) l q′
         alone′ e m x long =
             let (made, ends) = seen-ends (look-stands s j m (x .others) (x .stands)) (sym (last .0) ∙ e) in
@@ -308,7 +308,7 @@ pub word-small : (c : ℕ) {w : ℕ} → w ≡ cond (eqb c Class.type) 5 4 → w
 word-small c e = rw e (cond-case (λ (w : ℕ). w < 8) (eqb c Class.type) (λ h. omega arith) (λ h. omega arith))
 
 -- The place of what a parameter holds is noted.
-held-notes : (t z : List ℕ) (node c w q : ℕ) (es : Exprs) → (c ≡ 29 → ⊥) → w ≡ cond (eqb c Class.type) 5 4 → firstPlace es ≡ q
+held-notes : (t z : List ℕ) (node c w q : ℕ) (es : Exprs) → (c ≡ 29 → ⊥) → w ≡ cond (eqb c Class.type) 5 4 → valuePlace es ≡ q
     → z ≡ set t (8 * node + w) q → z ≡ noted t node c es
 unfolding noted
 held-notes t z node c w q es h e f g = rw (ne-eqb c 29 h, f, ← e) g
@@ -316,18 +316,18 @@ held-notes t z node c w q es h e f g = rw (ne-eqb c 29 h, f, ← e) g
 -- Whatever stands from place i on, r is the answer of the value of a parameter of class c in an element of kind k, and z the tape t with the value.
 abbrev pub ValueAnswers : List ℕ → ℕ → ℕ → ℕ → ℕ → ℕ → ℕ → ℕ → List ℕ → Walked → List ℕ → Type 0
 ValueAnswers s at i k c n p node t r z =
-    Bounded s i r × (((es : Exprs) (m : ℕ) → Stands s i es m → r ≡ walkedTo m n (p + valueSize c es) (judgeValue k at (valueTree c es)))
+    Bounded s i r × (((es : Exprs) (m : ℕ) → RunStands s i es m → r ≡ walkedTo m n (p + valueSize c es) (judgeValue k at (valueTree c es)))
     × Notes s i c node t r z)
 
 module _ {s : List ℕ} {i c node : ℕ} {t z : List ℕ} (at k n p : ℕ) where
   pub value-size : c ≡ 29 → {r : Walked}
-      → Bounded s i r × (((es : Exprs) (m : ℕ) → Stands s i es m → r ≡ walkedTo m n p (judgeValue k at (sizeTree es))) × Notes s i 29 node t r z)
+      → Bounded s i r × (((es : Exprs) (m : ℕ) → RunStands s i es m → r ≡ walkedTo m n p (judgeValue k at (sizeTree es))) × Notes s i 29 node t r z)
       → ValueAnswers s at i k c n p node t r z
   unfolding valueSize valueTree keyOf typeOf
   value-size h (bounded, (answers, notes)) =
       (bounded, (λ es m u. let (x, y, made) = size-tree es in rw (h, made, add-zero p) (rw made at (answers es m u)), rw h notes))
 
-  module _ (h : c ≡ 29 → ⊥) {o : One} (holds : Holds s i c o) where
+  module _ (h : c ≡ 29 → ⊥) {o : One} (holds : HoldsOne s i c o) where
     pub value-nothing : o .good ≡ false → ValueAnswers s at i k c n p node t (walkedTo 0 0 0 (fault 10 at)) z
     value-nothing g = (
       refused-within s i at,

@@ -13,8 +13,8 @@ use Rattle.document.specs.rules.Document.{Tree, text, value, size, element, Tre
 use Rattle.document.specs.rules.Lead.{leadClass}
 use Rattle.document.specs.reference.Meaning.{textBytes, symbolBytes, onlyOne, sizeTree, valueTree, treeOf, listTree, treesOf, places, listPlaces, allPlaces}
 use Rattle.document.specs.rules.Table.{pool, poolAll}
-use Rattle.reader.specs.internal.Stands.{Stands, ended, after-blank, after-line-end, a-symbol, a-string, a-list}
-use Rattle.reader.specs.internal.Counts.{valueSize, nodesOf, nodesOfList, nodesIn, bytesOf, bytesOfList, bytesIn}
+use Rattle.reader.specs.internal.RunStands.{RunStands, ended, after-blank, after-line-end, a-symbol, a-string, a-list}
+use Rattle.reader.specs.internal.Counts.{valueSize, nodeCount, nodeCountOfList, nodeCountIn, poolBytes, poolBytesOfList, poolBytesIn}
 use Rattle.reader.proofs.lemmas.walk.FirstToken.{SymbolHere, symbol-here, StringHere, string-here}
 
 -- ---- nodes
@@ -24,19 +24,19 @@ under-cond true at l n e = ap suc e
 under-cond false at l n e = refl
 
 mutual
-  unfolding places nodesOf
+  unfolding places nodeCount
 
   -- One place for each node.
-  pub nodes-places : (e : Expr) → length (places e) ≡ nodesOf e
+  pub nodes-places : (e : Expr) → length (places e) ≡ nodeCount e
   nodes-places (symbol at s) = refl
   nodes-places (quoted at s) = refl
   nodes-places (list at es) = list-places at es
 
-  list-places : (at : ℕ) (es : Exprs) → length (listPlaces at es) ≡ nodesOfList es
+  list-places : (at : ℕ) (es : Exprs) → length (listPlaces at es) ≡ nodeCountOfList es
   list-places at none = refl
-  list-places at (and e es) = under-cond (Class.isElement (leadClass e)) at (allPlaces es) (nodesIn es) (all-places es)
+  list-places at (and e es) = under-cond (Class.isElement (leadClass e)) at (allPlaces es) (nodeCountIn es) (all-places es)
 
-  pub all-places : (es : Exprs) → length (allPlaces es) ≡ nodesIn es
+  pub all-places : (es : Exprs) → length (allPlaces es) ≡ nodeCountIn es
   all-places none = refl
   all-places (and e es) = length-append (places e) (allPlaces es) ∙ cc (nodes-places e, all-places es)
 
@@ -95,73 +95,73 @@ value-size : (c : ℕ) (es : Exprs) → treeSize (valueTree c es) ≡ valueSize 
 unfolding treeSize valueSize
 value-size c es = rw (value-no-node c es) (omega arith)
 
-list-size : (c : ℕ) (es : Exprs) (b : Bool) → treesSize (treesOf es) ≡ bytesIn es
-    → treeSize (cond b (element c (treesOf es)) (valueTree c es)) ≡ cond b (bytesIn es) (valueSize c es)
+list-size : (c : ℕ) (es : Exprs) (b : Bool) → treesSize (treesOf es) ≡ poolBytesIn es
+    → treeSize (cond b (element c (treesOf es)) (valueTree c es)) ≡ cond b (poolBytesIn es) (valueSize c es)
 list-size c es true h = element-size c (treesOf es) ∙ h
 list-size c es false h = value-size c es
 
 mutual
-  unfolding treeOf bytesOf
+  unfolding treeOf poolBytes
 
-  tree-size : (e : Expr) → treeSize (treeOf e) ≡ bytesOf e
+  tree-size : (e : Expr) → treeSize (treeOf e) ≡ poolBytes e
   tree-size (symbol at s) = text-size s
   tree-size (quoted at s) = text-size s
   tree-size (list at es) = list-tree-size es
 
-  list-tree-size : (es : Exprs) → treeSize (listTree es) ≡ bytesOfList es
+  list-tree-size : (es : Exprs) → treeSize (listTree es) ≡ poolBytesOfList es
   list-tree-size none = element-size 0 empty ∙ empty-size
   list-tree-size (and e es) = list-size (leadClass e) es (Class.isElement (leadClass e)) (trees-size es)
 
-  trees-size : (es : Exprs) → treesSize (treesOf es) ≡ bytesIn es
+  trees-size : (es : Exprs) → treesSize (treesOf es) ≡ poolBytesIn es
   trees-size none = empty-size
   trees-size (and e es) = holds-size (treeOf e) (treesOf es) ∙ cc (tree-size e, trees-size es)
 
 -- The pool of what an expression says has as many bytes as it brings.
-pub bytes-pool : (e : Expr) → T (isNode (treeOf e)) → length (pool (says (treeOf e))) ≡ bytesOf e
+pub bytes-pool : (e : Expr) → T (isNode (treeOf e)) → length (pool (says (treeOf e))) ≡ poolBytes e
 bytes-pool e t = node-size (treeOf e) t ∙ tree-size e
 
 -- ---- no more than the bytes read
 
 -- The one text or symbol that a value holds is within what it is read from.
-text-within : (e : Expr) → length (textBytes e) ≤ bytesOf e
-unfolding textBytes bytesOf
+text-within : (e : Expr) → length (textBytes e) ≤ poolBytes e
+unfolding textBytes poolBytes
 text-within (symbol at s) = omega arith
 text-within (quoted at s) = omega arith
 text-within (list at es) = omega arith
 
-symbol-within : (e : Expr) → length (symbolBytes e) ≤ bytesOf e
-unfolding symbolBytes bytesOf
+symbol-within : (e : Expr) → length (symbolBytes e) ≤ poolBytes e
+unfolding symbolBytes poolBytes
 symbol-within (symbol at s) = omega arith
 symbol-within (quoted at s) = omega arith
 symbol-within (list at es) = omega arith
 
-only-within : (f : Expr → List ℕ) → ((e : Expr) → length (f e) ≤ bytesOf e) → (es : Exprs) → length (onlyOne f es) ≤ bytesIn es
-unfolding onlyOne bytesOf
+only-within : (f : Expr → List ℕ) → ((e : Expr) → length (f e) ≤ poolBytes e) → (es : Exprs) → length (onlyOne f es) ≤ poolBytesIn es
+unfolding onlyOne poolBytes
 only-within f h none = omega arith
 only-within f h (and e none) = omega (arith, h e)
 only-within f h (and e (and e′ es)) = omega arith
 
-value-within : (c : ℕ) (es : Exprs) → valueSize c es ≤ bytesIn es
+value-within : (c : ℕ) (es : Exprs) → valueSize c es ≤ poolBytesIn es
 unfolding valueSize valueTree keyOf typeOf
 value-within c es =
-    cond-case (λ (t : Tree). length (keyOf t) + length (typeOf t) ≤ bytesIn es) (eqb c Class.size)
+    cond-case (λ (t : Tree). length (keyOf t) + length (typeOf t) ≤ poolBytesIn es) (eqb c Class.size)
     (λ e. let (w, h, p) = size-tree es in rw p (omega arith)) (λ e. go (eqb c Class.type))
   where
-    go : (b : Bool) → let held : List ℕ = cond b (onlyOne symbolBytes es) (onlyOne textBytes es) in length (cond b [] held) + length (cond b held []) ≤ bytesIn es
+    go : (b : Bool) → let held : List ℕ = cond b (onlyOne symbolBytes es) (onlyOne textBytes es) in length (cond b [] held) + length (cond b held []) ≤ poolBytesIn es
     go true = omega (arith, only-within symbolBytes symbol-within es)
     go false = omega (arith, only-within textBytes text-within es)
 
-list-nodes : (es : Exprs) → nodesOfList es ≤ suc (nodesIn es)
-unfolding nodesOf
+list-nodes : (es : Exprs) → nodeCountOfList es ≤ suc (nodeCountIn es)
+unfolding nodeCount
 list-nodes none = omega arith
-list-nodes (and e es) = cond-case (λ (n : ℕ). n ≤ suc (nodesOf e + nodesIn es)) (Class.isElement (leadClass e)) (λ x. omega arith) (λ x. omega arith)
+list-nodes (and e es) = cond-case (λ (n : ℕ). n ≤ suc (nodeCount e + nodeCountIn es)) (Class.isElement (leadClass e)) (λ x. omega arith) (λ x. omega arith)
 
-list-bytes : (es : Exprs) → bytesOfList es ≤ bytesIn es
-unfolding bytesOf
+list-bytes : (es : Exprs) → poolBytesOfList es ≤ poolBytesIn es
+unfolding poolBytes
 list-bytes none = omega arith
 list-bytes (and e es) =
-    let h : valueSize (leadClass e) es ≤ bytesIn es = value-within (leadClass e) es in
-    cond-case (λ (n : ℕ). n ≤ bytesOf e + bytesIn es) (Class.isElement (leadClass e)) (λ x. omega arith) (λ x. omega arith)
+    let h : valueSize (leadClass e) es ≤ poolBytesIn es = value-within (leadClass e) es in
+    cond-case (λ (n : ℕ). n ≤ poolBytes e + poolBytesIn es) (Class.isElement (leadClass e)) (λ x. omega arith) (λ x. omega arith)
 
 -- At least the nodes and the pool bytes of an expression, and at most its bytes in the text; regrouping never adds to it.
 unfoldable mutual
@@ -175,21 +175,21 @@ unfoldable mutual
   weightAll (and e es) = weight e + weightAll es
 
 mutual
-  unfolding weight nodesOf bytesOf
+  unfolding weight nodeCount poolBytes
 
-  pub weighed : (e : Expr) → (nodesOf e ≤ weight e) × (bytesOf e ≤ weight e)
+  pub weighed : (e : Expr) → (nodeCount e ≤ weight e) × (poolBytes e ≤ weight e)
   weighed (symbol at s) = (omega arith, omega arith)
   weighed (quoted at s) = (omega arith, omega arith)
   weighed (list at es) = let (n, b) = all-weighed es in (omega (arith, list-nodes es), omega (arith, list-bytes es))
 
-  all-weighed : (es : Exprs) → (nodesIn es ≤ weightAll es) × (bytesIn es ≤ weightAll es)
+  all-weighed : (es : Exprs) → (nodeCountIn es ≤ weightAll es) × (poolBytesIn es ≤ weightAll es)
   all-weighed none = (omega arith, omega arith)
   all-weighed (and e es) =
       let (n, b) = weighed e in
       let (n′, b′) = all-weighed es in
       (omega arith, omega arith)
 
-pub stands-weight : {s : List ℕ} {i e : ℕ} {es : Exprs} → Stands s i es e → i + weightAll es ≤ e
+pub stands-weight : {s : List ℕ} {i e : ℕ} {es : Exprs} → RunStands s i es e → i + weightAll es ≤ e
 unfolding weight
 stands-weight (ended h) = omega arith
 stands-weight (after-blank h st) = omega (arith, stands-weight st)

@@ -18,8 +18,8 @@ use Rattle.syntax.specs.reference.Scan.{ordinaryRun}
 use Rattle.lexer.specs.Token.{blanks, stringAt, atomValue, leadClassAt, leadLength, seenBy, seenFirst, seen}
 use Rattle.syntax.proofs.Classes.{ByteOf, class-byte}
 use Rattle.lexer.proofs.Blanks.{blanks-fit, run-fits}
-use Rattle.reader.specs.internal.Stands.{Has}
-use Rattle.reader.proofs.lemmas.walk.QuotedStrings.{Spans, string-spans, string-value}
+use Rattle.reader.specs.internal.RunStands.{Has}
+use Rattle.reader.proofs.lemmas.walk.QuotedStrings.{StringSpans, string-spans, string-value}
 
 -- ---- lengths
 
@@ -72,12 +72,12 @@ pub has-drop : (s : List ℕ) (i : ℕ) (c : ByteClass) → Has s i c → drop i
 has-drop s i c h = let l : i < length s = h .inside in rw (add-one i) (drop-cons s i 0 l)
 
 -- White space leads from place i to place j: what is seen from both is the same.
-pub record Passes (s : List ℕ) (i j : ℕ) : Type 0 where
+pub record SeenAlike (s : List ℕ) (i j : ℕ) : Type 0 where
   pub same-seen : seen i (drop i s) ≡ seen j (drop j s)
   pub same-class : leadClassAt (drop i s) ≡ leadClassAt (drop j s)
   pub same-place : i + leadLength (drop i s) ≡ j + leadLength (drop j s)
 
-passes-byte : (s : List ℕ) (i : ℕ) (c : ByteClass) → Has s i c → blanks (getD s i 0 ∷ drop (i + 1) s) ≡ suc (blanks (drop (i + 1) s)) → Passes s i (i + 1)
+passes-byte : (s : List ℕ) (i : ℕ) (c : ByteClass) → Has s i c → blanks (getD s i 0 ∷ drop (i + 1) s) ≡ suc (blanks (drop (i + 1) s)) → SeenAlike s i (i + 1)
 unfolding seen leadClassAt leadLength
 passes-byte s i c h e =
     let n : ℕ = blanks (drop (i + 1) s) in
@@ -88,7 +88,7 @@ passes-byte s i c h e =
       same-place = rw (has-drop s i c h, e) (omega arith);
     }
 
-pub passes-blank : (s : List ℕ) (i : ℕ) → Has s i blank → Passes s i (i + 1)
+pub passes-blank : (s : List ℕ) (i : ℕ) → Has s i blank → SeenAlike s i (i + 1)
 unfolding blanks isBlank blankClass
 passes-blank s i h = passes-byte s i blank h (rw (h .is))
 
@@ -99,17 +99,17 @@ return-byte b e = let x : ByteOf b return = rw e at (class-byte b) in x
 pub quote-byte : (b : ℕ) → byteClass b ≡ quote → b ≡ 0x22
 quote-byte b e = let x : ByteOf b quote = rw e at (class-byte b) in x
 
-pub passes-line-end : (s : List ℕ) (i : ℕ) → Has s i return → getD s (i + 1) 0 ≡ 0x0A → Passes s i (i + 2)
+pub passes-line-end : (s : List ℕ) (i : ℕ) → Has s i return → getD s (i + 1) 0 ≡ 0x0A → SeenAlike s i (i + 2)
 unfolding blanks isBlank blankClass byteClass
 passes-line-end s i h e =
     let b : getD s i 0 ≡ 0x0D = return-byte (getD s i 0) (h .is) in
     let f : getD (drop (i + 1) s) 0 0 ≡ 0x0A = getD-drop (i + 1) s 0 0 ∙ rw (add-zero (i + 1)) e in
-    let first : Passes s i (i + 1) = passes-byte s i return h (rw (b, f)) in
+    let first : SeenAlike s i (i + 1) = passes-byte s i return h (rw (b, f)) in
     let inside : i + 1 < length s = bool-case (ltb (i + 1) (length s)) (ltb-true (i + 1) (length s))
     (λ x. let l : length s ≤ i + 1 = ltb-false (i + 1) (length s) x in let z : 0x0A ≡ 0 = sym e ∙ List·getD-eq-default s 0 l in absurd (omega arith)) in
-    let second : Passes s (i + 1) (i + 1 + 1) = passes-blank s (i + 1) (record { inside = inside; is = rw e }) in
+    let second : SeenAlike s (i + 1) (i + 1 + 1) = passes-blank s (i + 1) (record { inside = inside; is = rw e }) in
     let two : i + 1 + 1 ≡ i + 2 = omega arith in
-    let last : Passes s (i + 1) (i + 2) = rw two at second in
+    let last : SeenAlike s (i + 1) (i + 2) = rw two at second in
     record {
       same-seen = first .same-seen ∙ last .same-seen;
       same-class = first .same-class ∙ last .same-class;
@@ -117,19 +117,19 @@ passes-line-end s i h e =
     }
 
 -- What is seen where white space ends.
-pub record Here (s : List ℕ) (i : ℕ) (c : ByteClass) : Type 0 where
+pub record TokenHere (s : List ℕ) (i : ℕ) (c : ByteClass) : Type 0 where
   pub sees : seen i (drop i s) ≡ seenBy i (getD s i 0) (drop (i + 1) s) c
   pub class : leadClassAt (drop i s) ≡ Class.classOf (ordinaryRun (drop i s))
-  pub length : leadLength (drop i s) ≡ lib.ListN.length (ordinaryRun (drop i s))
+  pub lead-length-is : leadLength (drop i s) ≡ length (ordinaryRun (drop i s))
 
-pub here : (s : List ℕ) (i : ℕ) (c : ByteClass) → Has s i c → solid c ≡ true → Here s i c
+pub here : (s : List ℕ) (i : ℕ) (c : ByteClass) → Has s i c → solid c ≡ true → TokenHere s i c
 unfolding seen seenFirst leadClassAt leadLength
 here s i c h e =
     let none : blanks (getD s i 0 ∷ drop (i + 1) s) ≡ 0 = solid-blanks (getD s i 0) (drop (i + 1) s) (rw (h .is) e) in
     record {
       sees = rw (has-drop s i c h, none, add-zero i, h .is);
       class = rw (has-drop s i c h, none);
-      length = rw (has-drop s i c h, none) (omega arith);
+      lead-length-is = rw (has-drop s i c h, none) (omega arith);
     }
 
 -- A symbol that stands at place i: it is not empty and stands within the text.
@@ -159,7 +159,7 @@ string-here s i h e =
     let t : List ℕ = drop (i + 1) s in
     let d : drop i s ≡ 0x22 ∷ t = has-drop s i quote h ∙ rw (quote-byte (getD s i 0) (h .is)) in
     let e′ : stringAt i (0x22 ∷ t) .number ≡ 0 = rw d at e in
-    let r : Spans i (suc (length t)) (stringAt i (0x22 ∷ t)) = string-spans i 0x22 t e′ in
+    let r : StringSpans i (suc (length t)) (stringAt i (0x22 ∷ t)) = string-spans i 0x22 t e′ in
     let v : stringAt i (0x22 ∷ t) .length ≡ length (atomValue (0x22 ∷ t)) = string-value i t e′ in
     let l : i + suc (length t) ≡ length s = omega (arith, length-drop (i + 1) s, h .inside) in
     record { within = rw d (omega arith); fits = rw d (omega arith); value = rw d v }

@@ -17,7 +17,7 @@ use Rattle.kind.specs.Machine.{stateOf}
 use Rattle.document.specs.rules.Faults.{Begun, Next, Taken, Allowed}
 use Rattle.document.proofs.Classes.{chosen-allowed}
 use Rattle.document.proofs.Steps.{begunOf, stepped as step-says}
-use Rattle.reader.specs.internal.Walk.{Takes}
+use Rattle.reader.specs.internal.Walk.{StepTakes}
 
 -- No parameter may come.
 abbrev pub Bare : State → Type 0
@@ -58,7 +58,7 @@ none-next e (Next.passed-over f r) = omega (arith, ap length e)
 none-next e (Next.both-passed-over f g r) = omega (arith, ap length e)
 
 -- What a list takes is an item, and after it no parameter may come.
-pub item-taken : (k st c st′ : ℕ) → IsList k → Bare (stateOf k st) → Takes k st c st′ → (c ≡ 18) × Bare (stateOf k st′)
+pub item-taken : (k st c st′ : ℕ) → IsList k → Bare (stateOf k st) → StepTakes k st c st′ → (c ≡ 18) × Bare (stateOf k st′)
 item-taken k st c st′ l b e = by (stateOf k st) (stateOf k st′) b (rw e at (step-says k (stateOf k st) c))
   where
     by : (s s′ : State) → Bare s → Taken k c (begunOf s) (begunOf s′) → (c ≡ 18) × Bare s′

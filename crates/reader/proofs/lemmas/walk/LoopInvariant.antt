@@ -18,12 +18,12 @@ use Rattle.kind.proofs.Steps.{start-state}
 use Rattle.syntax.specs.rules.Expression.{Expr, list, Exprs, and}
 use Rattle.document.specs.rules.Lead.{exprClass, listClass}
 use Rattle.document.specs.reference.Meaning.{Verdict, fine, fault, finish, run, judge, judgeValue, valueTree}
-use Rattle.reader.specs.internal.Stands.{Stands}
-use Rattle.reader.specs.internal.Counts.{nodesOf, nodesIn, bytesOf, bytesIn, valueSize}
+use Rattle.reader.specs.internal.RunStands.{RunStands}
+use Rattle.reader.specs.internal.Counts.{nodeCount, nodeCountIn, poolBytes, poolBytesIn, valueSize}
 use Rattle.reader.specs.internal.WalkAnswer.{walkedTo, Bounded}
 use Rattle.reader.specs.internal.Tape.{entered, left, taped}
 use Rattle.reader.specs.internal.ParameterValue.{Notes}
-use Rattle.reader.specs.internal.Walk.{whole, Answers, Finishes, Left, Goes, Opened, Opens, Passes, Judges, verdictOf, pastBracket}
+use Rattle.reader.specs.internal.Walk.{runAnswer, AnswersFrom, Finishes, Remaining, Goes, NamedListFirst, TakesList, TakesAtom, JudgesList, verdictOf, pastBracket}
 use Rattle.reader.specs.declared.walk.Walked.{Walked}
 use Rattle.reader.proofs.lemmas.walk.ListItems.{IsList}
 use Rattle.reader.proofs.lemmas.tape.AfterWalk.{kept-full, taped-first, element-tape}
@@ -50,7 +50,7 @@ begun h a b =
 
 -- The answer from where a walk has got to is the answer of the walk.
 pub answered : {s t₀ t z : List ℕ} {at k node from nodes pool i st n p : ℕ} {w : Walked} → Walking s at k node from nodes pool t₀ i st n p t
-    → Bounded s i w × Answers s at k i st n p node t z w → Bounded s from w × Answers s at k from 0 nodes pool node t₀ z w
+    → Bounded s i w × AnswersFrom s at k i st n p node t z w → Bounded s from w × AnswersFrom s at k from 0 nodes pool node t₀ z w
 answered {t₀ = t₀} {t = t} {node = node} {nodes = nodes} {n = n} v a = (
   record { bounds = λ y. omega (arith, a .0 .bounds y, v .forward) },
   record {
@@ -87,7 +87,7 @@ gone-on {t₀ = t₀} {t = t} {node = node} {nodes = nodes} {n = n} v b h =
 
 -- It goes on after a symbol or string.
 pub passed : {s t₀ t t′ : List ℕ} {at k node from nodes pool i st n p j st′ n′ p′ : ℕ} → Walking s at k node from nodes pool t₀ i st n p t
-    → ((i < j) × (j ≤ length s) × (n′ ≤ j) × (p′ ≤ j)) × Passes s at k i st n p node t j st′ n′ p′ t′
+    → ((i < j) × (j ≤ length s) × (n′ ≤ j) × (p′ ≤ j)) × TakesAtom s at k i st n p node t j st′ n′ p′ t′
     → Walking s at k node from nodes pool t₀ j st′ n′ p′ t′
 passed v u = gone-on v (u .0) (u .1 .goes)
 
@@ -117,15 +117,15 @@ unfolding walkedTo
 nodes-counted e n p fine b h g y = ap (λ (w : Walked). w .nodes) g
 nodes-counted e n p (fault f q) b h g y = absurd (omega (arith, b .bounds y, ap (λ (w : Walked). w .next) g))
 
-pub to-start : {s t z : List ℕ} {at k i n p node : ℕ} {w : Walked} → Bounded s i w × Answers s at k i 0 n p node t z w
+pub to-start : {s t z : List ℕ} {at k i n p node : ℕ} {w : Walked} → Bounded s i w × AnswersFrom s at k i 0 n p node t z w
     → Bounded s i w × Finishes s at k i n p node t z w
-unfolding whole
+unfolding runAnswer
 to-start {k = k} h = (h .0, (λ es e u. h .1 .answers es e u ∙ rw (start-state k), h .1 .tapes))
 
 -- An element's answer is that of the list that it is. Its node is entered before its content is walked, and left after it.
 pub element-judges : {s t t₁ t₂ z : List ℕ} {at k c j n p node : ℕ} {w : Walked} → isElement c ≡ true → 0 < j
     → Bounded s j w × Finishes s at c j (n + 1) p n t₁ t₂ w → (length t ≡ 32768 → t₁ ≡ entered t n at c node 0)
-    → (w .number ≡ 0 → length t₂ ≡ 32768 → z ≡ left t₂ n (w .nodes)) → Bounded s j w × Judges s at j k c n p node t z w
+    → (w .number ≡ 0 → length t₂ ≡ 32768 → z ≡ left t₂ n (w .nodes)) → Bounded s j w × JudgesList s at j k c n p node t z w
 unfolding verdictOf
 element-judges {t = t} {t₁ = t₁} {t₂ = t₂} {z = z} {at = at} {c = c} {n = n} {p = p} {node = node} {w = w} e some h before after = (
   h .0,
@@ -134,29 +134,29 @@ element-judges {t = t} {t₁ = t₁} {t₂ = t₂} {z = z} {at = at} {c = c} {n 
     tapes = λ es m u y full.
         rw e
         (element-tape t t₁ t₂ z n node at c (w .nodes) es before (h .1 .1 es m u y) (after y)
-        (nodes-counted m (n + 1 + nodesIn es) (p + bytesIn es) (finish at c (run at c (start c) es)) (h .0) some (h .1 .0 es m u) y) full);
+        (nodes-counted m (n + 1 + nodeCountIn es) (p + poolBytesIn es) (finish at c (run at c (start c) es)) (h .0) some (h .1 .0 es m u) y) full);
   },
 )
 
 pub item-judges : {s t t₁ t₂ z : List ℕ} {at k c j n p node : ℕ} {w : Walked} → c ≡ 18 → 0 < j
-    → Bounded s j w × Answers s at 18 j 0 (n + 1) p n t₁ t₂ w
+    → Bounded s j w × AnswersFrom s at 18 j 0 (n + 1) p n t₁ t₂ w
     → (length t ≡ 32768 → t₁ ≡ entered t n at 18 node 0) → (w .number ≡ 0 → length t₂ ≡ 32768 → z ≡ left t₂ n (w .nodes))
-    → Bounded s j w × Judges s at j k c n p node t z w
+    → Bounded s j w × JudgesList s at j k c n p node t z w
 unfolding isElement Class.isKind
 item-judges e some h before after = rw e (element-judges refl some (to-start h) before after)
 
 pub list-judges : {s t t₁ t₂ z : List ℕ} {at k c j n p node : ℕ} {w : Walked} → IsList c → 0 < j
-    → Bounded s j w × Answers s at c j 0 (n + 1) p n t₁ t₂ w
+    → Bounded s j w × AnswersFrom s at c j 0 (n + 1) p n t₁ t₂ w
     → (length t ≡ 32768 → t₁ ≡ entered t n at c node 0) → (w .number ≡ 0 → length t₂ ≡ 32768 → z ≡ left t₂ n (w .nodes))
-    → Bounded s j w × Judges s at j k c n p node t z w
+    → Bounded s j w × JudgesList s at j k c n p node t z w
 unfolding isElement Class.isKind
 list-judges l some h before after = element-judges (⊎-elim (λ e. rw e) (λ e. rw e) l) some (to-start h) before after
 
 -- And so is a value's.
 pub value-judges : {s t z : List ℕ} {at k c j n p node : ℕ} {w : Walked} → isElement c ≡ false
-    → Bounded s j w × (((es : Exprs) (m : ℕ) → Stands s j es m → w ≡ walkedTo m n (p + valueSize c es) (judgeValue k at (valueTree c es)))
+    → Bounded s j w × (((es : Exprs) (m : ℕ) → RunStands s j es m → w ≡ walkedTo m n (p + valueSize c es) (judgeValue k at (valueTree c es)))
     × Notes s j c node t w z)
-    → Bounded s j w × Judges s at j k c n p node t z w
+    → Bounded s j w × JudgesList s at j k c n p node t z w
 unfolding verdictOf
 value-judges {n = n} e h = (
   h .0,
@@ -166,24 +166,24 @@ value-judges {n = n} e h = (
 -- A list that is taken, in a walk that has got to i: w is its answer, r that past its closing bracket, and t′ the tape with it.
 module _ {s t₀ t t₁ t′ : List ℕ} {at k node from nodes pool i st n p place c j st′ : ℕ} {w r : Walked}
     (walking : Walking s at k node from nodes pool t₀ i st n p t)
-    (turn : ((i < j) × (j ≤ length s) × (place ≤ length s)) × (Opens s k i st place c j st′ × (t₁ ≡ t)))
-    (child : Bounded s j w × Judges s place j k c n p node t₁ t′ w)
+    (turn : ((i < j) × (j ≤ length s) × (place ≤ length s)) × (TakesList s k i st place c j st′ × (t₁ ≡ t)))
+    (child : Bounded s j w × JudgesList s place j k c n p node t₁ t′ w)
     (e : r ≡ pastBracket (length s) w) where
-  abbrev listed : {es : Exprs} {m : ℕ} → Opened s place c j es m → Expr
+  abbrev listed : {es : Exprs} {m : ℕ} → NamedListFirst s place c j es m → Expr
   listed o = list place (and (o .lead) (o .rest))
 
   -- The answer is by the verdict of what is inside the list.
-  by-verdict : {es : Exprs} {m : ℕ} (o : Opened s place c j es m)
-      → w ≡ walkedTo (o .end) (n + nodesOf (listed o)) (p + bytesOf (listed o)) (judge k (listed o))
-  unfolding verdictOf nodesOf bytesOf judge
+  by-verdict : {es : Exprs} {m : ℕ} (o : NamedListFirst s place c j es m)
+      → w ≡ walkedTo (o .end) (n + nodeCount (listed o)) (p + poolBytes (listed o)) (judge k (listed o))
+  unfolding verdictOf nodeCount poolBytes judge
   by-verdict o = rw (o .of-class) (child .1 .judged (o .rest) (o .end) (o .follows))
 
-  after-fine : {es : Exprs} {m : ℕ} (o : Opened s place c j es m) → judge k (listed o) ≡ fine
-      → r ≡ walkedTo (o .end + 1) (n + nodesOf (listed o)) (p + bytesOf (listed o)) fine
+  after-fine : {es : Exprs} {m : ℕ} (o : NamedListFirst s place c j es m) → judge k (listed o) ≡ fine
+      → r ≡ walkedTo (o .end + 1) (n + nodeCount (listed o)) (p + poolBytes (listed o)) fine
   after-fine o h = e ∙ ap (pastBracket (length s)) (rw h at (by-verdict o)) ∙ past-fine (length s) (o .end) _ _ (o .closed .inside)
 
   -- A fault has a number that is not 0.
-  after-fault : {es : Exprs} {m : ℕ} (o : Opened s place c j es m) (f q : ℕ) → judge k (listed o) ≡ fault f q
+  after-fault : {es : Exprs} {m : ℕ} (o : NamedListFirst s place c j es m) (f q : ℕ) → judge k (listed o) ≡ fault f q
       → (r .number ≡ 0 → ⊥) × (r ≡ walkedTo 0 0 0 (fault f q))
   unfolding walkedTo
   after-fault o f q h =
@@ -193,14 +193,14 @@ module _ {s t₀ t t₁ t′ : List ℕ} {at k node from nodes pool i st n p pla
       (λ y. z (rw kept at y), kept ∙ g)
 
   -- Something inside the list is at fault, and the answer is that.
-  fault-inside : (r .number ≡ 0 → ⊥) → {es : Exprs} {m : ℕ} (o : Opened s place c j es m) (v : Verdict) → judge k (listed o) ≡ v
-      → r ≡ whole at k st n p m (and (listed o) (o .others))
+  fault-inside : (r .number ≡ 0 → ⊥) → {es : Exprs} {m : ℕ} (o : NamedListFirst s place c j es m) (v : Verdict) → judge k (listed o) ≡ v
+      → r ≡ runAnswer at k st n p m (and (listed o) (o .others))
   unfolding walkedTo exprClass listClass
   fault-inside z o fine h = absurd (z (ap (λ (w : Walked). w .number) (after-fine o h)))
   fault-inside z {m} o (fault f q) h =
       after-fault o f q h .1 ∙ run-fault at k st n p m (listed o) (o .others) st′ f q 0 0 0 (rw (o .of-class) (turn .1 .0 .taken)) h
 
-  pub list-answered : (r .number ≡ 0 → ⊥) → Bounded s from r × Answers s at k from 0 nodes pool node t₀ t′ r
+  pub list-answered : (r .number ≡ 0 → ⊥) → Bounded s from r × AnswersFrom s at k from 0 nodes pool node t₀ t′ r
   list-answered z =
       answered walking (
         record { bounds = λ x. absurd (z x) },
@@ -211,15 +211,15 @@ module _ {s t₀ t t₁ t′ : List ℕ} {at k node from nodes pool i st n p pla
       )
 
   -- The list is on the tape.
-  list-tape : r .number ≡ 0 → {es : Exprs} {m : ℕ} (o : Opened s place c j es m) → length t ≡ 32768 → t′ ≡ taped t n node (listed o)
+  list-tape : r .number ≡ 0 → {es : Exprs} {m : ℕ} (o : NamedListFirst s place c j es m) → length t ≡ 32768 → t′ ≡ taped t n node (listed o)
   unfolding taped
   list-tape z o full =
       let same : t₁ ≡ t = turn .1 .1 in
       rw (o .of-class) (rw same at (child .1 .tapes (o .rest) (o .end) (o .follows) (past-none (length s) w r e z .0) (rw same full)))
 
   -- Nothing inside the list is at fault, and the walk goes on after it.
-  fine-inside : r .number ≡ 0 → {es : Exprs} {m : ℕ} (o : Opened s place c j es m) (v : Verdict) → judge k (listed o) ≡ v
-      → Left s at k st n p node t (r .next) st′ (r .nodes) (r .pool) t′ (and (listed o) (o .others)) m
+  fine-inside : r .number ≡ 0 → {es : Exprs} {m : ℕ} (o : NamedListFirst s place c j es m) (v : Verdict) → judge k (listed o) ≡ v
+      → Remaining s at k st n p node t (r .next) st′ (r .nodes) (r .pool) t′ (and (listed o) (o .others)) m
   unfolding walkedTo exprClass listClass
   fine-inside z {m} o fine h =
       rw (after-fine o h)

@@ -20,10 +20,10 @@ use Rattle.document.specs.rules.Faults.{Begun, Taken, Allowed}
 use Rattle.document.specs.reference.Meaning.{Verdict, fine, fault, stopped, faultAt, advance, finish, run, judge}
 use Rattle.document.proofs.Classes.{allLead, leads, Leading, start-leading, next-leads, allowed-child, chosen-allowed}
 use Rattle.document.proofs.Steps.{begunOf, stepped as step-says}
-use Rattle.reader.specs.internal.Counts.{nodesOf, nodesIn, bytesOf, bytesIn}
+use Rattle.reader.specs.internal.Counts.{nodeCount, nodeCountIn, poolBytes, poolBytesIn}
 use Rattle.reader.specs.internal.WalkAnswer.{walkedTo, Bounded}
 use Rattle.reader.specs.internal.Tape.{entered, taped, tapedAll}
-use Rattle.reader.specs.internal.Walk.{whole, Answers, Left, Opened, Opens, Takes, Passes}
+use Rattle.reader.specs.internal.Walk.{runAnswer, AnswersFrom, Remaining, NamedListFirst, TakesList, StepTakes, TakesAtom}
 use Rattle.reader.proofs.lemmas.walk.SeenExpressions.{seen-bounds, SeenAs, saw-end, saw-symbol, saw-string, saw-list, look-stands}
 
 -- A step that is no fault leads to a state; any other is the fault.
@@ -58,7 +58,7 @@ unfolding Class.isElement Class.isKind
 no-child k a = allowed-child k a
 
 -- What is led by no name is never taken.
-pub none-taken : (k st st′ : ℕ) → Takes k st 0 st′ → ⊥
+pub none-taken : (k st st′ : ℕ) → StepTakes k st 0 st′ → ⊥
 none-taken k st st′ e =
     taken-none (stateOf k st) (stateOf k st′) (state-leading k st) (rw e at (step-says k (stateOf k st) 0))
   where
@@ -77,20 +77,20 @@ fault-placed at k f q e n p false = refl
 module _ (at k st n p e : ℕ) where
   -- The first expression is not taken.
   pub run-bad : (x : Expr) (es : Exprs) (f : ℕ) → stepped k (stateOf k st) (exprClass x) ≡ bad f
-      → walkedTo 0 0 0 (fault f (cond (eqb f 9) at (place x))) ≡ whole at k st n p e (and x es)
-  unfolding whole run advance finish faultAt walkedTo
-  run-bad x es f h = rw h (fault-placed at k f (place x) e (n + nodesIn (and x es)) (p + bytesIn (and x es)) (eqb f 9))
+      → walkedTo 0 0 0 (fault f (cond (eqb f 9) at (place x))) ≡ runAnswer at k st n p e (and x es)
+  unfolding runAnswer run advance finish faultAt walkedTo
+  run-bad x es f h = rw h (fault-placed at k f (place x) e (n + nodeCountIn (and x es)) (p + poolBytesIn (and x es)) (eqb f 9))
 
   -- The first expression is taken, and nothing inside it is at fault.
-  pub run-fine : (x : Expr) (es : Exprs) (st′ : ℕ) → Takes k st (exprClass x) st′ → judge k x ≡ fine
-      → whole at k st′ (n + nodesOf x) (p + bytesOf x) e es ≡ whole at k st n p e (and x es)
-  unfolding whole run advance nodesIn bytesIn
+  pub run-fine : (x : Expr) (es : Exprs) (st′ : ℕ) → StepTakes k st (exprClass x) st′ → judge k x ≡ fine
+      → runAnswer at k st′ (n + nodeCount x) (p + poolBytes x) e es ≡ runAnswer at k st n p e (and x es)
+  unfolding runAnswer run advance nodeCountIn poolBytesIn
   run-fine x es st′ h j = rw (h, j, add-assoc n, add-assoc p)
 
   -- The first expression is taken, and something inside it is at fault.
-  pub run-fault : (x : Expr) (es : Exprs) (st′ f q : ℕ) (m a b : ℕ) → Takes k st (exprClass x) st′ → judge k x ≡ fault f q
-      → walkedTo m a b (fault f q) ≡ whole at k st n p e (and x es)
-  unfolding whole run advance finish walkedTo
+  pub run-fault : (x : Expr) (es : Exprs) (st′ f q : ℕ) (m a b : ℕ) → StepTakes k st (exprClass x) st′ → judge k x ≡ fault f q
+      → walkedTo m a b (fault f q) ≡ runAnswer at k st n p e (and x es)
+  unfolding runAnswer run advance finish walkedTo
   run-fault x es st′ f q m a b h j = rw (h, j)
 
 -- What is seen from place i on, in numbers.
@@ -106,15 +106,15 @@ ended-here s i e = (sym (e .0), sym (e .1), refl, refl, refl)
 
 module _ {s : List ℕ} {r : Seen} where
   answer-end : (at k st n p : ℕ) {es : Exprs} {e : ℕ} → SeenAs s r es e → r .sort ≡ 0
-      → walkedTo (r .place) n p (cond (ended k (stateOf k st)) fine (fault 9 at)) ≡ whole at k st n p e es
-  unfolding whole run finish nodesIn bytesIn
+      → walkedTo (r .place) n p (cond (ended k (stateOf k st)) fine (fault 9 at)) ≡ runAnswer at k st n p e es
+  unfolding runAnswer run finish nodeCountIn poolBytesIn
   answer-end at k st n p (saw-end h) z = rw (add-zero n, add-zero p)
   answer-end at k st n p (saw-symbol h c l f t) z = cc
   answer-end at k st n p (saw-string h c l f t) z = cc
   answer-end at k st n p (saw-list x h c f t d b u) z = cc
 
   answer-fault : (at k st n p f : ℕ) {es : Exprs} {e : ℕ} → SeenAs s r es e → (r .sort ≡ 0 → ⊥) → stepped k (stateOf k st) (r .class) ≡ bad f
-      → walkedTo 0 0 0 (fault f (cond (eqb f 9) at (r .place))) ≡ whole at k st n p e es
+      → walkedTo 0 0 0 (fault f (cond (eqb f 9) at (r .place))) ≡ runAnswer at k st n p e es
   unfolding place exprClass
   answer-fault at k st n p f (saw-end h) z b = absurd (z h)
   answer-fault at k st n p f (saw-symbol {es} {e} h c l g t) z b = run-bad at k st n p e (symbol (r .place) _) es f (rw c at b)
@@ -130,9 +130,9 @@ module _ {s : List ℕ} {r : Seen} where
 
   pass-atom : (at k st n p node : ℕ) (t : List ℕ) (st′ : ℕ) (t′ : List ℕ) {es : Exprs} {e : ℕ} → SeenAs s r es e → (r .sort ≡ 0 → ⊥)
       → (r .sort ≡ 3 → ⊥)
-      → Takes k st (r .class) st′ → (length t ≡ 32768 → t′ ≡ entered t n (r .place) Class.text node (n + 1))
-      → Left s at k st n p node t (r .next) st′ (n + 1) (p + r .length) t′ es e
-  unfolding exprClass nodesOf bytesOf judge taped
+      → StepTakes k st (r .class) st′ → (length t ≡ 32768 → t′ ≡ entered t n (r .place) Class.text node (n + 1))
+      → Remaining s at k st n p node t (r .next) st′ (n + 1) (p + r .length) t′ es e
+  unfolding exprClass nodeCount poolBytes judge taped
   pass-atom at k st n p node t st′ t′ (saw-end h) z a b y = absurd (z h)
   pass-atom at k st n p node t st′ t′ (saw-symbol {es} {e} h c l f u) z a b y =
       record {
@@ -165,7 +165,7 @@ module _ {s : List ℕ} {r : Seen} where
   item-list (saw-string h c l f t) z a = absurd (omega (arith, sym c ∙ a))
   item-list (saw-list x h c f t d b u) z a = h
 
-  pub open-list : {es : Exprs} {e : ℕ} → SeenAs s r es e → r .sort ≡ 3 → (r .class ≡ 0 → ⊥) → Opened s (r .place) (r .class) (r .next) es e
+  pub open-list : {es : Exprs} {e : ℕ} → SeenAs s r es e → r .sort ≡ 3 → (r .class ≡ 0 → ⊥) → NamedListFirst s (r .place) (r .class) (r .next) es e
   open-list (saw-end h) z a = let w : _≡_ {A = ℕ} 0 1 = cc in absurd (omega arith)
   open-list (saw-symbol h c l f t) z a = let w : _≡_ {A = ℕ} 0 1 = cc in absurd (omega arith)
   open-list (saw-string h c l f t) z a = let w : _≡_ {A = ℕ} 0 1 = cc in absurd (omega arith)
@@ -196,7 +196,7 @@ seen-within s i looked within some h =
 module _ {s : List ℕ} {k i st sort q c j l : ℕ} (looked : Looked s i sort q c j l) (within : i ≤ length s) where
   pub turn-end : {at n p node : ℕ} {t : List ℕ} → n ≤ i → p ≤ i → sort ≡ 0
       → Bounded s i (walkedTo q n p (cond (ended k (stateOf k st)) fine (fault 9 at)))
-      × Answers s at k i st n p node t t (walkedTo q n p (cond (ended k (stateOf k st)) fine (fault 9 at)))
+      × AnswersFrom s at k i st n p node t t (walkedTo q n p (cond (ended k (stateOf k st)) fine (fault 9 at)))
   unfolding walkedTo
   turn-end {at} {n} {p} {node} {t} nodes pool z =
       let b = seen-bounds s i within in (
@@ -211,7 +211,7 @@ module _ {s : List ℕ} {k i st sort q c j l : ℕ} (looked : Looked s i sort q 
 
   -- Nothing is passed: not where expressions stand.
   pub turn-stuck : {at n p node : ℕ} {t z : List ℕ} → (sort ≡ 0 → ⊥) → j ≤ i
-      → Bounded s i (walkedTo 0 0 0 (fault 8 q)) × Answers s at k i st n p node t z (walkedTo 0 0 0 (fault 8 q))
+      → Bounded s i (walkedTo 0 0 0 (fault 8 q)) × AnswersFrom s at k i st n p node t z (walkedTo 0 0 0 (fault 8 q))
   unfolding walkedTo
   turn-stuck some h = (
     record { bounds = λ e. omega (arith, e) },
@@ -226,7 +226,7 @@ module _ {s : List ℕ} {k i st sort q c j l : ℕ} (looked : Looked s i sort q 
   module _ (f st′ : ℕ) (step : stepOf k f st′ ≡ stepped k (stateOf k st) c) (some : sort ≡ 0 → ⊥) where
     pub turn-fault : {at n p node : ℕ} {t z : List ℕ} → (f ≡ 0 → ⊥)
         → Bounded s i (walkedTo 0 0 0 (fault f (cond (eqb f 9) at q)))
-        × Answers s at k i st n p node t z (walkedTo 0 0 0 (fault f (cond (eqb f 9) at q)))
+        × AnswersFrom s at k i st n p node t z (walkedTo 0 0 0 (fault f (cond (eqb f 9) at q)))
     unfolding walkedTo
     turn-fault {at} {n} {p} h = (
       record { bounds = λ e. absurd (h e) },
@@ -240,7 +240,7 @@ module _ {s : List ℕ} {k i st sort q c j l : ℕ} (looked : Looked s i sort q 
 
     pub turn-atom : {at n p node : ℕ} {t t′ : List ℕ} → n ≤ i → p ≤ i → f ≡ 0 → i < j → (sort ≡ 3 → ⊥)
         → (length t ≡ 32768 → t′ ≡ entered t n q Class.text node (n + 1))
-        → ((i < j) × (j ≤ length s) × (n + 1 ≤ j) × (p + l ≤ j)) × Passes s at k i st n p node t j st′ (n + 1) (p + l) t′
+        → ((i < j) × (j ≤ length s) × (n + 1 ≤ j) × (p + l ≤ j)) × TakesAtom s at k i st n p node t j st′ (n + 1) (p + l) t′
     turn-atom {at} {n} {p} {node} {t} {t′} nodes pool h v a stored =
         let taken = step-goes k f st′ _ h step in (
           omega (arith, seen-within s i looked within some v),
@@ -259,7 +259,7 @@ module _ {s : List ℕ} {k i st sort q c j l : ℕ} (looked : Looked s i sort q 
 
     -- A list is taken; where what is taken is an item, it is one.
     opened-list : ((es : Exprs) (e : ℕ) → SeenAs s (seen i (drop i s)) es e → seen i (drop i s) .sort ≡ 3) → f ≡ 0 → i < j
-        → ((i < j) × (j ≤ length s) × (q ≤ length s)) × Opens s k i st q c j st′
+        → ((i < j) × (j ≤ length s) × (q ≤ length s)) × TakesList s k i st q c j st′
     opened-list a h v =
         let taken = step-goes k f st′ _ h step in (
           omega (arith, seen-within s i looked within some v, seen-bounds s i within .place-within, looked .1),
@@ -272,8 +272,8 @@ module _ {s : List ℕ} {k i st sort q c j l : ℕ} (looked : Looked s i sort q 
           },
         )
 
-    pub turn-list : f ≡ 0 → i < j → sort ≡ 3 → ((i < j) × (j ≤ length s) × (q ≤ length s)) × Opens s k i st q c j st′
+    pub turn-list : f ≡ 0 → i < j → sort ≡ 3 → ((i < j) × (j ≤ length s) × (q ≤ length s)) × TakesList s k i st q c j st′
     turn-list h v a = opened-list (λ es e first. sym (looked .0) ∙ a) h v
 
-    pub turn-item : f ≡ 0 → i < j → c ≡ Class.item → ((i < j) × (j ≤ length s) × (q ≤ length s)) × Opens s k i st q c j st′
+    pub turn-item : f ≡ 0 → i < j → c ≡ Class.item → ((i < j) × (j ≤ length s) × (q ≤ length s)) × TakesList s k i st q c j st′
     turn-item h v a = opened-list (λ es e first. item-list first (λ z. some (looked .0 ∙ z)) (sym (looked .2) ∙ a)) h v

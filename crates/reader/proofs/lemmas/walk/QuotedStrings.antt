@@ -28,10 +28,10 @@ values-length (p ∷ ps) =
 -- ---- a string that is closed ends within the text
 
 -- Pieces and their closing quote stand within m bytes, after those that are skipped.
-Within : ℕ → ℕ → Quoted → Type 0
-Within m skip (closed ps) = skip + (length (piecesBefore ps []) + 1) ≤ m
-Within m skip unclosed = Unit {0}
-Within m skip (bad-escape p) = Unit {0}
+QuotedWithin : ℕ → ℕ → Quoted → Type 0
+QuotedWithin m skip (closed ps) = skip + (length (piecesBefore ps []) + 1) ≤ m
+QuotedWithin m skip unclosed = Unit {0}
+QuotedWithin m skip (bad-escape p) = Unit {0}
 
 piece-nonempty : (p : Piece) → 1 ≤ length (pieceBefore p [])
 unfolding pieceBefore
@@ -39,29 +39,29 @@ piece-nonempty (raw b) = omega arith
 piece-nonempty (letter c) = omega arith
 piece-nonempty (number d₁ d₂ d₃ d₄) = omega arith
 
-within-piece : (m : ℕ) (p : Piece) (q : Quoted) → Within m (length (pieceBefore p []) - 1) q → Within (suc m) 0 (piece p q)
-unfolding Within piece
+within-piece : (m : ℕ) (p : Piece) (q : Quoted) → QuotedWithin m (length (pieceBefore p []) - 1) q → QuotedWithin (suc m) 0 (piece p q)
+unfolding QuotedWithin piece
 within-piece m p (closed ps) h = omega (arith, pieces-length p ps, piece-nonempty p)
 within-piece m p unclosed h = tt
 within-piece m p (bad-escape n) h = tt
 
-within-skip : (m k : ℕ) (q : Quoted) → Within m k q → Within (suc m) (suc k) q
-unfolding Within
+within-skip : (m k : ℕ) (q : Quoted) → QuotedWithin m k q → QuotedWithin (suc m) (suc k) q
+unfolding QuotedWithin
 within-skip m k (closed ps) h = omega arith
 within-skip m k unclosed h = tt
 within-skip m k (bad-escape n) h = tt
 
-quoted-within : (skip n : ℕ) (s : List ℕ) → Within (length s) skip (quotedFrom skip n s)
-unfolding Within quotedFrom piecesBefore pieceBefore
+quoted-within : (skip n : ℕ) (s : List ℕ) → QuotedWithin (length s) skip (quotedFrom skip n s)
+unfolding QuotedWithin quotedFrom piecesBefore pieceBefore
 quoted-within zero n [] = tt
 quoted-within (suc k) n [] = tt
 quoted-within (suc k) n (b ∷ s) = within-skip (length s) k (quotedFrom k (n + 1) s) (quoted-within k (n + 1) s)
 quoted-within zero n (b ∷ s) =
     let p : Piece = escapeAt s in
     let m : ℕ = suc (length s) in
-    cond-case (Within m 0) (eqb b 0x22) (λ e. omega arith)
-    (λ e. cond-case (Within m 0) (eqb b 0x5C)
-    (λ f. cond-case (Within m 0) (isPiece p)
+    cond-case (QuotedWithin m 0) (eqb b 0x22) (λ e. omega arith)
+    (λ e. cond-case (QuotedWithin m 0) (eqb b 0x5C)
+    (λ f. cond-case (QuotedWithin m 0) (isPiece p)
     (λ g. within-piece (length s) p (quotedFrom (length (pieceBefore p []) - 1) (n + 1) s) (quoted-within (length (pieceBefore p []) - 1) (n + 1) s))
     (λ g. tt))
     (λ f. within-piece (length s) (raw b) (quotedFrom 0 (n + 1) s) (quoted-within 0 (n + 1) s)))
@@ -69,12 +69,12 @@ quoted-within zero n (b ∷ s) =
 -- ---- where a string ends
 
 -- A string at place n that is not faulty: it ends within the m bytes from there on, and stands for fewer bytes than it takes.
-pub record Spans (n m : ℕ) (r : StringEnd) : Type 0 where
+pub record StringSpans (n m : ℕ) (r : StringEnd) : Type 0 where
   pub within : r .next ≤ n + m
   pub fits : n + r .length < r .next
 
-end-spans : (n m : ℕ) (q : Quoted) → Within m 0 q → stringEnd n q .number ≡ 0 → Spans n (suc m) (stringEnd n q)
-unfolding stringEnd Within
+end-spans : (n m : ℕ) (q : Quoted) → QuotedWithin m 0 q → stringEnd n q .number ≡ 0 → StringSpans n (suc m) (stringEnd n q)
+unfolding stringEnd QuotedWithin
 end-spans n m (closed []) h e = absurd (omega arith)
 end-spans n m (closed (p ∷ ps)) h e = record { within = omega arith; fits = omega (arith, values-length (p ∷ ps)) }
 end-spans n m unclosed h e = absurd (omega arith)
@@ -97,7 +97,7 @@ end-content n (bad-escape p) e = refl
 
 -- ---- the same of the string at place n, whose quote b stands in front of s
 
-pub string-spans : (n b : ℕ) (s : List ℕ) → stringAt n (b ∷ s) .number ≡ 0 → Spans n (suc (length s)) (stringAt n (b ∷ s))
+pub string-spans : (n b : ℕ) (s : List ℕ) → stringAt n (b ∷ s) .number ≡ 0 → StringSpans n (suc (length s)) (stringAt n (b ∷ s))
 unfolding stringAt
 string-spans n b s e = end-spans n (length s) (quotedFrom 0 (n + 1) s) (quoted-within 0 (n + 1) s) e
 

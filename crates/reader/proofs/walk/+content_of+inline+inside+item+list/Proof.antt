@@ -9,7 +9,7 @@ use borrow.Author.Tests.{not-true, not-false}
 use lib.ListN.{length}
 use Rattle.kind.specs.Machine.{stateOf}
 use Rattle.reader.specs.internal.WalkAnswer.{Bounded}
-use Rattle.reader.specs.internal.Walk.{Opens, Judges}
+use Rattle.reader.specs.internal.Walk.{TakesList, JudgesList}
 use Rattle.reader.proofs.lemmas.walk.LoopInvariant.{Walking, begun, answered, passed, list-answered, list-forward, list-gone-on}
 use Rattle.reader.proofs.lemmas.walk.LoopInvariant.{to-start, element-judges, item-judges, list-judges, value-judges}
 use Rattle.reader.proofs.lemmas.walk.ListItems.{Bare, is-list, bare-start, item-taken}
@@ -212,7 +212,7 @@ inline-child : (t : ℕ) (c : inline-lts.Joined1-2 (inline-claims t) (inline-at 
     let l = c .before .before .before .before .before .before .loop in
     let f = c .before .before .t3 .given .0 in
     Bounded (a .text .now) (f .1 .1 .0) (c .if1 .child)
-    × Judges (a .text .now) (f .0) (f .1 .1 .0) (a .kind) (f .1 .0) (l .n) (l .p) (a .node)
+    × JudgesList (a .text .now) (f .0) (f .1 .1 .0) (a .kind) (f .1 .0) (l .n) (l .p) (a .node)
     (c .before .before .before .before .next-turn .last .1 .1 .1 .1 .1 .1 .1 .1 .0) (c .if1 .tape) (c .if1 .child)
 inline-child t c =
     let turn = rw (c .before .before .t3 .given .1) at (c .before .before .before .before .next-turn .ensures) in
@@ -370,7 +370,7 @@ list-taken : (t : ℕ) (c : list-lts.Else3 (list-claims t) (list-at t) list.Post
     let seen = c .before .before .before .before .before .before .look .result in
     let state = c .before .before .before .step .result .state in
     ((l .i < seen .next) × (seen .next ≤ length (a .text .now)) × (seen .place ≤ length (a .text .now)))
-    × Opens (a .text .now) (a .kind) (l .i) (l .state) (seen .place) (seen .class) (seen .next) state
+    × TakesList (a .text .now) (a .kind) (l .i) (l .state) (seen .place) (seen .class) (seen .next) state
     × (seen .class ≡ 18)
     × Bare (stateOf (a .kind) state)
 list-taken t c =
@@ -411,7 +411,7 @@ list-child : (t : ℕ) (c : list-lts.After-leave (list-claims t) (list-at t) lis
     let l = c .before .before .before .before .before .before .before .before .before .before .before .before .before .loop in
     let seen = c .before .before .before .before .before .before .before .before .before .before .before .before .look .result in
     Bounded (a .text .now) (seen .next) (c .before .before .item .result)
-    × Judges (a .text .now) (seen .place) (seen .next) (a .kind) (seen .class) (l .n) (l .p) (a .node) (l .tape) (c .leave .last .0) (c .before .before .item .result)
+    × JudgesList (a .text .now) (seen .place) (seen .next) (a .kind) (seen .class) (l .n) (l .p) (a .node) (l .tape) (c .leave .last .0) (c .before .before .item .result)
 list-child t c =
     let turn = list-taken t (c .before .before .before .before .before .before) in
     item-judges (turn .2) (omega (arith, turn .0)) (c .before .before .item .ensures) (c .before .before .before .before .enter .ensures) (c .leave .ensures)

@@ -19,13 +19,13 @@ pub data Ends (s : List ℕ) (i : ℕ) : Type 0 where
   at-end : i ≡ length s → Ends s i
 
 -- From place i on stand the expressions es, and the run ends at e.
-pub data Stands (s : List ℕ) : ℕ → Exprs → ℕ → Type 0 where
-  ended : {i : ℕ} → Ends s i → Stands s i none i
-  after-blank : {i e : ℕ} {es : Exprs} → Has s i blank → Stands s (i + 1) es e → Stands s i es e
-  after-line-end : {i e : ℕ} {es : Exprs} → Has s i return → getD s (i + 1) 0 ≡ 0x0A → Stands s (i + 2) es e → Stands s i es e
-  a-symbol : {i e : ℕ} {es : Exprs} → Has s i ordinary → Stands s (i + length (ordinaryRun (drop i s))) es e
-      → Stands s i (and (symbol i (ordinaryRun (drop i s))) es) e
-  a-string : {i e : ℕ} {es : Exprs} → Has s i quote → stringAt i (drop i s) .number ≡ 0 → Stands s (stringAt i (drop i s) .next) es e
-      → Stands s i (and (quoted i (atomValue (drop i s))) es) e
-  a-list : {i m e : ℕ} {x : Bracket} {inner es : Exprs} → Has s i (opening x) → Stands s (i + 1) inner m → Has s m (closing x) → Stands s (m + 1) es e
-      → Stands s i (and (list i inner) es) e
+pub data RunStands (s : List ℕ) : ℕ → Exprs → ℕ → Type 0 where
+  ended : {i : ℕ} → Ends s i → RunStands s i none i
+  after-blank : {i e : ℕ} {es : Exprs} → Has s i blank → RunStands s (i + 1) es e → RunStands s i es e
+  after-line-end : {i e : ℕ} {es : Exprs} → Has s i return → getD s (i + 1) 0 ≡ 0x0A → RunStands s (i + 2) es e → RunStands s i es e
+  a-symbol : {i e : ℕ} {es : Exprs} → Has s i ordinary → RunStands s (i + length (ordinaryRun (drop i s))) es e
+      → RunStands s i (and (symbol i (ordinaryRun (drop i s))) es) e
+  a-string : {i e : ℕ} {es : Exprs} → Has s i quote → stringAt i (drop i s) .number ≡ 0 → RunStands s (stringAt i (drop i s) .next) es e
+      → RunStands s i (and (quoted i (atomValue (drop i s))) es) e
+  a-list : {i m e : ℕ} {x : Bracket} {inner es : Exprs} → Has s i (opening x) → RunStands s (i + 1) inner m → Has s m (closing x) → RunStands s (m + 1) es e
+      → RunStands s i (and (list i inner) es) e
