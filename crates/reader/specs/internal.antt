@@ -4,6 +4,7 @@ pub mod Counts
 pub mod Filling
 pub mod FirstExpressions
 pub mod FirstGroups
+pub mod JudgedText
 pub mod ParameterValue
 pub mod RunStands
 pub mod TableCheck

@@ -6,19 +6,25 @@ mod tape; // tape.rt: what the judging walk notes of each node
 mod value; // value.rt: the values of parameters
 mod walk; // walk.rt: the judging walk over elements
 
+use base::limit;
+use base::number;
 use commands::judge_imperative;
 use fill::fill;
 use lexer::scan;
 use nested::judge_nested;
+use walk::Walked;
 ghost use mathlib.Core.Path.{_≡_};
-ghost use Prim.Native.Nat.{_≤_, min};
+ghost use Prim.Native.Nat.{_≤_};
+ghost use lib.ListN.{length};
+ghost use Rattle.base.specs.rules.Limits.{mostBytes};
 ghost use Rattle.document.specs.rules.Document.{Node};
 ghost use Rattle.document.specs.reference.Check.{check};
-ghost use Rattle.document.specs.rules.Spelling.{nested, imperative};
+ghost use Rattle.document.specs.rules.Spelling.{nested, imperative, mostLevels};
 ghost use Rattle.document.specs.rules.Memory.{answerAt};
 ghost use Rattle.validate.specs.Checked.{checkNumber};
 ghost use Rattle.reader.specs.internal.TableCheck.{checkPlace, Held};
 ghost use Rattle.reader.specs.internal.FirstGroups.{groupNumber, groupPlace, roomNumber};
+ghost use Rattle.reader.specs.internal.JudgedText.{spelled, JudgesText, TapeOfText};
 ghost use Rattle.reader.specs.Read.{SameAnswer, Reads};
 
 // "A read returns number, place, line, column, node count, pool count."
@@ -31,33 +37,61 @@ pub struct Answer {
     pub pool: u32,
 }
 
+enum Spelling {
+    Nested,
+    Imperative,
+}
+
 struct Group {
     number: u32,
     place: usize,
 }
 
+// How deep the brackets of a spelling nest.
+fn levels(spelling: Spelling) -> usize
+    ensures { λ r. ⌜ r ≡ mostLevels (spelled spelling) ⌝ }
+{
+    match spelling {
+        Spelling::Nested => limit::NESTED_LEVELS,
+        Spelling::Imperative => limit::IMPERATIVE_LEVELS,
+    }
+}
+
 // The groups 1 to 6: too long, no UTF-8, and the faults of the scan.
-fn first_groups(text: &[u8], levels: usize) -> Group
-    ensures { λ r. ⌜ (r .number ≡ groupNumber (min levels 64) (now (text .entry))) × (r .place ≡ groupPlace (min levels 64) (now (text .entry))) ⌝ }
+fn first_groups(spelling: Spelling, text: &[u8]) -> Group
+    ensures { λ r. ⌜ (r .number ≡ groupNumber (mostLevels (spelled spelling)) (now (text .entry)))
+        × (r .place ≡ groupPlace (mostLevels (spelled spelling)) (now (text .entry))) ⌝ }
 {
     let n = text.len();
-    if 65536 < n {
+    if limit::MOST_BYTES < n {
         return Group {
-            number: 1,
-            place: 65536,
+            number: number::TEXT_TOO_LONG,
+            place: limit::MOST_BYTES,
         };
     }
     let valid = utf8::valid_up_to(text);
     if valid < n {
         return Group {
-            number: 2,
+            number: number::NOT_UTF8,
             place: valid,
         };
     }
-    let s = scan(text, levels);
+    let s = scan(text, levels(spelling));
     Group {
         number: s.number,
         place: s.place,
+    }
+}
+
+// Judges a text that passed the first groups, in its spelling.
+fn judge(spelling: Spelling, text: &[u8], tape: &mut [u32; 32768]) -> Walked
+    requires { ⌜ length (now text) ≤ mostBytes ⌝ }
+    ensures { λ r. ⌜ JudgesText (spelled spelling) (now (text .entry)) r ⌝ }
+    ensures { λ r. ⌜ TapeOfText (spelled spelling) (now (text .entry)) (r .number) (now (tape .entry)) (now (tape .exit)) ⌝ }
+{
+    match spelling {
+        Spelling::Nested => judge_nested(text, tape),
+        Spelling::Imperative => judge_imperative(text, tape),
     }
 }
 
@@ -65,32 +99,32 @@ fn first_groups(text: &[u8], levels: usize) -> Group
 fn room(words: usize, places: usize, bytes: usize, nodes: usize, pool: usize) -> u32
     ensures { λ r. ⌜ r ≡ roomNumber words places bytes nodes pool ⌝ }
 {
-    if 4096 < nodes {
-        return 13;
+    if limit::MOST_NODES < nodes {
+        return number::NODES_SHORT;
     }
-    if words / 11 < nodes {
-        return 13;
+    if words / table::RECORD < nodes {
+        return number::NODES_SHORT;
     }
     if places < nodes {
-        return 13;
+        return number::NODES_SHORT;
     }
     if bytes < pool {
-        return 14;
+        return number::POOL_SHORT;
     }
-    0
+    number::OK
 }
 
 // The check of a table that was filled, 15 to 18 at the place of their node, or 0.
 fn checked(nodes: &[u32], places: &[u32], pool: &[u8], count: usize, bytes: usize) -> Group
-    requires { ⌜ (count ≤ 65536) × (bytes ≤ 65536) ⌝ }
+    requires { ⌜ (count ≤ mostBytes) × (bytes ≤ mostBytes) ⌝ }
     ensures { λ r. ⌜ ((d : Node) → Held (now (nodes .entry)) count (now (pool .entry)) bytes d
         → (r .number ≡ checkNumber (check d)) × (r .place ≡ checkPlace (now (places .entry)) (check d))) ⌝ }
 {
     let c = validate::check(nodes, count as u32, pool, bytes as u32);
     let node = c.node as usize;
-    if c.number == 0 {
+    if c.number == number::OK {
         return Group {
-            number: 0,
+            number: number::OK,
             place: 0,
         };
     }
@@ -108,7 +142,7 @@ fn checked(nodes: &[u32], places: &[u32], pool: &[u8], count: usize, bytes: usiz
 
 // The answer, with line and column of its place. No place and no count passes the longest text.
 fn answer_at(text: &[u8], number: u32, place: usize, nodes: usize, pool: usize) -> Answer
-    requires { ⌜ (place ≤ 65536) × (nodes ≤ 65536) × (pool ≤ 65536) ⌝ }
+    requires { ⌜ (place ≤ mostBytes) × (nodes ≤ mostBytes) × (pool ≤ mostBytes) ⌝ }
     ensures { λ r. ⌜ SameAnswer (answerAt (now (text .entry)) number place nodes pool) r ⌝ }
 {
     let p = utf8::position(text, place);
@@ -122,27 +156,42 @@ fn answer_at(text: &[u8], number: u32, place: usize, nodes: usize, pool: usize) 
     }
 }
 
-// Reads a text in the nested spelling into the lent memory: the answer, and what is left in each slice, whatever the text and however little is lent.
-pub fn read_nested(text: &[u8], nodes: &mut [u32], places: &mut [u32], pool: &mut [u8]) -> Answer
-    ensures { λ r. ⌜ Reads nested (now (text .entry)) (record { nodes = now (nodes .entry); places = now (places .entry); pool = now (pool .entry) }) r
+// Reads a text in a spelling into the lent memory: the answer, and what is left in each slice, whatever the text and however little is lent.
+fn read(
+    spelling: Spelling,
+    text: &[u8],
+    nodes: &mut [u32],
+    places: &mut [u32],
+    pool: &mut [u8],
+) -> Answer
+    ensures { λ r. ⌜ Reads (spelled spelling) (now (text .entry))
+        (record { nodes = now (nodes .entry); places = now (places .entry); pool = now (pool .entry) }) r
         (record { nodes = now (nodes .exit); places = now (places .exit); pool = now (pool .exit) }) ⌝ }
 {
-    let g = first_groups(text, 64);
-    if g.number != 0 {
+    let g = first_groups(spelling, text);
+    if g.number != number::OK {
         return answer_at(text, g.number, g.place, 0, 0);
     }
     let mut tape = [0u32; 32768];
-    let w = judge_nested(text, &mut tape);
-    if w.number != 0 {
+    let w = judge(spelling, text, &mut tape);
+    if w.number != number::OK {
         return answer_at(text, w.number, w.place, 0, 0);
     }
     let full = room(nodes.len(), places.len(), pool.len(), w.nodes, w.pool);
-    if full != 0 {
+    if full != number::OK {
         return answer_at(text, full, 0, w.nodes, w.pool);
     }
     fill(text, &tape, w.nodes, nodes, places, pool);
     let c = checked(nodes, places, pool, w.nodes, w.pool);
     answer_at(text, c.number, c.place, w.nodes, w.pool)
+}
+
+// Reads a text in the nested spelling.
+pub fn read_nested(text: &[u8], nodes: &mut [u32], places: &mut [u32], pool: &mut [u8]) -> Answer
+    ensures { λ r. ⌜ Reads nested (now (text .entry)) (record { nodes = now (nodes .entry); places = now (places .entry); pool = now (pool .entry) }) r
+        (record { nodes = now (nodes .exit); places = now (places .exit); pool = now (pool .exit) }) ⌝ }
+{
+    read(Spelling::Nested, text, nodes, places, pool)
 }
 
 // The same in the imperative spelling.
@@ -155,20 +204,5 @@ pub fn read_imperative(
     ensures { λ r. ⌜ Reads imperative (now (text .entry)) (record { nodes = now (nodes .entry); places = now (places .entry); pool = now (pool .entry) }) r
         (record { nodes = now (nodes .exit); places = now (places .exit); pool = now (pool .exit) }) ⌝ }
 {
-    let g = first_groups(text, 59);
-    if g.number != 0 {
-        return answer_at(text, g.number, g.place, 0, 0);
-    }
-    let mut tape = [0u32; 32768];
-    let w = judge_imperative(text, &mut tape);
-    if w.number != 0 {
-        return answer_at(text, w.number, w.place, 0, 0);
-    }
-    let full = room(nodes.len(), places.len(), pool.len(), w.nodes, w.pool);
-    if full != 0 {
-        return answer_at(text, full, 0, w.nodes, w.pool);
-    }
-    fill(text, &tape, w.nodes, nodes, places, pool);
-    let c = checked(nodes, places, pool, w.nodes, w.pool);
-    answer_at(text, c.number, c.place, w.nodes, w.pool)
+    read(Spelling::Imperative, text, nodes, places, pool)
 }

@@ -10,22 +10,19 @@ use Rattle.base.proofs.Booleans.{true-T}
 use lib.Dec.{ltb}
 use lib.ListN.{length, length-append, take, drop, getD, replicate, length-replicate, List·getD-append, List·getD-eq-default}
 use lib.Seq.{sets, sets-eq, take-at}
-use Rattle.syntax.specs.rules.Expression.{Expr, Exprs, none, and, depthAll}
+use Rattle.syntax.specs.rules.Expression.{Expr, none, and}
 use Rattle.document.specs.rules.Document.{Node, says, Document}
-use Rattle.document.specs.rules.Spelling.{Spelling, nested, imperative, mostLevels}
+use Rattle.document.specs.rules.Spelling.{Spelling, mostLevels}
 use Rattle.document.specs.reference.Meaning.{fine, judgeRoot, treeOf, places}
-use Rattle.document.specs.reference.Imperative.{regroup}
 use Rattle.document.specs.rules.Record.{recordLength}
 use Rattle.document.specs.rules.Table.{count, pool, tableOf}
 use Rattle.document.specs.reference.Check.{Check, sound, unsound, check}
-use Rattle.document.specs.rules.Account.{NestedForm, as-it-stands, regrouped}
 use Rattle.document.specs.rules.Memory as Defined
 use Rattle.document.specs.reference.Outcome.{oneExpression, checked, stored, outcome}
 use Rattle.document.specs.rules.Memory.{Memory, answerAt, refusal, noRoom, over, filled, nodeRoom}
 use Rattle.document.proofs.Places.{root-places}
 use Rattle.document.proofs.Records.{table-length}
 use Rattle.document.proofs.Numbers.{check-number}
-use Rattle.document.proofs.Takes.{takes-regroup}
 use Rattle.document.proofs.CheckedNode.{unsound-below}
 use Rattle.document.specs.rules.Canonical.{layout, treeLevels}
 use Rattle.document.specs.reference.Printing.{checkedAs, checking}
@@ -35,9 +32,9 @@ use Rattle.validate.specs.Checks.{Checks}
 use Rattle.validate.specs.declared.Checked.{Checked}
 use Rattle.reader.specs.declared.Answer.{Answer}
 use Rattle.reader.specs.declared.walk.Walked.{Walked}
-use Rattle.reader.specs.internal.RunStands.{RunStands}
 use Rattle.reader.specs.internal.WalkAnswer.{readWalked}
 use Rattle.reader.specs.internal.TableCheck.{checkPlace, Held}
+use Rattle.reader.specs.internal.JudgedText.{JudgesText, TapeOfText}
 use Rattle.reader.specs.internal.FirstGroups.{groupNumber, groupPlace, roomNumber}
 use Rattle.reader.specs.Read.{SameAnswer, Reads}
 use Rattle.reader.specs.internal.Counts.{nodeCount}
@@ -193,10 +190,6 @@ module _ (text : List ℕ) (m : Memory) (ps : List ℕ) (d : Node) where
 
 -- ---- places and counts that fit
 
--- What the judge of a spelling ensures.
-abbrev pub JudgesText : Spelling → List ℕ → Walked → Type 0
-JudgesText s text w = (es : Exprs) → RunStands text 0 es (length text) → depthAll es ≤ mostLevels s → w ≡ readWalked (oneExpression s (length text) es)
-
 module _ (s : Spelling) (text : List ℕ) (n p : ℕ) (group : (n ≡ groupNumber (mostLevels s) text) × (p ≡ groupPlace (mostLevels s) text)) where
   pub group-fits : p ≤ 65536
   group-fits = omega (arith, group-place (mostLevels s) text, group .1)
@@ -217,22 +210,6 @@ blankTape = replicate 32768 0
 
 long : length blankTape ≡ 32768
 long = length-replicate {A = ℕ} 32768 0
-
--- What the judge of a spelling leaves of the tape t.
-abbrev pub TapeOfText : Spelling → List ℕ → ℕ → List ℕ → List ℕ → Type 0
-TapeOfText s text n t tape =
-    (es : Exprs) (e : Expr) → NestedForm s es e → RunStands text 0 es (length text) → depthAll es ≤ mostLevels s → n ≡ 0 → length t ≡ 32768
-    → tape ≡ taped t 0 4294967295 e
-
-pub nested-tapes : (text : List ℕ) (n : ℕ) (t tape : List ℕ)
-    → ((e : Expr) → RunStands text 0 (and e none) (length text) → n ≡ 0 → length t ≡ 32768 → tape ≡ taped t 0 4294967295 e) → TapeOfText nested text n t tape
-nested-tapes text n t tape h es e as-it-stands st deep z l = h e st z l
-
-pub imperative-tapes : (text : List ℕ) (n : ℕ) (t tape : List ℕ)
-    → ((e : Expr) (es : Exprs) → RunStands text 0 (and e es) (length text) → depthAll (and e es) ≤ 59 → n ≡ 0 → length t ≡ 32768
-    → tape ≡ taped t 0 4294967295 (regroup e es)) → TapeOfText imperative text n t tape
-unfolding mostLevels
-imperative-tapes text n t tape h es e (regrouped {e = x} {es = xs} k) st deep z l = rw (takes-regroup x k) (h x xs st deep z l)
 
 -- What the fill of this many nodes from a tape ensures.
 abbrev Filled : Memory → Memory → Expr → Type 0
