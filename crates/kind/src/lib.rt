@@ -78,8 +78,8 @@ impl Kind {
         ensures { λ r. ⌜ r .number ≡ kindOf (now (name .entry)) ⌝ }
     {
         let class = class_of(name);
-        // The kinds end at 25, and the keywords begin at 26.
-        if class <= 25 {
+        // The numbers of the keywords follow those of the kinds.
+        if class <= Kind::CELL.number {
             return Kind { number: class };
         }
         Kind { number: 0 }

@@ -1,28 +1,49 @@
 // What may stand inside an element, read from left to right (document 01, "Elements").
-// How far an element is read is a number: from 0 to 4, the parameters from that place of its row on may still come; at 5 or 6, after one of `id?/type?`,
-// the type or the id may; from 7 on it holds children, the first of the significance that is added to 7.
+// How far an element is read is a number: up to `MOST_PARAMETERS`, the parameters from that place of its row on may still come; at `AFTER_ID` or `AFTER_TYPE`,
+// one of `id?/type?` has come, and the other may; from `HOLDING` on it holds children, the first of the significance that is added to that.
 use super::Keyword;
 use super::Kind;
 use super::rows::ID_TYPE;
 use super::rows::MAY;
+use super::rows::MOST_PARAMETERS;
 use super::rows::allowed;
 use super::rows::slot;
+use base::number;
 ghost use Prim.Native.Nat.{_-_, _≤_};
 ghost use mathlib.Core.Path.{_≡_};
 ghost use mathlib.Core.Bool.{cond};
 ghost use mathlib.Core.List.{[], _∷_};
 ghost use lib.Dec.{eqb};
 ghost use lib.ListN.{drop};
+ghost use Rattle.base.specs.rules.Numbers as Number;
 ghost use Rattle.elements.specs.rules.Class as Class;
 ghost use Rattle.elements.specs.rules.Rules.{may, alternativesOf, ruleOf};
 ghost use Rattle.elements.specs.rules.Inside.{ended, firstChild, isInclude, nextChild, nextParameter, noneRequired, step as stepped};
-ghost use Rattle.kind.specs.Machine.{alternativeOf, stateOf, withChild, afterPlace, afterLast, nextState, InNumbers};
+ghost use Rattle.kind.specs.Machine.{afterId, afterType, holdsFrom, alternativeOf, stateOf, withChild, afterPlace, afterLast, nextState, InNumbers};
 
 // A step in numbers: fault 0 and the next state, or the number of the fault and state 0.
 pub struct Stepped {
     pub fault: u8,
     pub state: u8,
 }
+
+// The states after one of `id?/type?`, and the first of an element that holds children.
+const AFTER_ID: u8 = MOST_PARAMETERS + 1;
+
+const AFTER_TYPE: u8 = MOST_PARAMETERS + 2;
+
+const HOLDING: u8 = MOST_PARAMETERS + 3;
+
+// The faults that a step may find, in a byte as a class is.
+const OK: u8 = number::OK as u8;
+
+const NOT_ALLOWED: u8 = number::NOT_ALLOWED as u8;
+
+const ABSENT: u8 = number::ABSENT as u8;
+
+const OTHER_SORT: u8 = number::OTHER_SORT as u8;
+
+const INCLUDE: u8 = number::INCLUDE as u8;
 
 const ID: u8 = Keyword::ID.number;
 
@@ -39,12 +60,12 @@ fn is_include(class: u8) -> bool
 
 // The fault of a class that may not stand in a kind: include and import may stand in none.
 fn refused(class: u8) -> u8
-    ensures { λ r. ⌜ r ≡ cond (isInclude class) 12 8 ⌝ }
+    ensures { λ r. ⌜ r ≡ cond (isInclude class) Number.include Number.not-allowed ⌝ }
 {
     if is_include(class) {
-        return 12;
+        return INCLUDE;
     }
-    8
+    NOT_ALLOWED
 }
 
 fn first_child(kind: u8, class: u8) -> Stepped
@@ -58,15 +79,15 @@ fn first_child(kind: u8, class: u8) -> Stepped
     }
     let child = Kind { number: class };
     Stepped {
-        fault: 0,
-        state: 7 + child.significance(),
+        fault: OK,
+        state: HOLDING + child.significance(),
     }
 }
 
 // A further child; a verbatim has one only.
 fn next_child(kind: u8, state: u8, class: u8) -> Stepped
-    requires { ⌜ 7 ≤ state ⌝ }
-    ensures { λ r. ⌜ InNumbers kind (nextChild (ruleOf kind .content) (alternativeOf (state - 7) (alternativesOf (ruleOf kind .content))) class) state (r .fault) (r .state) ⌝ }
+    requires { ⌜ holdsFrom ≤ state ⌝ }
+    ensures { λ r. ⌜ InNumbers kind (nextChild (ruleOf kind .content) (alternativeOf (state - holdsFrom) (alternativesOf (ruleOf kind .content))) class) state (r .fault) (r .state) ⌝ }
 {
     if !allowed(kind, class) {
         return Stepped {
@@ -75,28 +96,31 @@ fn next_child(kind: u8, state: u8, class: u8) -> Stepped
         };
     }
     if kind == Kind::VERBATIM.number {
-        return Stepped { fault: 8, state: 0 };
-    }
-    let child = Kind { number: class };
-    let sort = child.significance();
-    if sort != state - 7 {
         return Stepped {
-            fault: 11,
+            fault: NOT_ALLOWED,
             state: 0,
         };
     }
-    Stepped { fault: 0, state }
+    let child = Kind { number: class };
+    let sort = child.significance();
+    if sort != state - HOLDING {
+        return Stepped {
+            fault: OTHER_SORT,
+            state: 0,
+        };
+    }
+    Stepped { fault: OK, state }
 }
 
 // The state after one of `id?/type?`; 0 is neither.
 fn id_type(class: u8) -> u8
-    ensures { λ r. ⌜ r ≡ cond (eqb class Class.id) 5 (cond (eqb class Class.type) 6 0) ⌝ }
+    ensures { λ r. ⌜ r ≡ cond (eqb class Class.id) afterId (cond (eqb class Class.type) afterType 0) ⌝ }
 {
     if class == ID {
-        return 5;
+        return AFTER_ID;
     }
     if class == TYPE {
-        return 6;
+        return AFTER_TYPE;
     }
     0
 }
@@ -106,7 +130,10 @@ fn last_parameter(kind: u8, parameter: u8, class: u8) -> Stepped
     ensures { λ r. ⌜ InNumbers kind (nextParameter (may parameter ∷ []) (ruleOf kind .content) class) (afterLast parameter class) (r .fault) (r .state) ⌝ }
 {
     if class == parameter {
-        return Stepped { fault: 0, state: 4 };
+        return Stepped {
+            fault: OK,
+            state: MOST_PARAMETERS,
+        };
     }
     first_child(kind, class)
 }
@@ -117,17 +144,20 @@ fn next_parameter(kind: u8, state: u8, class: u8) -> Stepped
         (afterPlace state (drop state (ruleOf kind .parameters)) class) (r .fault) (r .state) ⌝ }
 {
     let mut place = state;
-    while place < 4 {
+    while place < MOST_PARAMETERS {
         let parameter = slot(kind, place);
         if parameter == 0 {
             return first_child(kind, class);
         }
         if parameter < MAY {
             if class != parameter {
-                return Stepped { fault: 9, state: 0 };
+                return Stepped {
+                    fault: ABSENT,
+                    state: 0,
+                };
             }
             return Stepped {
-                fault: 0,
+                fault: OK,
                 state: place + 1,
             };
         }
@@ -137,13 +167,13 @@ fn next_parameter(kind: u8, state: u8, class: u8) -> Stepped
                 return first_child(kind, class);
             }
             return Stepped {
-                fault: 0,
+                fault: OK,
                 state: next,
             };
         }
         if class == parameter - MAY {
             return Stepped {
-                fault: 0,
+                fault: OK,
                 state: place + 1,
             };
         }
@@ -157,7 +187,7 @@ fn none_required(kind: u8, state: u8) -> bool
     ensures { λ r. ⌜ r ≡ noneRequired (drop state (ruleOf kind .parameters)) ⌝ }
 {
     let mut place = state;
-    while place < 4 {
+    while place < MOST_PARAMETERS {
         let parameter = slot(kind, place);
         if parameter == 0 {
             return true;
@@ -174,13 +204,13 @@ fn none_required(kind: u8, state: u8) -> bool
 pub fn step(kind: u8, state: u8, class: u8) -> Stepped
     ensures { λ r. ⌜ InNumbers kind (stepped kind (stateOf kind state) class) (nextState kind state class) (r .fault) (r .state) ⌝ }
 {
-    if state < 5 {
+    if state < AFTER_ID {
         return next_parameter(kind, state, class);
     }
-    if 7 <= state {
+    if HOLDING <= state {
         return next_child(kind, state, class);
     }
-    if state == 5 {
+    if state == AFTER_ID {
         return last_parameter(kind, TYPE, class);
     }
     last_parameter(kind, ID, class)
@@ -190,10 +220,10 @@ pub fn step(kind: u8, state: u8, class: u8) -> Stepped
 pub fn may_end(kind: u8, state: u8) -> bool
     ensures { λ r. ⌜ r ≡ ended kind (stateOf kind state) ⌝ }
 {
-    if 7 <= state {
+    if HOLDING <= state {
         return true;
     }
-    if 5 <= state {
+    if AFTER_ID <= state {
         return kind != Kind::VERBATIM.number;
     }
     if !none_required(kind, state) {

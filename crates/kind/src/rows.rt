@@ -9,6 +9,9 @@ ghost use Rattle.elements.specs.rules.Rules.{ruleOf};
 ghost use Rattle.elements.specs.rules.Inside.{allows};
 ghost use Rattle.kind.specs.internal.Table.{led, packed, bits};
 
+// The parameters of a row are at most so many.
+pub const MOST_PARAMETERS: u8 = 4;
+
 // A required parameter is its class, and an optional one this and its class.
 pub const MAY: u8 = 64;
 
@@ -104,7 +107,7 @@ fn row_of(kind: u8) -> Row
 pub fn slot(kind: u8, place: u8) -> u8
     ensures { λ r. ⌜ drop place (ruleOf kind .parameters) ≡ led r (drop (place + 1) (ruleOf kind .parameters)) ⌝ }
 {
-    if 4 <= place {
+    if MOST_PARAMETERS <= place {
         return 0;
     }
     let row = row_of(kind);

@@ -1,5 +1,6 @@
 // The walk that decides whether words and pool are the table of a draft: a document that may have the faults 15 to 18.
 // Nothing is assumed of the words. The walk over a node calls the walk over its children, which calls it back, and the records left fall.
+use super::OK;
 use super::record::element_fits;
 use super::record::stands;
 use super::record::string_stands;
@@ -7,6 +8,9 @@ use super::record::text_alone;
 use super::record::value_levels;
 use super::record::words;
 use super::values::values;
+use base::limit::MOST_BYTES;
+use base::limit::MOST_NODES;
+use base::limit::NESTED_LEVELS;
 use kind::Kind;
 use kind::may_end;
 use kind::step;
@@ -25,6 +29,8 @@ ghost use mathlib.Core.Path.{_≡_};
 ghost use mathlib.Core.Bool.{true, false};
 ghost use Prim.Native.Nat.{ℕ, _+_, _*_, _≤_, _<_};
 ghost use lib.ListN.{length};
+ghost use Rattle.document.specs.rules.Record.{recordLength};
+ghost use Rattle.document.specs.rules.Record as Word;
 ghost use Rattle.elements.specs.rules.Class as Class;
 ghost use Rattle.elements.specs.rules.Rules.{ruleOf};
 ghost use Rattle.elements.specs.rules.Inside.{start};
@@ -36,11 +42,7 @@ ghost use Rattle.validate.specs.internal.Walking.{Decides, valueLevels, 
 ghost use Rattle.document.specs.rules.Draft.{IsDraft};
 
 // "within the limits (at most 4,096 nodes, canonical nesting at most 64, pool at most 65,536)"
-const MOST_WORDS: usize = 4096 * RECORD;
-
-const MOST_BYTES: usize = 65536;
-
-const MOST_LEVELS: usize = 64;
+const MOST_WORDS: usize = MOST_NODES * RECORD;
 
 // Whether what was looked for stands there, and the number and the place in the pool that follow it.
 pub struct Walked {
@@ -91,7 +93,7 @@ fn node(nodes: &[u32], pool: &[u8], i: usize, parent: usize, at: usize, left: us
 
 // The same of a text, whose record is there.
 fn text_node(nodes: &[u32], pool: &[u8], i: usize, parent: usize, at: usize) -> Walked
-    requires { ⌜ (11 * i + 11 ≤ length (now nodes)) × (at ≤ length (now pool)) × (wordAt (now nodes) i 0 ≡ Class.text) ⌝ }
+    requires { ⌜ (recordLength * i + recordLength ≤ length (now nodes)) × (at ≤ length (now pool)) × (wordAt (now nodes) i Word.kind ≡ Class.text) ⌝ }
     ensures { λ r. ⌜ ((left : ℕ) → Decides (NodeAt (now (nodes .entry)) (now (pool .entry)) i parent at left) (r .ok) (r .next) (r .pool)) ⌝ }
 {
     let r = words(nodes, i);
@@ -113,7 +115,7 @@ fn text_node(nodes: &[u32], pool: &[u8], i: usize, parent: usize, at: usize) -> 
 
 // The same of an element, whose record is there.
 fn element(nodes: &[u32], pool: &[u8], i: usize, parent: usize, at: usize, left: usize) -> Walked
-    requires { ⌜ (11 * i + 11 ≤ length (now nodes)) × (at ≤ length (now pool)) × (wordAt (now nodes) i 0 ≡ Class.text → ⊥) ⌝ }
+    requires { ⌜ (recordLength * i + recordLength ≤ length (now nodes)) × (at ≤ length (now pool)) × (wordAt (now nodes) i Word.kind ≡ Class.text → ⊥) ⌝ }
     ensures { λ r. ⌜ Decides (NodeAt (now (nodes .entry)) (now (pool .entry)) i parent at left) (r .ok) (r .next) (r .pool) ⌝ }
 {
     let r = words(nodes, i);
@@ -139,7 +141,7 @@ fn element(nodes: &[u32], pool: &[u8], i: usize, parent: usize, at: usize, left:
 
 // The values of node `i`, where they stand before its children. A title or summary stands before the values, which are then due.
 fn lead(nodes: &[u32], pool: &[u8], i: usize, kind: u8, end: usize, levels: usize) -> Led
-    requires { ⌜ (11 * i + 11 ≤ length (now nodes)) × (levels ≡ valueLevels (now nodes) i) ⌝ }
+    requires { ⌜ (recordLength * i + recordLength ≤ length (now nodes)) × (levels ≡ valueLevels (now nodes) i) ⌝ }
     ensures { λ r. ⌜ Leads (now (nodes .entry)) (now (pool .entry)) kind i end (r .ok) (r .due) (r .state) ⌝ }
 {
     // most elements have no values
@@ -178,7 +180,7 @@ fn children(
     at: usize,
     left: usize,
 ) -> Walked
-    requires { ⌜ (11 * i + 11 ≤ length (now nodes)) × (at ≤ length (now pool)) × (levels ≡ valueLevels (now nodes) i) ⌝ }
+    requires { ⌜ (recordLength * i + recordLength ≤ length (now nodes)) × (at ≤ length (now pool)) × (levels ≡ valueLevels (now nodes) i) ⌝ }
     ensures { λ r. ⌜ Decides (ChildrenAt (now (nodes .entry)) (now (pool .entry)) (placeValues (nodeFirst (ruleOf kind .parameters)) (valuesOf (now (nodes .entry)) (now (pool .entry)) kind i))
         kind i (start kind) (i + 1) at end left) (r .ok) (r .next) (r .pool) ⌝ }
 {
@@ -228,7 +230,7 @@ fn child(
     at: usize,
     left: usize,
 ) -> Entered
-    requires { ⌜ (11 * i + 11 ≤ length (now nodes)) × (i < j) × (at ≤ length (now pool)) ⌝ }
+    requires { ⌜ (recordLength * i + recordLength ≤ length (now nodes)) × (i < j) × (at ≤ length (now pool)) ⌝ }
     ensures { λ r. ⌜ ChildTaken (now (nodes .entry)) (now (pool .entry)) kind i (stateOf kind state) j at left (r .ok) (r .next) (r .pool) (r .state) ⌝ }
 {
     let w = node(nodes, pool, j, i, at, left);
@@ -243,7 +245,7 @@ fn child(
     let r = words(nodes, j);
     let taken = step(kind, state, r[KIND] as u8);
     Entered {
-        ok: taken.fault == 0,
+        ok: taken.fault == OK,
         next: w.next,
         pool: w.pool,
         state: taken.state,
@@ -267,7 +269,7 @@ pub fn is_draft(nodes: &[u32], pool: &[u8]) -> bool
     if word(nodes, 0, KIND) != Kind::DOCUMENT.number as usize {
         return false;
     }
-    let w = element(nodes, pool, 0, MISSING, 0, MOST_LEVELS);
+    let w = element(nodes, pool, 0, MISSING, 0, NESTED_LEVELS);
     if !w.ok {
         return false;
     }

@@ -1,10 +1,15 @@
 // Faults 15 to 18 of the document that a table has (document 01, "Numbers answered").
 use super::index::ANY;
-use super::index::MOST_NODES;
 use super::index::enter;
 use super::index::has_id;
 use super::index::known;
 use super::index::slot;
+use base::limit::MOST_NODES;
+use base::number::OK;
+use base::number::REPEATED_ID;
+use base::number::ROW_LENGTH;
+use base::number::UNKNOWN_FOOTNOTE;
+use base::number::UNKNOWN_TARGET;
 use kind::Kind;
 use table::END;
 use table::KEY;
@@ -18,6 +23,9 @@ ghost use mathlib.Core.Bool.{Bool, false};
 ghost use mathlib.Core.List.{[]};
 ghost use Prim.Native.Nat.{_+_, _*_, _≤_, _<_};
 ghost use lib.ListN.{length};
+ghost use Rattle.base.specs.rules.Limits.{mostNodes};
+ghost use Rattle.document.specs.rules.Record.{recordLength};
+ghost use Rattle.document.specs.rules.Record as Word;
 ghost use Rattle.elements.specs.rules.Class as Class;
 ghost use Rattle.document.specs.rules.Document.{Node, Nodes};
 ghost use Rattle.document.specs.reference.Check.{First, Cells, cellsIn, repeatedId, unknownTarget, check};
@@ -62,7 +70,7 @@ fn repeats(
     heads: &mut [u32; MOST_NODES],
     nexts: &mut [u32; MOST_NODES],
 ) -> bool
-    requires { ⌜ (i < 4096) × Indexed (now nodes) (now pool) i (now heads) (now nexts) ⌝ }
+    requires { ⌜ (i < mostNodes) × Indexed (now nodes) (now pool) i (now heads) (now nexts) ⌝ }
     ensures { λ r. ⌜ (r ≡ repeatsAt (now (nodes .entry)) (now (pool .entry)) i)
         × (r ≡ false → Indexed (now (nodes .entry)) (now (pool .entry)) (i + 1) (now (heads .exit)) (now (nexts .exit))) ⌝ }
 {
@@ -87,7 +95,7 @@ fn first_repeated(
     heads: &mut [u32; MOST_NODES],
     nexts: &mut [u32; MOST_NODES],
 ) -> Found
-    requires { ⌜ (count ≤ 4096) × (11 * count ≤ length (now nodes)) × Indexed (now nodes) (now pool) 0 (now heads) (now nexts) ⌝ }
+    requires { ⌜ (count ≤ mostNodes) × (recordLength * count ≤ length (now nodes)) × Indexed (now nodes) (now pool) 0 (now heads) (now nexts) ⌝ }
     ensures { λ r. ⌜ (r ≡ found (repeatedId [] (entriesFrom (now (nodes .entry)) (now (pool .entry)) count 0)))
         × (r ≡ Found.Nothing → Indexed (now (nodes .entry)) (now (pool .entry)) count (now (heads .exit)) (now (nexts .exit))) ⌝ }
 {
@@ -114,7 +122,7 @@ fn dangles(
     kind: usize,
     only: usize,
 ) -> bool
-    requires { ⌜ (wordAt (now nodes) i 0 ≡ kind) × Indexed (now nodes) (now pool) count (now heads) (now nexts) ⌝ }
+    requires { ⌜ (wordAt (now nodes) i Word.kind ≡ kind) × Indexed (now nodes) (now pool) count (now heads) (now nexts) ⌝ }
     ensures { λ r. ⌜ r ≡ danglesAt (now (nodes .entry)) (now (pool .entry)) kind (idsBefore (now (nodes .entry)) (now (pool .entry)) only count) i ⌝ }
 {
     let id = string(nodes, i, KEY, pool);
@@ -130,7 +138,7 @@ fn first_unknown(
     kind: usize,
     only: usize,
 ) -> Found
-    requires { ⌜ (11 * count ≤ length (now nodes)) × Indexed (now nodes) (now pool) count (now heads) (now nexts) ⌝ }
+    requires { ⌜ (recordLength * count ≤ length (now nodes)) × Indexed (now nodes) (now pool) count (now heads) (now nexts) ⌝ }
     ensures { λ r. ⌜ r ≡ found (unknownTarget kind (idsBefore (now (nodes .entry)) (now (pool .entry)) only count)
         (entriesFrom (now (nodes .entry)) (now (pool .entry)) count 0)) ⌝ }
 {
@@ -191,7 +199,7 @@ fn head_names(nodes: &[u32], t: usize) -> Found
 
 // The first ancestor of node `i` that is no body.
 fn binder(nodes: &[u32], i: usize) -> usize
-    ensures { λ r. ⌜ ((c : Cells) → Below (now (nodes .entry)) (wordAt (now (nodes .entry)) i 1) c → Binder (now (nodes .entry)) r c) ⌝ }
+    ensures { λ r. ⌜ ((c : Cells) → Below (now (nodes .entry)) (wordAt (now (nodes .entry)) i Word.parent) c → Binder (now (nodes .entry)) r c) ⌝ }
 {
     let mut a = word(nodes, i, PARENT);
     while word(nodes, a, KIND) == BODY {
@@ -206,7 +214,7 @@ fn binder(nodes: &[u32], i: usize) -> usize
 
 // 15: whether node `i`, which is a row, is one of a table with head and has another number of cells than the head has names.
 fn row_differs(nodes: &[u32], i: usize) -> bool
-    requires { ⌜ wordAt (now nodes) i 0 ≡ Class.row ⌝ }
+    requires { ⌜ wordAt (now nodes) i Word.kind ≡ Class.row ⌝ }
     ensures { λ r. ⌜ ((b : Bool) → Spot (now (nodes .entry)) i b → r ≡ b) ⌝ }
 {
     let t = binder(nodes, i);
@@ -221,7 +229,7 @@ fn row_differs(nodes: &[u32], i: usize) -> bool
 }
 
 fn first_bad_row(nodes: &[u32], count: usize) -> Found
-    requires { ⌜ 11 * count ≤ length (now nodes) ⌝ }
+    requires { ⌜ recordLength * count ≤ length (now nodes) ⌝ }
     ensures { λ r. ⌜ ((f : First) → Searched (now (nodes .entry)) count 0 f → r ≡ found f) ⌝ }
 {
     let mut i = 0;
@@ -238,13 +246,13 @@ fn first_bad_row(nodes: &[u32], count: usize) -> Found
 
 // The check of the table of a document with `count` nodes.
 pub fn check_table(nodes: &[u32], count: usize, pool: &[u8]) -> Fault
-    requires { ⌜ (count ≤ 4096) × (11 * count ≤ length (now nodes)) ⌝ }
+    requires { ⌜ (count ≤ mostNodes) × (recordLength * count ≤ length (now nodes)) ⌝ }
     ensures { λ r. ⌜ ((d : Node) → Holds (now (nodes .entry)) count (now (pool .entry)) d → (r .number ≡ checkNumber (check d)) × (r .node ≡ checkNode (check d))) ⌝ }
 {
     let row = first_bad_row(nodes, count);
     if let Found::At(i) = row {
         return Fault {
-            number: 15,
+            number: ROW_LENGTH,
             node: i,
         };
     }
@@ -253,23 +261,26 @@ pub fn check_table(nodes: &[u32], count: usize, pool: &[u8]) -> Fault
     let id = first_repeated(nodes, count, pool, &mut heads, &mut nexts);
     if let Found::At(i) = id {
         return Fault {
-            number: 16,
+            number: REPEATED_ID,
             node: i,
         };
     }
     let link = first_unknown(nodes, count, pool, &heads, &nexts, LINK, ANY);
     if let Found::At(i) = link {
         return Fault {
-            number: 17,
+            number: UNKNOWN_TARGET,
             node: i,
         };
     }
     let note = first_unknown(nodes, count, pool, &heads, &nexts, FOOTNOTE_REF, FOOTNOTE);
     if let Found::At(i) = note {
         return Fault {
-            number: 18,
+            number: UNKNOWN_FOOTNOTE,
             node: i,
         };
     }
-    Fault { number: 0, node: 0 }
+    Fault {
+        number: OK,
+        node: 0,
+    }
 }

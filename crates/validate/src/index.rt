@@ -1,5 +1,6 @@
 // An index of the ids of blocks, so that faults 16 to 18 take no pass over the nodes for each id.
-// Each id has a slot. `heads` has the last node of each slot, and `nexts` the one before each node in its slot: its number + 1, or 0 for none.
+// Each id has a slot; there are as many slots as a table may have nodes. `heads` has the last node of each slot, and `nexts` the one before each node in its slot: its number + 1, or 0 for none.
+use base::limit::MOST_NODES;
 use kind::Kind;
 use table::KEY;
 use table::KIND;
@@ -9,14 +10,13 @@ ghost use mathlib.Core.Path.{_≡_};
 ghost use mathlib.Core.Bool.{_&&_};
 ghost use Prim.Native.Nat.{_+_, _<_};
 ghost use lib.ListN.{set, getD};
+ghost use Rattle.base.specs.rules.Limits.{mostNodes};
+ghost use Rattle.document.specs.rules.Record as Word;
 ghost use Rattle.elements.specs.rules.Bytes.{same};
 ghost use Rattle.document.specs.reference.Check.{isAmong, hasId};
 ghost use Rattle.table.specs.Stored.{wordAt};
 ghost use Rattle.validate.specs.internal.Words.{entryAt, wanted, idsBefore};
 ghost use Rattle.validate.specs.internal.Index.{slotOf, Indexed};
-
-// "at most 4,096 nodes", and as many slots.
-pub const MOST_NODES: usize = 4096;
 
 // Stands for blocks of any kind. Blocks are the kinds from document to footnote.
 pub const ANY: usize = 0;
@@ -56,7 +56,7 @@ fn equal(a: &[u8], b: &[u8]) -> bool
 
 // Whether node `i` is a block with an id, and of the kind `only` where that is not 0.
 pub fn has_id(nodes: &[u32], i: usize, pool: &[u8], only: usize) -> bool
-    ensures { λ r. ⌜ r ≡ wanted only (wordAt (now (nodes .entry)) i 0) && hasId (entryAt (now (nodes .entry)) (now (pool .entry)) i) ⌝ }
+    ensures { λ r. ⌜ r ≡ wanted only (wordAt (now (nodes .entry)) i Word.kind) && hasId (entryAt (now (nodes .entry)) (now (pool .entry)) i) ⌝ }
 {
     let kind = word(nodes, i, KIND);
     if kind < DOCUMENT {
@@ -103,7 +103,7 @@ pub fn known(
 
 // Node `i` becomes the last of slot `s`.
 pub fn enter(heads: &mut [u32; MOST_NODES], nexts: &mut [u32; MOST_NODES], s: usize, i: usize)
-    requires { ⌜ (s < 4096) × (i < 4096) ⌝ }
+    requires { ⌜ (s < mostNodes) × (i < mostNodes) ⌝ }
     ensures { λ r. ⌜ (now (nexts .exit) ≡ set (now (nexts .entry)) i (getD (now (heads .entry)) s 0))
         × (now (heads .exit) ≡ set (now (heads .entry)) s (i + 1)) ⌝ }
 {

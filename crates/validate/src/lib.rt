@@ -5,11 +5,16 @@ mod index; // index.rt: the ids of blocks, to look them up
 mod record; // record.rt: whether one record is that of a node
 mod values; // values.rt: the values of an element
 
+use base::number::NOT_A_TABLE;
 use draft::is_draft;
 use faults::check_table;
+use table::RECORD;
 ghost use mathlib.Core.Path.{_≡_};
 ghost use Rattle.document.specs.reference.Printing.{checking};
 ghost use Rattle.validate.specs.Checks.{Checks};
+
+// A step that finds no fault, in a byte.
+const OK: u8 = base::number::OK as u8;
 
 // 20, or a fault 15 to 18 with the number of the first node that has it, or 0 at node 0.
 pub struct Checked {
@@ -22,16 +27,16 @@ pub fn check(nodes: &[u32], node_count: u32, pool: &[u8], pool_count: u32) -> Ch
     ensures { λ r. ⌜ Checks (checking (now (nodes .entry)) «node_count» (now (pool .entry)) «pool_count») r ⌝ }
 {
     let bytes = pool_count as usize;
-    let words = 11 * (node_count as usize);
+    let words = RECORD * (node_count as usize);
     if nodes.len() < words {
         return Checked {
-            number: 20,
+            number: NOT_A_TABLE,
             node: 0,
         };
     }
     if pool.len() < bytes {
         return Checked {
-            number: 20,
+            number: NOT_A_TABLE,
             node: 0,
         };
     }
@@ -39,7 +44,7 @@ pub fn check(nodes: &[u32], node_count: u32, pool: &[u8], pool_count: u32) -> Ch
     let strings = &pool[..bytes];
     if !is_draft(table, strings) {
         return Checked {
-            number: 20,
+            number: NOT_A_TABLE,
             node: 0,
         };
     }

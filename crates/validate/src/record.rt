@@ -3,8 +3,10 @@ ghost use mathlib.Core.Path.{_≡_};
 ghost use mathlib.Core.List.{List};
 ghost use Prim.Native.Nat.{ℕ, _+_, _*_, _≤_, _<_};
 ghost use lib.ListN.{length};
+ghost use Rattle.document.specs.rules.Record.{recordLength};
 ghost use Rattle.table.specs.Stored.{wordAt, Recorded};
 ghost use Rattle.validate.specs.internal.Walking.{Decided, StringAt, RecordAt, TextAlone, ElementAt, valueLevels};
+use kind::Kind;
 use table::END;
 use table::HEIGHT;
 use table::KEY;
@@ -22,10 +24,15 @@ use table::WIDTH;
 // What stands for a missing width or height, as a word.
 const MISSING_WORD: u32 = MISSING as u32;
 
+// "Kinds are numbered 1 to 25".
+const FIRST_KIND: u32 = Kind::DOCUMENT.number as u32;
+
+const LAST_KIND: u32 = Kind::CELL.number as u32;
+
 // The record of node `i`, which is there, so that its words are read without a test for each.
 pub fn words<'a>(nodes: &'a [u32], i: usize) -> &'a [u32]
-    requires { ⌜ 11 * i + 11 ≤ length (now nodes) ⌝ }
-    ensures { λ r. ⌜ Recorded (now (nodes .entry)) i (now r) × (length (now r) ≡ 11) ⌝ }
+    requires { ⌜ recordLength * i + recordLength ≤ length (now nodes) ⌝ }
+    ensures { λ r. ⌜ Recorded (now (nodes .entry)) i (now r) × (length (now r) ≡ recordLength) ⌝ }
 {
     let at = RECORD * i;
     let end = at + RECORD;
@@ -49,7 +56,7 @@ pub fn string_stands(offset: u32, length: u32, p: usize, size: usize) -> bool
 
 // Whether a record has this parent, and its strings stand from `p` on.
 pub fn stands(r: &[u32], size: usize, parent: usize, p: usize) -> bool
-    requires { ⌜ (length (now r) ≡ 11) × (p ≤ size) ⌝ }
+    requires { ⌜ (length (now r) ≡ recordLength) × (p ≤ size) ⌝ }
     ensures { λ b. ⌜ ((words : List ℕ) (i : ℕ) → Recorded words i (now (r .entry)) → Decided (RecordAt words size i parent p) b) ⌝ }
 {
     if r[PARENT] as usize != parent {
@@ -68,7 +75,7 @@ pub fn stands(r: &[u32], size: usize, parent: usize, p: usize) -> bool
 
 // Whether a record has this parent and end, a text, and no other string and no size.
 pub fn text_alone(r: &[u32], parent: usize, end: usize) -> bool
-    requires { ⌜ length (now r) ≡ 11 ⌝ }
+    requires { ⌜ length (now r) ≡ recordLength ⌝ }
     ensures { λ b. ⌜ ((words : List ℕ) (i : ℕ) → Recorded words i (now (r .entry)) → Decided (TextAlone words i parent end) b) ⌝ }
 {
     (r[PARENT] as usize == parent)
@@ -84,7 +91,7 @@ pub fn text_alone(r: &[u32], parent: usize, end: usize) -> bool
 
 // The levels of an element's values.
 pub fn value_levels(r: &[u32]) -> usize
-    requires { ⌜ length (now r) ≡ 11 ⌝ }
+    requires { ⌜ length (now r) ≡ recordLength ⌝ }
     ensures { λ n. ⌜ ((words : List ℕ) (i : ℕ) → Recorded words i (now (r .entry)) → n ≡ valueLevels words i) ⌝ }
 {
     if r[WIDTH] != MISSING_WORD {
@@ -101,13 +108,13 @@ pub fn value_levels(r: &[u32]) -> usize
 
 // Whether a record may be that of an element that nests at most `left` levels; its values nest `levels`.
 pub fn element_fits(r: &[u32], levels: usize, left: usize) -> bool
-    requires { ⌜ length (now r) ≡ 11 ⌝ }
+    requires { ⌜ length (now r) ≡ recordLength ⌝ }
     ensures { λ b. ⌜ ((words : List ℕ) (i : ℕ) → Recorded words i (now (r .entry)) → levels ≡ valueLevels words i → Decided (ElementAt words i left) b) ⌝ }
 {
-    if r[KIND] < 1 {
+    if r[KIND] < FIRST_KIND {
         return false;
     }
-    if 25 < r[KIND] {
+    if LAST_KIND < r[KIND] {
         return false;
     }
     if r[TEXT_LENGTH] != 0 {

@@ -1,4 +1,5 @@
 // The values of an element: id or target, size, type (document 01, "Elements").
+use super::OK;
 use super::record::words;
 use kind::Keyword;
 use kind::Kind;
@@ -18,10 +19,15 @@ ghost use mathlib.Core.Bool.{_&&_};
 ghost use mathlib.Core.List.{List};
 ghost use Prim.Native.Nat.{ℕ, _+_, _*_, _≤_};
 ghost use lib.ListN.{length};
+ghost use Rattle.document.specs.rules.Record.{recordLength};
+ghost use Rattle.elements.specs.rules.Class as Class;
 ghost use Rattle.elements.specs.rules.Characters.{characterOf};
 ghost use Rattle.document.specs.rules.Value.{isValue, nonEmpty, every};
 ghost use Rattle.document.specs.rules.Canonical.{valueBefore, sizeBefore};
 ghost use Rattle.validate.specs.internal.Walking.{Takes, valuesOf};
+
+// A width or a height: "at most 65,535 each".
+const MOST_SIZE: usize = 65535;
 
 // Whether what stands before the rest is taken, and the state after it.
 pub struct Taken {
@@ -45,7 +51,7 @@ fn fits(bytes: &[u8], sort: u8) -> bool
 
 // The sort of the characters of a value of a class in an element of a kind.
 fn sort(kind: u8, class: u8) -> u8
-    requires { ⌜ (26 ≤ class) × (class ≤ 28) ⌝ }
+    requires { ⌜ (Class.id ≤ class) × (class ≤ Class.target) ⌝ }
     ensures { λ r. ⌜ ((s : List ℕ) → isValue kind class s ≡ nonEmpty s && every (characterOf r) s) ⌝ }
 {
     if class == Keyword::TYPE.number {
@@ -65,14 +71,14 @@ fn sort(kind: u8, class: u8) -> u8
 
 // A value, where it is there.
 fn take_value(kind: u8, state: u8, class: u8, bytes: &[u8]) -> Taken
-    requires { ⌜ (26 ≤ class) × (class ≤ 28) ⌝ }
+    requires { ⌜ (Class.id ≤ class) × (class ≤ Class.target) ⌝ }
     ensures { λ r. ⌜ Takes kind (valueBefore class (now (bytes .entry))) state (r .ok) (r .state) ⌝ }
 {
     if bytes.len() == 0 {
         return Taken { ok: true, state };
     }
     let taken = step(kind, state, class);
-    if taken.fault != 0 {
+    if taken.fault != OK {
         return Taken { ok: false, state };
     }
     Taken {
@@ -81,29 +87,29 @@ fn take_value(kind: u8, state: u8, class: u8, bytes: &[u8]) -> Taken
     }
 }
 
-// A size, where it is there: "at most 65,535 each".
+// A size, where it is there.
 fn take_size(kind: u8, state: u8, width: usize, height: usize) -> Taken
     ensures { λ r. ⌜ Takes kind (sizeBefore width height) state (r .ok) (r .state) ⌝ }
 {
     if width == MISSING {
         return Taken { ok: true, state };
     }
-    if 65535 < width {
+    if MOST_SIZE < width {
         return Taken { ok: false, state };
     }
-    if 65535 < height {
+    if MOST_SIZE < height {
         return Taken { ok: false, state };
     }
     let taken = step(kind, state, Keyword::SIZE.number);
     Taken {
-        ok: taken.fault == 0,
+        ok: taken.fault == OK,
         state: taken.state,
     }
 }
 
 // The values of node `i` of a kind, "id before type".
 pub fn values(nodes: &[u32], pool: &[u8], i: usize, kind: u8, state: u8) -> Taken
-    requires { ⌜ 11 * i + 11 ≤ length (now nodes) ⌝ }
+    requires { ⌜ recordLength * i + recordLength ≤ length (now nodes) ⌝ }
     ensures { λ r. ⌜ Takes kind (valuesOf (now (nodes .entry)) (now (pool .entry)) kind i) state (r .ok) (r .state) ⌝ }
 {
     let r = words(nodes, i);

@@ -6,19 +6,27 @@ use lib.Dec.{eqb, ltb}
 use Rattle.elements.specs.rules.Rules.{Slot, must, may, id-type, Content}
 use Rattle.elements.specs.rules.Inside.{allows}
 
--- The parameters that a number and what follows it stand for: 0 is the end, a class below 64 a required one, 64 and a class an optional one,
--- and 255 is `id?/type?`, which is always the last.
+-- What is added to the class of an optional parameter; it is above every class.
+abbrev pub optional : ℕ
+optional = 64
+
+-- `id?/type?`, "either order"
+abbrev pub eitherOrder : ℕ
+eitherOrder = 255
+
+-- The parameters that a number and what follows it stand for: 0 is the end, a class alone a required one, `optional` and a class an optional one,
+-- and `eitherOrder` is `id?/type?`, which is always the last.
 unfoldable pub led : ℕ → List Slot → List Slot
 led n ps =
     cond (eqb n 0) []
-    (cond (ltb n 64) (must n ∷ ps)
-    (cond (eqb n 255) (id-type ∷ []) (may (n - 64) ∷ ps)))
+    (cond (ltb n optional) (must n ∷ ps)
+    (cond (eqb n eitherOrder) (id-type ∷ []) (may (n - optional) ∷ ps)))
 
 -- The number of a parameter.
 unfoldable pub code : Slot → ℕ
 code (must n) = n
-code (may n) = 64 + n
-code id-type = 255
+code (may n) = optional + n
+code id-type = eitherOrder
 
 -- Parameters in the bytes of one number, the first in the lowest.
 unfoldable pub packed : List Slot → ℕ

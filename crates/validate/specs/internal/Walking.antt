@@ -6,6 +6,7 @@ use mathlib.Core.List.{List}
 use lib.Dec.{T, eqb}
 use lib.ListN.{length}
 use Rattle.elements.specs.rules.Class as Class
+use Rattle.document.specs.rules.Record as Word
 use Rattle.elements.specs.rules.Rules.{ruleOf}
 use Rattle.elements.specs.rules.Inside.{State, go, step, start}
 use Rattle.kind.specs.Machine.{stateOf}
@@ -38,46 +39,46 @@ pub record StringAt (words : List ℕ) (i j p size : ℕ) : Type 0 where
 
 -- "id or target, then type, then text": where the strings of node i end, from p on.
 abbrev pub stringsEnd : List ℕ → ℕ → ℕ → ℕ
-stringsEnd words i p = p + wordAt words i 4 + wordAt words i 6 + wordAt words i 8
+stringsEnd words i p = p + wordAt words i Word.key-length + wordAt words i Word.type-length + wordAt words i Word.text-length
 
 -- There is a record of node i, with this parent, and its strings stand from p on.
 pub record RecordAt (words : List ℕ) (size i parent p : ℕ) : Type 0 where
   pub whole : recordLength * i + recordLength ≤ length words
-  pub under : wordAt words i 1 ≡ parent
-  pub key-at : StringAt words i 3 p size
-  pub type-at : StringAt words i 5 (p + wordAt words i 4) size
-  pub text-at : StringAt words i 7 (p + wordAt words i 4 + wordAt words i 6) size
+  pub under : wordAt words i Word.parent ≡ parent
+  pub key-at : StringAt words i Word.key-offset p size
+  pub type-at : StringAt words i Word.type-offset (p + wordAt words i Word.key-length) size
+  pub text-at : StringAt words i Word.text-offset (p + wordAt words i Word.key-length + wordAt words i Word.type-length) size
 
 -- A record has this parent and end, a text, and no other string and no size.
 pub record TextAlone (words : List ℕ) (i parent end : ℕ) : Type 0 where
-  pub under : wordAt words i 1 ≡ parent
-  pub ends : wordAt words i 2 ≡ end
-  pub no-key-at : wordAt words i 3 ≡ 0
-  pub no-key : wordAt words i 4 ≡ 0
-  pub no-type-at : wordAt words i 5 ≡ 0
-  pub no-type : wordAt words i 6 ≡ 0
-  pub some : wordAt words i 8 ≡ 0 → ⊥
-  pub no-width : wordAt words i 9 ≡ missing
-  pub no-height : wordAt words i 10 ≡ missing
+  pub under : wordAt words i Word.parent ≡ parent
+  pub ends : wordAt words i Word.end ≡ end
+  pub no-key-at : wordAt words i Word.key-offset ≡ 0
+  pub no-key : wordAt words i Word.key-length ≡ 0
+  pub no-type-at : wordAt words i Word.type-offset ≡ 0
+  pub no-type : wordAt words i Word.type-length ≡ 0
+  pub some : wordAt words i Word.text-length ≡ 0 → ⊥
+  pub no-width : wordAt words i Word.width ≡ missing
+  pub no-height : wordAt words i Word.height ≡ missing
 
 -- The levels of an element's values.
 unfoldable pub valueLevels : List ℕ → ℕ → ℕ
-valueLevels words i = cond (eqb (wordAt words i 4) 0 && (eqb (wordAt words i 6) 0 && eqb (wordAt words i 9) missing)) 0 1
+valueLevels words i = cond (eqb (wordAt words i Word.key-length) 0 && (eqb (wordAt words i Word.type-length) 0 && eqb (wordAt words i Word.width) missing)) 0 1
 
 -- Such a record may be that of an element: it has a kind and no text, width and height are missing together, and with its values it nests at most `left` levels.
 pub record ElementAt (words : List ℕ) (i left : ℕ) : Type 0 where
-  pub kind-low : 1 ≤ wordAt words i 0
-  pub kind-high : wordAt words i 0 ≤ 25
-  pub no-text : wordAt words i 8 ≡ 0
-  pub sized : wordAt words i 9 ≡ missing → wordAt words i 10 ≡ missing
+  pub kind-low : Class.document ≤ wordAt words i Word.kind
+  pub kind-high : wordAt words i Word.kind ≤ Class.cell
+  pub no-text : wordAt words i Word.text-length ≡ 0
+  pub sized : wordAt words i Word.width ≡ missing → wordAt words i Word.height ≡ missing
   pub levels : valueLevels words i < left
 
 -- The values of node i, of kind k, in canonical order before the trees.
 unfoldable pub valuesOf : List ℕ → List ℕ → ℕ → ℕ → Trees → Trees
 valuesOf words bytes k i ts =
-    valueBefore (keyClass k) (stringAt words bytes i 3)
-    (sizeBefore (wordAt words i 9) (wordAt words i 10)
-    (valueBefore Class.type (stringAt words bytes i 5) ts))
+    valueBefore (keyClass k) (stringAt words bytes i Word.key-offset)
+    (sizeBefore (wordAt words i Word.width) (wordAt words i Word.height)
+    (valueBefore Class.type (stringAt words bytes i Word.type-offset) ts))
 
 -- What W puts before the trees inside an element of kind k is taken, if ok, and leads from one state to the other.
 pub record Takes (k : ℕ) (W : Trees → Trees) (state : ℕ) (ok : Bool) (state′ : ℕ) : Type 0 where
@@ -122,6 +123,6 @@ pub record ChildrenAt (words bytes : List ℕ) (W : Trees → Trees) (k i : ℕ)
 
 -- An answer tells whether a lawful child of node i stands in the table with number `at` and is taken, and what follows it.
 pub record ChildTaken (words bytes : List ℕ) (k i : ℕ) (s : State) (at p left : ℕ) (ok : Bool) (next pool state : ℕ) : Type 0 where
-  pub sound : ok ≡ true → NodeAt words bytes at i p left next pool × (step k s (wordAt words at 0) ≡ go (stateOf k state))
-  pub complete : (e q : ℕ) (s′ : State) → NodeAt words bytes at i p left e q → step k s (wordAt words at 0) ≡ go s′
+  pub sound : ok ≡ true → NodeAt words bytes at i p left next pool × (step k s (wordAt words at Word.kind) ≡ go (stateOf k state))
+  pub complete : (e q : ℕ) (s′ : State) → NodeAt words bytes at i p left e q → step k s (wordAt words at Word.kind) ≡ go s′
       → (ok ≡ true) × (next ≡ e) × (pool ≡ q)

@@ -5,6 +5,7 @@ use mathlib.Core.Bool.{Bool, not, cond, _&&_}
 use mathlib.Core.List.{List, [], _∷_}
 use lib.Dec.{eqb}
 use Rattle.elements.specs.rules.Class as Class
+use Rattle.document.specs.rules.Record as Word
 use Rattle.document.specs.rules.Document.{Node, node, Nodes, childless, child}
 use Rattle.document.specs.rules.Table.{count, countAll}
 use Rattle.document.specs.reference.Check.{First, nowhere, at-node, Cells, any-number, exactly, cellsIn, differs, Entry, hasId, isAmong}
@@ -15,10 +16,10 @@ use Rattle.validate.specs.declared.faults.Found.the-variants.{At, Nothin
 
 -- The id or target of node i.
 abbrev pub keyAt : List ℕ → List ℕ → ℕ → List ℕ
-keyAt words bytes i = stringAt words bytes i 3
+keyAt words bytes i = stringAt words bytes i Word.key-offset
 
 abbrev pub entryAt : List ℕ → List ℕ → ℕ → Entry
-entryAt words bytes i = record { number = i; kind = wordAt words i 0; key = keyAt words bytes i }
+entryAt words bytes i = record { number = i; kind = wordAt words i Word.kind; key = keyAt words bytes i }
 
 -- The n entries from node i on.
 unfoldable pub entriesFrom : List ℕ → List ℕ → ℕ → ℕ → List Entry
@@ -33,7 +34,7 @@ wanted only k = cond (eqb only 0) (Class.isBlock k) (eqb only k)
 unfoldable pub idsBefore : List ℕ → List ℕ → ℕ → ℕ → List (List ℕ)
 idsBefore words bytes only zero = []
 idsBefore words bytes only (suc n) =
-    cond (wanted only (wordAt words n 0) && hasId (entryAt words bytes n)) (keyAt words bytes n ∷ idsBefore words bytes only n)
+    cond (wanted only (wordAt words n Word.kind) && hasId (entryAt words bytes n)) (keyAt words bytes n ∷ idsBefore words bytes only n)
     (idsBefore words bytes only n)
 
 -- Node i is a block whose id is on an earlier block.
@@ -42,7 +43,7 @@ repeatsAt words bytes i = hasId (entryAt words bytes i) && isAmong (keyAt words 
 
 -- Node i is of kind k, and its target none of these ids.
 abbrev pub danglesAt : List ℕ → List ℕ → ℕ → List (List ℕ) → ℕ → Bool
-danglesAt words bytes k ids i = eqb (wordAt words i 0) k && not (isAmong (keyAt words bytes i) ids)
+danglesAt words bytes k ids i = eqb (wordAt words i Word.kind) k && not (isAmong (keyAt words bytes i) ids)
 
 unfoldable pub found : First → Found
 found nowhere = Nothing
@@ -56,7 +57,7 @@ cellsFound (exactly n) = At n
 unfoldable mutual
   pub Shape : List ℕ → ℕ → ℕ → Node → Type 0
   Shape words p i (node k key type text w h ns) =
-      (wordAt words i 0 ≡ k) × (wordAt words i 1 ≡ p) × ((wordAt words i 2 ≡ i + suc (countAll ns)) × Shapes words i (i + 1) ns)
+      (wordAt words i Word.kind ≡ k) × (wordAt words i Word.parent ≡ p) × ((wordAt words i Word.end ≡ i + suc (countAll ns)) × Shapes words i (i + 1) ns)
 
   pub Shapes : List ℕ → ℕ → ℕ → Nodes → Type 0
   Shapes words p i childless = Unit {0}
@@ -64,26 +65,26 @@ unfoldable mutual
 
 -- Node i has these children.
 abbrev pub Family : List ℕ → ℕ → Nodes → Type 0
-Family words i ns = (wordAt words i 2 ≡ i + suc (countAll ns)) × Shapes words i (i + 1) ns
+Family words i ns = (wordAt words i Word.end ≡ i + suc (countAll ns)) × Shapes words i (i + 1) ns
 
 -- The rows among the children of node i must have so many cells.
 pub data Below (words : List ℕ) : ℕ → Cells → Type 0 where
-  in-table : {i : ℕ} (ns : Nodes) → wordAt words i 0 ≡ Class.table → Family words i ns → Below words i (cellsIn ns)
-  in-body : {i : ℕ} {c : Cells} → wordAt words i 0 ≡ Class.body → wordAt words i 1 < i → Below words (wordAt words i 1) c → Below words i c
-  elsewhere : {i : ℕ} → (wordAt words i 0 ≡ Class.table → ⊥) → (wordAt words i 0 ≡ Class.body → ⊥) → Below words i any-number
+  in-table : {i : ℕ} (ns : Nodes) → wordAt words i Word.kind ≡ Class.table → Family words i ns → Below words i (cellsIn ns)
+  in-body : {i : ℕ} {c : Cells} → wordAt words i Word.kind ≡ Class.body → wordAt words i Word.parent < i → Below words (wordAt words i Word.parent) c → Below words i c
+  elsewhere : {i : ℕ} → (wordAt words i Word.kind ≡ Class.table → ⊥) → (wordAt words i Word.kind ≡ Class.body → ⊥) → Below words i any-number
 
 -- The node that says so is no body.
 pub record Binder (words : List ℕ) (i : ℕ) (c : Cells) : Type 0 where
   pub binds : Below words i c
-  pub no-body : wordAt words i 0 ≡ Class.body → ⊥
+  pub no-body : wordAt words i Word.kind ≡ Class.body → ⊥
 
 -- Whether node i is a row with another number of cells than it must have.
 pub record Spot (words : List ℕ) (i : ℕ) (b : Bool) : Type 0 where
   pub must : Cells
   pub cells : Nodes
   pub family : Family words i cells
-  pub bound : wordAt words i 0 ≡ Class.row → Below words (wordAt words i 1) must
-  pub test : b ≡ eqb (wordAt words i 0) Class.row && differs must (childCount cells)
+  pub bound : wordAt words i Word.kind ≡ Class.row → Below words (wordAt words i Word.parent) must
+  pub test : b ≡ eqb (wordAt words i Word.kind) Class.row && differs must (childCount cells)
 
 -- The first such row among n nodes from number i on.
 unfoldable pub Searched : List ℕ → ℕ → ℕ → First → Type 0

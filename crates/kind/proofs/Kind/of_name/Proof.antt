@@ -20,11 +20,11 @@ high c h = rw (le-leb 1 c (omega arith), lt-leb c 25 h)
 
 returns : tie.Need-returns
 unfolding kindOf
-returns c = rw (← c .before .class-of .ensures) (low _ (c .if1 .taken))
+returns c = rw (← c .before .before .class-of .ensures) (low _ (c .if1 .taken))
 
 returns-2 : tie.Need-returns-2
 unfolding kindOf
-returns-2 c = rw (← c .before .class-of .ensures) (high _ (c .if1 .left))
+returns-2 c = rw (← c .before .before .class-of .ensures) (high _ (c .if1 .left))
 
 pub of-name-spec : {M : Type 1} → statement M
 of-name-spec = tie.close (tie.spec (λ c κs. search needs) returns returns-2)
