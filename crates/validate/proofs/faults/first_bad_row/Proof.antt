@@ -6,8 +6,8 @@ use native.Mathlib.Omega.{arith}
 use borrow.Author.Needs.{needs}
 use Rattle.document.specs.reference.Check.{First}
 use Rattle.validate.specs.internal.Words.{found, Searched}
-use Rattle.validate.proofs.Ids.{kind-read}
-use Rattle.validate.proofs.Rows.{spot-other, search-turn, search-end}
+use Rattle.validate.proofs.index_lemmas.BlockIds.{kind-read}
+use Rattle.validate.proofs.faults_lemmas.BadRows.{spot-other, search-turn, search-end}
 use Rattle.validate.proofs.faults.first_bad_row.Statement.{statement}
 use Rattle.validate.proofs.faults.first_bad_row.Tie as tie
 

@@ -15,7 +15,7 @@ use Rattle.document.specs.reference.RulesTest.{isText}
 use Rattle.table.specs.Stored.{wordAt, Recorded}
 use Rattle.table.proofs.Stored.{recorded-word}
 use Rattle.validate.specs.internal.Walking.{Decided, offsetOf, StringAt, TextAlone}
-use Rattle.validate.proofs.Decisions.{decided, denied, equal, unequal, both-decided, reworded}
+use Rattle.validate.proofs.record_lemmas.Decided.{decided, denied, equal, unequal, both-decided, reworded}
 
 -- ---- the words of a record
 

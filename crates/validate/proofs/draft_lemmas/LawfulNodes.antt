@@ -22,10 +22,10 @@ use Rattle.document.specs.rules.Canonical.{nodeFirst, placeValues, layout, layo
 use Rattle.table.specs.Stored.{wordAt, StoredAll}
 use Rattle.table.specs.Stored.{stringAt}
 use Rattle.validate.specs.internal.Walking.{Decided, Decides, offsetOf, StringAt, stringsEnd, RecordAt, TextAlone, ElementAt, valueLevels, valuesOf, Lawful, NodeAt, ChildrenAt}
-use Rattle.validate.proofs.Decisions.{decided, Same}
-use Rattle.validate.proofs.Recordings.{nodeOf, no-string, named, stored-node, node-stored, node-pool}
-use Rattle.validate.proofs.RecordTests.{text-bytes, bytes-text}
-use Rattle.validate.proofs.Spoken.{levelsOf, inside-say}
+use Rattle.validate.proofs.record_lemmas.Decided.{decided, Same}
+use Rattle.validate.proofs.record_lemmas.NodeRecords.{nodeOf, no-string, named, stored-node, node-stored, node-pool}
+use Rattle.validate.proofs.record_lemmas.RecordTests.{text-bytes, bytes-text}
+use Rattle.validate.proofs.draft_lemmas.ValuePlaces.{levelsOf, inside-say}
 
 -- The kinds of elements.
 pub element-range : (k : ℕ) → T (Class.isElement k) → (1 ≤ k) × (k ≤ 25)

@@ -23,7 +23,7 @@ use Rattle.document.specs.rules.Canonical.{nodeFirst, placeValues, layout, layo
 use Rattle.document.proofs.Determined.{count-positive}
 use Rattle.table.specs.Stored.{wordAt}
 use Rattle.validate.specs.internal.Walking.{Takes, Leads, valueLevels, valuesOf}
-use Rattle.validate.proofs.Recordings.{no-string}
+use Rattle.validate.proofs.record_lemmas.NodeRecords.{no-string}
 
 -- ---- the characters of a value
 

@@ -16,7 +16,7 @@ use Rattle.elements.proofs.Same.{same-equal}
 use Rattle.document.specs.reference.Check.{hasId, isAmong}
 use Rattle.validate.specs.internal.Words.{keyAt, entryAt, idsBefore}
 use Rattle.validate.specs.internal.Index.{mixed, slotOf, lastIn, Indexed}
-use Rattle.validate.proofs.Ids.{and-both, named}
+use Rattle.validate.proofs.index_lemmas.BlockIds.{and-both, named}
 
 pub slot-below : (id : List ℕ) → slotOf id < 4096
 unfolding slotOf

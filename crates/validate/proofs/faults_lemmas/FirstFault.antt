@@ -9,8 +9,8 @@ use Rattle.validate.specs.declared.faults.Found.{Found}
 use Rattle.validate.specs.declared.faults.Found.the-variants.{At, Nothing}
 use Rattle.validate.specs.Checked.{checkNumber, checkNode, Holds}
 use Rattle.validate.specs.internal.Words.{entriesFrom, idsBefore, found, Searched}
-use Rattle.validate.proofs.Rows.{found-nothing, found-at}
-use Rattle.validate.proofs.Tables.{entries-are, link-is, note-is, rows-searched}
+use Rattle.validate.proofs.faults_lemmas.BadRows.{found-nothing, found-at}
+use Rattle.validate.proofs.faults_lemmas.TableEntries.{entries-are, link-is, note-is, rows-searched}
 
 abbrev Answer : Check → ℕ → ℕ → Type 0
 Answer c n i = (n ≡ checkNumber c) × (i ≡ checkNode c)

@@ -27,7 +27,7 @@ use Rattle.validate.specs.Checked.{Holds}
 use Rattle.document.specs.reference.Printing.{part}
 use Rattle.table.specs.Stored.{wordAt, stringAt}
 use Rattle.validate.specs.internal.Words.{keyAt, entryAt, entriesFrom, wanted, idsBefore, Shape, Shapes, Family, Below, in-table, in-body, elsewhere, Searched}
-use Rattle.validate.proofs.Ids.{named}
+use Rattle.validate.proofs.index_lemmas.BlockIds.{named}
 
 -- What stands in a part of a list that is long enough.
 part-of : (xs ys : List ℕ) (at size : ℕ) (key : List ℕ) → take size (drop at xs) ≡ key → length key ≡ size → take size (drop at (xs ++ ys)) ≡ key
