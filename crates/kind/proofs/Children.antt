@@ -15,7 +15,7 @@ use Rattle.elements.specs.rules.Inside.{holding, Step, go, bad, isInclude, allo
 use Rattle.elements.proofs.Alternatives.{chosen-case, one-has, some-has}
 use Rattle.elements.proofs.Significance.{one-alternative, one-significance}
 use Rattle.kind.specs.Machine.{hasSignificance, alternativeOf, stateOf, withChild, InNumbers}
-use Rattle.kind.proofs.Steps.{child-state, refused}
+use Rattle.kind.proofs.Steps.{child-state, numbers-of-refused}
 
 some-kind : (n : ℕ) (ks : List ℕ) → T (hasSignificance n ks) → (d : ℕ) × T (among d ks) × (significance d ≡ n)
 unfolding hasSignificance among
@@ -94,13 +94,13 @@ module _ (k : ℕ) (t : Content) (c : ℕ) {f : ℕ} (e : f ≡ cond (isInclude 
   pub first-refused : InNumbers k (firstChild t c) (withChild c) f 0
   unfolding firstChild allows
   first-refused =
-      refused refl (some-fault (isInclude c) e)
+      numbers-of-refused refl (some-fault (isInclude c) e)
       (chosen-case c (λ (r : Step). bad f ≡ cond (isInclude c) (bad 12) r) (alternativesOf t)
       (λ ks m b. absurd (false-not-T a (some-has c m b)))
       (λ n. refusal (isInclude c) e))
 
   pub next-refused : (ks : List ℕ) (n : ℕ) → InNumbers k (nextChild t ks c) n f 0
-  next-refused ks n = refused refl (some-fault (isInclude c) e) (by t a)
+  next-refused ks n = numbers-of-refused refl (some-fault (isInclude c) e) (by t a)
     where
       by : (t : Content) → allows t c ≡ false → bad f ≡ nextChild t ks c
       by (alternatives kss) a = unfold nextChild allows alternativesOf in rw a (refusal (isInclude c) e)
@@ -119,9 +119,9 @@ next-allowed (exactly-one n) ks c i e a = absurd (true≢false (sym e))
 
 -- A child of class c that may stand in an element of kind k, and has the significance r.
 module _ (k c : ℕ) {r : ℕ} (i : isInclude c ≡ false) (a : allows (ruleOf k .content) c ≡ true) (q : r ≡ significance c) where
-  pub first-taken : go (stateOf k (7 + r)) ≡ firstChild (ruleOf k .content) c
+  pub first-child-taken : go (stateOf k (7 + r)) ≡ firstChild (ruleOf k .content) c
   unfolding firstChild allows
-  first-taken =
+  first-child-taken =
       let off : 7 + r - 7 ≡ r = omega arith in
       rw (i, child-state k (7 + r) (omega arith), off, q)
       (chosen-case c (λ (s : Step). go (holding (alternativeOf (significance c) (row k))) ≡ s) (row k)

@@ -41,21 +41,21 @@ child-stays k n c h = rw (le-ltb n 5 (omega arith), ne-eqb n 5 (λ e. omega arit
 
 -- The numbers of a step that is taken, and of one that is refused.
 module _ {k m : ℕ} {s : Step} where
-  pub taken : {n : ℕ} → n ≡ m → go (stateOf k n) ≡ s → InNumbers k s m 0 n
+  pub numbers-of-taken : {n : ℕ} → n ≡ m → go (stateOf k n) ≡ s → InNumbers k s m 0 n
   unfolding stepOf faultOf
-  taken h e = record { fault-is = ap faultOf e; state-is = h; stands = e }
+  numbers-of-taken h e = record { fault-is = ap faultOf e; state-is = h; stands = e }
 
-  pub refused : {f n : ℕ} → n ≡ 0 → (f ≡ 0 → ⊥) → bad f ≡ s → InNumbers k s m f n
+  pub numbers-of-refused : {f n : ℕ} → n ≡ 0 → (f ≡ 0 → ⊥) → bad f ≡ s → InNumbers k s m f n
   unfolding stepOf faultOf
-  refused {f} z h e = record { fault-is = ap faultOf e; state-is = rw (ne-eqb f 0 h) z; stands = rw (ne-eqb f 0 h) e }
+  numbers-of-refused {f} z h e = record { fault-is = ap faultOf e; state-is = rw (ne-eqb f 0 h) z; stands = rw (ne-eqb f 0 h) e }
 
   -- The same numbers, of the same step said otherwise.
-  pub alike : {m′ f n : ℕ} {s′ : Step} → InNumbers k s m f n → (s ≡ s′) × (m ≡ m′) → InNumbers k s′ m′ f n
-  alike i e = rw (e .0, e .1) at i
+  pub same-step : {m′ f n : ℕ} {s′ : Step} → InNumbers k s m f n → (s ≡ s′) × (m ≡ m′) → InNumbers k s′ m′ f n
+  same-step i e = rw (e .0, e .1) at i
 
 -- An expression of class c leads to this step and to the state of this number, with the parameters from a place on still to come.
-abbrev pub Leads : Content → ℕ → List Slot → ℕ → Step → ℕ → Type 0
-Leads t c ps i s n = (nextParameter ps t c ≡ s) × (afterPlace i ps c ≡ n)
+abbrev pub StepsTo : Content → ℕ → List Slot → ℕ → Step → ℕ → Type 0
+StepsTo t c ps i s n = (nextParameter ps t c ≡ s) × (afterPlace i ps c ≡ n)
 
 -- Two ways to say what it leads to.
 pub led-on : {r s s′ : Step} {m n n′ : ℕ} → (r ≡ s) × (m ≡ n) → (r ≡ s′) × (m ≡ n′) → (s ≡ s′) × (n ≡ n′)
@@ -63,9 +63,9 @@ led-on here there = (sym (here .0) ∙ there .0, sym (here .1) ∙ there .1)
 
 -- The parameter at a place, as its number says.
 module _ (ps : List Slot) (place x : ℕ) (e : drop place ps ≡ led x (drop (place + 1) ps)) where
-  pub none-left : x ≡ 0 → drop place ps ≡ []
+  pub no-parameter-left : x ≡ 0 → drop place ps ≡ []
   unfolding led
-  none-left z = e ∙ rw z
+  no-parameter-left z = e ∙ rw z
 
   required : (x ≡ 0 → ⊥) → x < 64 → drop place ps ≡ must x ∷ drop (place + 1) ps
   unfolding led
@@ -94,15 +94,15 @@ module _ (ps : List Slot) (place x : ℕ) (e : drop place ps ≡ led x (drop (pl
       by false z = rw (optional l (eqb-false x 255 z))
 
   module _ (t : Content) (c : ℕ) where
-    pub first-child : x ≡ 0 → Leads t c (drop place ps) place (firstChild t c) (withChild c)
+    pub first-child : x ≡ 0 → StepsTo t c (drop place ps) place (firstChild t c) (withChild c)
     unfolding nextParameter afterPlace
-    first-child z = rw (none-left z) (refl, refl)
+    first-child z = rw (no-parameter-left z) (refl, refl)
 
     pub absent : (x ≡ 0 → ⊥) → x < 64 → (c ≡ x → ⊥) → nextParameter (drop place ps) t c ≡ bad 9
     unfolding nextParameter
     absent z l n = rw (required z l, ne-eqb c x n)
 
-    pub required-taken : (x ≡ 0 → ⊥) → x < 64 → c ≡ x → Leads t c (drop place ps) place (go (expecting (drop (place + 1) ps))) (place + 1)
+    pub required-taken : (x ≡ 0 → ⊥) → x < 64 → c ≡ x → StepsTo t c (drop place ps) place (go (expecting (drop (place + 1) ps))) (place + 1)
     unfolding nextParameter afterPlace
     required-taken z l n = rw (required z l, eq-eqb c x n) (refl, refl)
 
@@ -122,24 +122,24 @@ module _ (ps : List Slot) (place x : ℕ) (e : drop place ps ≡ led x (drop (pl
     either-number n false false h = ((λ z. absurd (z h)), (λ z. refl))
 
     pub either-taken : (k n : ℕ) → n ≡ cond (eqb c Class.id) 5 (cond (eqb c Class.type) 6 0) → x ≡ 255 → (n ≡ 0 → ⊥)
-        → Leads t c (drop place ps) place (go (stateOf k n)) n
+        → StepsTo t c (drop place ps) place (go (stateOf k n)) n
     unfolding nextParameter afterPlace
     either-taken k n h z some =
         rw (either z)
         (sym (either-step k n (eqb c Class.id) (eqb c Class.type) h .0 some), either-number n (eqb c Class.id) (eqb c Class.type) h .0 some)
 
     pub neither : (n : ℕ) → n ≡ cond (eqb c Class.id) 5 (cond (eqb c Class.type) 6 0) → x ≡ 255 → n ≡ 0
-        → Leads t c (drop place ps) place (firstChild t c) (withChild c)
+        → StepsTo t c (drop place ps) place (firstChild t c) (withChild c)
     unfolding nextParameter afterPlace
     neither n h z none =
         rw (either z) (either-step 0 n (eqb c Class.id) (eqb c Class.type) h .1 none, either-number n (eqb c Class.id) (eqb c Class.type) h .1 none)
 
-    pub optional-taken : 64 ≤ x → (x ≡ 255 → ⊥) → c ≡ x - 64 → Leads t c (drop place ps) place (go (expecting (drop (place + 1) ps))) (place + 1)
+    pub optional-taken : 64 ≤ x → (x ≡ 255 → ⊥) → c ≡ x - 64 → StepsTo t c (drop place ps) place (go (expecting (drop (place + 1) ps))) (place + 1)
     unfolding nextParameter afterPlace
     optional-taken l z n = rw (optional l z, eq-eqb c (x - 64) n) (refl, refl)
 
     pub passed : 64 ≤ x → (x ≡ 255 → ⊥) → (c ≡ x - 64 → ⊥)
-        → Leads t c (drop place ps) place (nextParameter (drop (place + 1) ps) t c) (afterPlace (place + 1) (drop (place + 1) ps) c)
+        → StepsTo t c (drop place ps) place (nextParameter (drop (place + 1) ps) t c) (afterPlace (place + 1) (drop (place + 1) ps) c)
     unfolding nextParameter afterPlace
     passed l z n = rw (optional l z, ne-eqb c (x - 64) n) (refl, refl)
 
@@ -147,7 +147,7 @@ pub none-required-end : {ps : List Slot} → ps ≡ [] → noneRequired ps ≡ t
 unfolding noneRequired
 none-required-end e = rw e
 
-pub first-child-end : (t : Content) (c : ℕ) {ps : List Slot} (i : ℕ) → ps ≡ [] → Leads t c ps i (firstChild t c) (withChild c)
+pub first-child-end : (t : Content) (c : ℕ) {ps : List Slot} (i : ℕ) → ps ≡ [] → StepsTo t c ps i (firstChild t c) (withChild c)
 unfolding nextParameter afterPlace
 first-child-end t c i e = rw e (refl, refl)
 

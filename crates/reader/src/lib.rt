@@ -21,7 +21,7 @@ ghost use Rattle.document.specs.rules.Document.{Node};
 ghost use Rattle.document.specs.reference.Check.{check};
 ghost use Rattle.document.specs.rules.Spelling.{nested, imperative, mostLevels};
 ghost use Rattle.document.specs.rules.Memory.{answerAt};
-ghost use Rattle.validate.specs.Checked.{checkNumber};
+ghost use Rattle.validate.specs.CheckNumbers.{checkNumber};
 ghost use Rattle.reader.specs.internal.TableCheck.{checkPlace, Held};
 ghost use Rattle.reader.specs.internal.FirstGroups.{groupNumber, groupPlace, roomNumber};
 ghost use Rattle.reader.specs.internal.JudgedText.{spelled, JudgesText, TapeOfText};

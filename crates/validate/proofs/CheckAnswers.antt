@@ -17,7 +17,8 @@ use Rattle.document.specs.rules.Draft.{IsDraft}
 use Rattle.document.proofs.Records.{table-length}
 use Rattle.document.proofs.CheckedNode.{unsound-below}
 use Rattle.document.proofs.PrintingDecided.{checks, refused-check}
-use Rattle.validate.specs.Checked.{checkNumber, checkNode, Holds}
+use Rattle.validate.specs.CheckNumbers.{checkNumber, checkNode}
+use Rattle.validate.specs.internal.DocumentTable.{BeginsWithTable}
 use Rattle.validate.specs.Checks.{Checks}
 
 pub no-both : (r : Bool) → not r ≡ true → r ≡ true → ⊥
@@ -25,22 +26,22 @@ no-both true a b = absurd (false-not-T (sym a) tt)
 no-both false a b = absurd (false-not-T (sym b) tt)
 
 module _ (words : List ℕ) (n : ℕ) (bytes : List ℕ) (m : ℕ) where
-  pub refused : (recordLength * n ≤ length words → m ≤ length bytes → (d : Node) → IsDraft d (take (recordLength * n) words) (take m bytes) → ⊥)
+  pub no-table-answered : (recordLength * n ≤ length words → m ≤ length bytes → (d : Node) → IsDraft d (take (recordLength * n) words) (take m bytes) → ⊥)
       → Checks (checking words n bytes m) (record { number = 20; node = 0 })
-  refused none = let e = refused-check words n bytes m none in record { number = rw e; node = rw e }
+  no-table-answered none = let e = refused-check words n bytes m none in record { number = rw e; node = rw e }
 
   module _ (hn : recordLength * n ≤ length words) (hm : m ≤ length bytes) (d : Node) (x : IsDraft d (take (recordLength * n) words) (take m bytes)) where
-    counted : count d ≡ n
-    counted = omega (arith, table-length d, ap length (x .node-words), length-take-le (recordLength * n) words hn)
+    node-count : count d ≡ n
+    node-count = omega (arith, table-length d, ap length (x .node-words), length-take-le (recordLength * n) words hn)
 
     pub few-nodes : n ≤ 4096
-    few-nodes = omega (arith, leb→le (count d) 4096 (x .few-nodes), counted)
+    few-nodes = omega (arith, leb→le (count d) 4096 (x .few-nodes), node-count)
 
-    pub held : Holds (take (recordLength * n) words) n (take m bytes) d
+    pub held : BeginsWithTable (take (recordLength * n) words) n (take m bytes) d
     held =
         record {
           document = x .document;
-          counted = counted;
+          node-count = node-count;
           node-words = take-all (recordLength * n) (take (recordLength * n) words) (omega (arith, length-take-le (recordLength * n) words hn)) ∙ sym (x .node-words);
           pool-bytes = rw (x .pool-bytes) (take-all (length (take m bytes)) (take m bytes) (omega arith));
         }
@@ -51,9 +52,9 @@ module _ (words : List ℕ) (n : ℕ) (bytes : List ℕ) (m : ℕ) where
       where
         go : (c : Check) → check d ≡ c → checkNode c ≤ n
         go sound e = omega arith
-        go (unsound i j) e = omega (arith, unsound-below d i j e, counted)
+        go (unsound i j) e = omega (arith, unsound-below d i j e, node-count)
 
-    module _ (number node : ℕ) (is : (d : Node) → Holds (take (recordLength * n) words) n (take m bytes) d → (number ≡ checkNumber (check d)) × (node ≡ checkNode (check d))) where
+    module _ (number node : ℕ) (is : (d : Node) → BeginsWithTable (take (recordLength * n) words) n (take m bytes) d → (number ≡ checkNumber (check d)) × (node ≡ checkNode (check d))) where
       pub node-fits : n ≤ 4294967295 → node ≤ 4294967295
       node-fits h = omega (arith, is d held .1, node-below)
 

@@ -38,7 +38,7 @@ ghost use Rattle.kind.specs.Machine.{stateOf};
 ghost use Rattle.document.specs.rules.Document.{Node};
 ghost use Rattle.document.specs.rules.Canonical.{nodeFirst, placeValues};
 ghost use Rattle.table.specs.Stored.{wordAt};
-ghost use Rattle.validate.specs.internal.Walking.{Decides, valueLevels, valuesOf, Leads, NodeAt, ChildrenAt, ChildTaken};
+ghost use Rattle.validate.specs.internal.DraftWalk.{DecidesNext, valueLevels, nodeValues, ValuesLead, LawfulNodeAt, ChildrenAt, ChildTaken};
 ghost use Rattle.document.specs.rules.Draft.{IsDraft};
 
 // "within the limits (at most 4,096 nodes, canonical nesting at most 64, pool at most 65,536)"
@@ -79,7 +79,7 @@ fn refused() -> Walked
 // Node `i` under a parent, with its descendants: its strings stand in the pool from `at` on, and its brackets nest at most `left` levels.
 fn node(nodes: &[u32], pool: &[u8], i: usize, parent: usize, at: usize, left: usize) -> Walked
     requires { ⌜ at ≤ length (now pool) ⌝ }
-    ensures { λ r. ⌜ Decides (NodeAt (now (nodes .entry)) (now (pool .entry)) i parent at left) (r .ok) (r .next) (r .pool) ⌝ }
+    ensures { λ r. ⌜ DecidesNext (LawfulNodeAt (now (nodes .entry)) (now (pool .entry)) i parent at left) (r .ok) (r .next) (r .pool) ⌝ }
 {
     if nodes.len() / RECORD <= i {
         return refused();
@@ -94,7 +94,7 @@ fn node(nodes: &[u32], pool: &[u8], i: usize, parent: usize, at: usize, left: us
 // The same of a text, whose record is there.
 fn text_node(nodes: &[u32], pool: &[u8], i: usize, parent: usize, at: usize) -> Walked
     requires { ⌜ (recordLength * i + recordLength ≤ length (now nodes)) × (at ≤ length (now pool)) × (wordAt (now nodes) i Word.kind ≡ Class.text) ⌝ }
-    ensures { λ r. ⌜ ((left : ℕ) → Decides (NodeAt (now (nodes .entry)) (now (pool .entry)) i parent at left) (r .ok) (r .next) (r .pool)) ⌝ }
+    ensures { λ r. ⌜ ((left : ℕ) → DecidesNext (LawfulNodeAt (now (nodes .entry)) (now (pool .entry)) i parent at left) (r .ok) (r .next) (r .pool)) ⌝ }
 {
     let r = words(nodes, i);
     let next = i + 1;
@@ -116,7 +116,7 @@ fn text_node(nodes: &[u32], pool: &[u8], i: usize, parent: usize, at: usize) -> 
 // The same of an element, whose record is there.
 fn element(nodes: &[u32], pool: &[u8], i: usize, parent: usize, at: usize, left: usize) -> Walked
     requires { ⌜ (recordLength * i + recordLength ≤ length (now nodes)) × (at ≤ length (now pool)) × (wordAt (now nodes) i Word.kind ≡ Class.text → ⊥) ⌝ }
-    ensures { λ r. ⌜ Decides (NodeAt (now (nodes .entry)) (now (pool .entry)) i parent at left) (r .ok) (r .next) (r .pool) ⌝ }
+    ensures { λ r. ⌜ DecidesNext (LawfulNodeAt (now (nodes .entry)) (now (pool .entry)) i parent at left) (r .ok) (r .next) (r .pool) ⌝ }
 {
     let r = words(nodes, i);
     if !stands(r, pool.len(), parent, at) {
@@ -142,7 +142,7 @@ fn element(nodes: &[u32], pool: &[u8], i: usize, parent: usize, at: usize, left:
 // The values of node `i`, where they stand before its children. A title or summary stands before the values, which are then due.
 fn lead(nodes: &[u32], pool: &[u8], i: usize, kind: u8, end: usize, levels: usize) -> Led
     requires { ⌜ (recordLength * i + recordLength ≤ length (now nodes)) × (levels ≡ valueLevels (now nodes) i) ⌝ }
-    ensures { λ r. ⌜ Leads (now (nodes .entry)) (now (pool .entry)) kind i end (r .ok) (r .due) (r .state) ⌝ }
+    ensures { λ r. ⌜ ValuesLead (now (nodes .entry)) (now (pool .entry)) kind i end (r .ok) (r .due) (r .state) ⌝ }
 {
     // most elements have no values
     if levels == 0 {
@@ -181,7 +181,7 @@ fn children(
     left: usize,
 ) -> Walked
     requires { ⌜ (recordLength * i + recordLength ≤ length (now nodes)) × (at ≤ length (now pool)) × (levels ≡ valueLevels (now nodes) i) ⌝ }
-    ensures { λ r. ⌜ Decides (ChildrenAt (now (nodes .entry)) (now (pool .entry)) (placeValues (nodeFirst (ruleOf kind .parameters)) (valuesOf (now (nodes .entry)) (now (pool .entry)) kind i))
+    ensures { λ r. ⌜ DecidesNext (ChildrenAt (now (nodes .entry)) (now (pool .entry)) (placeValues (nodeFirst (ruleOf kind .parameters)) (nodeValues (now (nodes .entry)) (now (pool .entry)) kind i))
         kind i (start kind) (i + 1) at end left) (r .ok) (r .next) (r .pool) ⌝ }
 {
     let led = lead(nodes, pool, i, kind, end, levels);

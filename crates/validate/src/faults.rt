@@ -30,10 +30,11 @@ ghost use Rattle.elements.specs.rules.Class as Class;
 ghost use Rattle.document.specs.rules.Document.{Node, Nodes};
 ghost use Rattle.document.specs.reference.Check.{First, Cells, cellsIn, repeatedId, unknownTarget, check};
 ghost use Rattle.document.specs.rules.Visits.{childCount};
-ghost use Rattle.validate.specs.Checked.{checkNumber, checkNode, Holds};
+ghost use Rattle.validate.specs.CheckNumbers.{checkNumber, checkNode};
+ghost use Rattle.validate.specs.internal.DocumentTable.{BeginsWithTable};
 ghost use Rattle.table.specs.Stored.{wordAt};
-ghost use Rattle.validate.specs.internal.Index.{Indexed};
-ghost use Rattle.validate.specs.internal.Words.{entriesFrom, idsBefore, repeatsAt, danglesAt, found, cellsFound, Family, Below, Binder, Spot, Searched};
+ghost use Rattle.validate.specs.internal.IdIndex.{Indexed};
+ghost use Rattle.validate.specs.internal.TableWords.{entriesFrom, idsBefore, repeatsAt, danglesAt, found, cellsFound, Family, Below, Binder, Spot, Searched};
 
 // The kinds that the check looks at, as words.
 const FOOTNOTE: usize = Kind::FOOTNOTE.number as usize;
@@ -247,7 +248,7 @@ fn first_bad_row(nodes: &[u32], count: usize) -> Found
 // The check of the table of a document with `count` nodes.
 pub fn check_table(nodes: &[u32], count: usize, pool: &[u8]) -> Fault
     requires { ⌜ (count ≤ mostNodes) × (recordLength * count ≤ length (now nodes)) ⌝ }
-    ensures { λ r. ⌜ ((d : Node) → Holds (now (nodes .entry)) count (now (pool .entry)) d → (r .number ≡ checkNumber (check d)) × (r .node ≡ checkNode (check d))) ⌝ }
+    ensures { λ r. ⌜ ((d : Node) → BeginsWithTable (now (nodes .entry)) count (now (pool .entry)) d → (r .number ≡ checkNumber (check d)) × (r .node ≡ checkNode (check d))) ⌝ }
 {
     let row = first_bad_row(nodes, count);
     if let Found::At(i) = row {

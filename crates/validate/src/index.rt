@@ -15,8 +15,8 @@ ghost use Rattle.document.specs.rules.Record as Word;
 ghost use Rattle.elements.specs.rules.Bytes.{same};
 ghost use Rattle.document.specs.reference.Check.{isAmong, hasId};
 ghost use Rattle.table.specs.Stored.{wordAt};
-ghost use Rattle.validate.specs.internal.Words.{entryAt, wanted, idsBefore};
-ghost use Rattle.validate.specs.internal.Index.{slotOf, Indexed};
+ghost use Rattle.validate.specs.internal.TableWords.{entryOfNode, wanted, idsBefore};
+ghost use Rattle.validate.specs.internal.IdIndex.{slotOf, Indexed};
 
 // Stands for blocks of any kind. Blocks are the kinds from document to footnote.
 pub const ANY: usize = 0;
@@ -56,7 +56,7 @@ fn equal(a: &[u8], b: &[u8]) -> bool
 
 // Whether node `i` is a block with an id, and of the kind `only` where that is not 0.
 pub fn has_id(nodes: &[u32], i: usize, pool: &[u8], only: usize) -> bool
-    ensures { λ r. ⌜ r ≡ wanted only (wordAt (now (nodes .entry)) i Word.kind) && hasId (entryAt (now (nodes .entry)) (now (pool .entry)) i) ⌝ }
+    ensures { λ r. ⌜ r ≡ wanted only (wordAt (now (nodes .entry)) i Word.kind) && hasId (entryOfNode (now (nodes .entry)) (now (pool .entry)) i) ⌝ }
 {
     let kind = word(nodes, i, KIND);
     if kind < DOCUMENT {

@@ -5,7 +5,7 @@ ghost use Prim.Native.Nat.{ℕ, _+_, _*_, _≤_, _<_};
 ghost use lib.ListN.{length};
 ghost use Rattle.document.specs.rules.Record.{recordLength};
 ghost use Rattle.table.specs.Stored.{wordAt, Recorded};
-ghost use Rattle.validate.specs.internal.Walking.{Decided, StringAt, RecordAt, TextAlone, ElementAt, valueLevels};
+ghost use Rattle.validate.specs.internal.DraftWalk.{Decided, NamesStringAt, RecordAt, TextAlone, ElementAt, valueLevels};
 use kind::Kind;
 use table::END;
 use table::HEIGHT;
@@ -43,7 +43,7 @@ pub fn words<'a>(nodes: &'a [u32], i: usize) -> &'a [u32]
 pub fn string_stands(offset: u32, length: u32, p: usize, size: usize) -> bool
     requires { ⌜ p ≤ size ⌝ }
     ensures { λ r. ⌜ ((words : List ℕ) (i j : ℕ) → offset ≡ wordAt words i j → length ≡ wordAt words i (j + 1)
-        → Decided (StringAt words i j p size) r) ⌝ }
+        → Decided (NamesStringAt words i j p size) r) ⌝ }
 {
     if length == 0 {
         return offset == 0;

@@ -24,7 +24,7 @@ ghost use Rattle.elements.specs.rules.Class as Class;
 ghost use Rattle.elements.specs.rules.Characters.{characterOf};
 ghost use Rattle.document.specs.rules.Value.{isValue, nonEmpty, every};
 ghost use Rattle.document.specs.rules.Canonical.{valueBefore, sizeBefore};
-ghost use Rattle.validate.specs.internal.Walking.{Takes, valuesOf};
+ghost use Rattle.validate.specs.internal.DraftWalk.{TakesValues, nodeValues};
 
 // A width or a height: "at most 65,535 each".
 const MOST_SIZE: usize = 65535;
@@ -72,7 +72,7 @@ fn sort(kind: u8, class: u8) -> u8
 // A value, where it is there.
 fn take_value(kind: u8, state: u8, class: u8, bytes: &[u8]) -> Taken
     requires { ⌜ (Class.id ≤ class) × (class ≤ Class.target) ⌝ }
-    ensures { λ r. ⌜ Takes kind (valueBefore class (now (bytes .entry))) state (r .ok) (r .state) ⌝ }
+    ensures { λ r. ⌜ TakesValues kind (valueBefore class (now (bytes .entry))) state (r .ok) (r .state) ⌝ }
 {
     if bytes.len() == 0 {
         return Taken { ok: true, state };
@@ -89,7 +89,7 @@ fn take_value(kind: u8, state: u8, class: u8, bytes: &[u8]) -> Taken
 
 // A size, where it is there.
 fn take_size(kind: u8, state: u8, width: usize, height: usize) -> Taken
-    ensures { λ r. ⌜ Takes kind (sizeBefore width height) state (r .ok) (r .state) ⌝ }
+    ensures { λ r. ⌜ TakesValues kind (sizeBefore width height) state (r .ok) (r .state) ⌝ }
 {
     if width == MISSING {
         return Taken { ok: true, state };
@@ -110,7 +110,7 @@ fn take_size(kind: u8, state: u8, width: usize, height: usize) -> Taken
 // The values of node `i` of a kind, "id before type".
 pub fn values(nodes: &[u32], pool: &[u8], i: usize, kind: u8, state: u8) -> Taken
     requires { ⌜ recordLength * i + recordLength ≤ length (now nodes) ⌝ }
-    ensures { λ r. ⌜ Takes kind (valuesOf (now (nodes .entry)) (now (pool .entry)) kind i) state (r .ok) (r .state) ⌝ }
+    ensures { λ r. ⌜ TakesValues kind (nodeValues (now (nodes .entry)) (now (pool .entry)) kind i) state (r .ok) (r .state) ⌝ }
 {
     let r = words(nodes, i);
     let bytes = part(pool, r[KEY] as usize, r[KEY_LENGTH] as usize);

@@ -7,25 +7,25 @@ use Rattle.elements.specs.rules.Rules.{Slot, must, may, id-type, Content}
 use Rattle.elements.specs.rules.Inside.{allows}
 
 -- What is added to the class of an optional parameter; it is above every class.
-abbrev pub optional : ℕ
-optional = 64
+abbrev pub optionalBit : ℕ
+optionalBit = 64
 
 -- `id?/type?`, "either order"
 abbrev pub eitherOrder : ℕ
 eitherOrder = 255
 
--- The parameters that a number and what follows it stand for: 0 is the end, a class alone a required one, `optional` and a class an optional one,
+-- The parameters that a number and what follows it stand for: 0 is the end, a class alone a required one, `optionalBit` and a class an optional one,
 -- and `eitherOrder` is `id?/type?`, which is always the last.
 unfoldable pub led : ℕ → List Slot → List Slot
 led n ps =
     cond (eqb n 0) []
-    (cond (ltb n optional) (must n ∷ ps)
-    (cond (eqb n eitherOrder) (id-type ∷ []) (may (n - optional) ∷ ps)))
+    (cond (ltb n optionalBit) (must n ∷ ps)
+    (cond (eqb n eitherOrder) (id-type ∷ []) (may (n - optionalBit) ∷ ps)))
 
 -- The number of a parameter.
 unfoldable pub code : Slot → ℕ
 code (must n) = n
-code (may n) = optional + n
+code (may n) = optionalBit + n
 code id-type = eitherOrder
 
 -- Parameters in the bytes of one number, the first in the lowest.

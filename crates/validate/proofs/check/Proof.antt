@@ -4,15 +4,15 @@ use mathlib.Core.Path.{sym}
 use lib.Seq.{length-take-le}
 use borrow.Author.Tests.{not-false}
 use borrow.Author.Needs.{needs}
-use Rattle.validate.proofs.CheckAnswers.{no-both, refused, few-nodes, node-fits, answered}
+use Rattle.validate.proofs.CheckAnswers.{no-both, no-table-answered, few-nodes, node-fits, answered}
 use Rattle.validate.proofs.check.Statement.{statement}
 use Rattle.validate.proofs.check.Tie as tie
 
 returns : tie.Need-returns
-returns c = refused _ _ _ _ (λ hn hm d x. omega (arith, hn, c .if1 .taken))
+returns c = no-table-answered _ _ _ _ (λ hn hm d x. omega (arith, hn, c .if1 .taken))
 
 returns-2 : tie.Need-returns-2
-returns-2 c = refused _ _ _ _ (λ hn hm d x. omega (arith, hm, c .if2 .taken))
+returns-2 c = no-table-answered _ _ _ _ (λ hn hm d x. omega (arith, hm, c .if2 .taken))
 
 slice-aggregate-table : tie.Need-slice-aggregate-table
 slice-aggregate-table c = sym (length-take-le _ _ (c .before .before .if1 .left))
@@ -21,7 +21,7 @@ slice-aggregate-strings : tie.Need-slice-aggregate-strings
 slice-aggregate-strings c = sym (length-take-le _ _ (c .before .before .if2 .left))
 
 returns-3 : tie.Need-returns-3
-returns-3 c = refused _ _ _ _ (λ hn hm d x. no-both _ (c .if3 .taken) (c .before .is-draft .ensures .1 d x))
+returns-3 c = no-table-answered _ _ _ _ (λ hn hm d x. no-both _ (c .if3 .taken) (c .before .is-draft .ensures .1 d x))
 
 check-table-requires : tie.Need-check-table-requires
 check-table-requires c κs =

@@ -17,7 +17,7 @@ use Rattle.document.specs.rules.Table.{count, countAll, pool, poolAll}
 use Rattle.document.specs.rules.Canonical.{placeValues, layout, layoutAll, mostLevelsIn}
 use Rattle.document.proofs.Nested.{goes-on}
 use Rattle.table.specs.Stored.{wordAt, Stored, StoredAll}
-use Rattle.validate.specs.internal.Walking.{Decides, behindFirst, NodeAt, ChildrenAt, ChildTaken}
+use Rattle.validate.specs.internal.DraftWalk.{DecidesNext, behindFirst, LawfulNodeAt, ChildrenAt, ChildTaken}
 use Rattle.table.proofs.Stored.{recorded-word, rows-stored}
 use Rattle.document.proofs.Determined.{count-positive}
 use Rattle.validate.proofs.record_lemmas.Decided.{Same}
@@ -25,10 +25,10 @@ use Rattle.validate.proofs.draft_lemmas.ValuePlaces.{layout-node}
 use Rattle.validate.proofs.draft_lemmas.LawfulNodes.{element-range}
 
 -- What stands in the table goes forward, and stays within the pool.
-pub node-forward : {words bytes : List ℕ} {i parent p left e q : ℕ} → NodeAt words bytes i parent p left e q → i < e
+pub node-forward : {words bytes : List ℕ} {i parent p left e q : ℕ} → LawfulNodeAt words bytes i parent p left e q → i < e
 node-forward a = omega (arith, a .next, count-positive (a .made))
 
-pub node-within : {words bytes : List ℕ} {i parent p left e q : ℕ} → NodeAt words bytes i parent p left e q → p ≤ length bytes → q ≤ length bytes
+pub node-within : {words bytes : List ℕ} {i parent p left e q : ℕ} → LawfulNodeAt words bytes i parent p left e q → p ≤ length bytes → q ≤ length bytes
 node-within {words} {bytes} {i} {parent} {p} a h =
     omega (arith, a .after, simp (length-take, length-drop) at (ap length (rows-stored (a .made) words bytes i parent p (a .stored) .1)))
 
@@ -52,7 +52,7 @@ class-low (node c key type string w h ns) =
     cond-case (λ (t : Tree). T (keepsRules 0 t) → treeClass t ≤ 25) (eqb c Class.text) (λ e t. omega arith)
     (λ e t. element-range c (both (Class.isElement c) _ t .0) .1)
 
-pub kind-word : {words bytes : List ℕ} {i parent p left e q : ℕ} → NodeAt words bytes i parent p left e q → wordAt words i 0 ≤ 25
+pub kind-word : {words bytes : List ℕ} {i parent p left e q : ℕ} → LawfulNodeAt words bytes i parent p left e q → wordAt words i 0 ≤ 25
 kind-word {words} {bytes} {i} {parent} {p} a =
     rw (← (class-word words bytes i parent p (a .made) (a .stored))) (class-low (a .made) (a .lawful .keeps))
 
@@ -74,37 +74,37 @@ module _ (words bytes : List ℕ) (k i : ℕ) where
   no-children childless e = refl
   no-children (child n ns) e = absurd (omega (arith, count-positive n))
 
-  pub end-decides : {s : State} {j p end left : ℕ} → j ≡ end → Decides (Kids (λ ts. ts) s j p end left) (ended k s) end p
+  pub end-decides : {s : State} {j p end left : ℕ} → j ≡ end → DecidesNext (Kids (λ ts. ts) s j p end left) (ended k s) end p
   unfolding keepsRules StoredAll says layout count pool mostLevelsIn
   end-decides {s} h =
       record {
-        sound = λ e. record { made = childless; stored = tt; keep = true-T e; said = refl; levels = omega arith; counted = omega arith; next = refl; after = omega arith };
+        sound = λ e. record { made = childless; stored = tt; keep = true-T e; said = refl; levels = omega arith; end-is = omega arith; next = refl; after = omega arith };
         complete = λ e q c.
-            let none = no-children (c .made) (omega (arith, c .counted)) in
+            let none = no-children (c .made) (omega (arith, c .end-is)) in
             (T-true (ended k s) (rw none at (c .keep)), sym (c .next), omega (arith, rw none at (c .after)));
       }
 
   pub end-passed : {W : Trees → Trees} {s : State} {j p end left e q : ℕ} → end ≤ j → (j ≡ end → ⊥) → Kids W s j p end left e q → ⊥
-  end-passed h f c = f (omega (arith, c .counted))
+  end-passed h f c = f (omega (arith, c .end-is))
 
   -- ---- one child
 
   module _ (W W′ : Trees → Trees) (before : (t : Tree) (ts : Trees) → W′ (holds t ts) ≡ holds t (W ts)) where
     -- The first child, and the others.
-    record Parted (s : State) (j p end left e q : ℕ) : Type 0 where
+    record FirstAndRest (s : State) (j p end left e q : ℕ) : Type 0 where
       state : State
       next : ℕ
       place : ℕ
-      first : NodeAt words bytes j i p left next place
+      first : LawfulNodeAt words bytes j i p left next place
       taken : step k s (wordAt words j 0) ≡ go state
       rest : Kids W state next place end left e q
 
-    parted : {s : State} {j p end left e q : ℕ} → j < end → Kids W′ s j p end left e q → Parted s j p end left e q
+    first-and-rest : {s : State} {j p end left e q : ℕ} → j < end → Kids W′ s j p end left e q → FirstAndRest s j p end left e q
     unfolding StoredAll keepsRules says layout count pool mostLevelsIn
-    parted {s} {j} {p} {end} {left} {e} {q} h c = by (c .made) (c .stored) (c .keep) (c .said) (c .levels) (c .counted) (c .after)
+    first-and-rest {s} {j} {p} {end} {left} {e} {q} h c = by (c .made) (c .stored) (c .keep) (c .said) (c .levels) (c .end-is) (c .after)
       where
         by : (ns : Nodes) → StoredAll words bytes j i p ns → T (keepRules k s (W′ (layoutAll ns))) → sayAll (layoutAll ns) ≡ ns
-            → mostLevelsIn (layoutAll ns) ≤ left → end ≡ j + countAll ns → q ≡ p + length (poolAll ns) → Parted s j p end left e q
+            → mostLevelsIn (layoutAll ns) ≤ left → end ≡ j + countAll ns → q ≡ p + length (poolAll ns) → FirstAndRest s j p end left e q
         by childless a b f g m o = absurd (omega arith)
         by (child n ns) a b f g m o =
             let (here, on) = both (keepsRules k (layout n)) (goesOn (step k s (treeClass (layout n))) (λ s′. keepRules k s′ (W (layoutAll ns)))) (rw (before (layout n) (layoutAll ns)) at b) in
@@ -128,13 +128,13 @@ module _ (words bytes : List ℕ) (k i : ℕ) where
                 keep = later;
                 said = cc said;
                 levels = omega arith;
-                counted = omega arith;
+                end-is = omega arith;
                 next = c .next;
                 after = omega (arith, simp length-append at o);
               };
             }
 
-    joined : {s : State} {j p end left e q : ℕ} → Parted s j p end left e q → Kids W′ s j p end left e q
+    joined : {s : State} {j p end left e q : ℕ} → FirstAndRest s j p end left e q → Kids W′ s j p end left e q
     unfolding StoredAll keepsRules says layout count pool mostLevelsIn goesOn
     joined {s} {j} {p} {end} {left} c =
         let n = c .first .made in
@@ -146,7 +146,7 @@ module _ (words bytes : List ℕ) (k i : ℕ) where
           keep = rw (before (layout n) (layoutAll ns), keeps-any k n, class, c .taken) (both-true (keepsRules 0 (layout n)) _ (c .first .lawful .keeps) (c .rest .keep));
           said = rw (T-true (isNode (layout n)) (layout-node n)) (cc (c .first .lawful .said, c .rest .said));
           levels = omega (arith, c .first .lawful .levels, c .rest .levels);
-          counted = omega (arith, c .rest .counted, c .first .next);
+          end-is = omega (arith, c .rest .end-is, c .first .next);
           next = c .rest .next;
           after = simp length-append (omega (arith, c .rest .after, c .first .after));
         }
@@ -159,7 +159,7 @@ module _ (words bytes : List ℕ) (k i : ℕ) where
           record {
             to = λ e q c. joined (record { state = stateOf k state; next = next; place = place; first = one; taken = taken; rest = c });
             from = λ e q c.
-                let d = parted h c in
+                let d = first-and-rest h c in
                 let (u, n, m) = t .complete (d .next) (d .place) (d .state) (d .first) (d .taken) in
                 let same : d .state ≡ stateOf k state = cc (taken, d .taken) in
                 rw (n, m, ← same) (d .rest);
@@ -167,7 +167,7 @@ module _ (words bytes : List ℕ) (k i : ℕ) where
 
       pub child-none : ok ≡ false → (e q : ℕ) → Kids W′ s j p end left e q → ⊥
       child-none o e q c =
-          let d = parted h c in
+          let d = first-and-rest h c in
           true≢false (sym (t .complete (d .next) (d .place) (d .state) (d .first) (d .taken) .0) ∙ o)
 
   -- ---- the values
@@ -182,7 +182,7 @@ module _ (words bytes : List ℕ) (k i : ℕ) where
         keep = h;
         said = c .said;
         levels = c .levels;
-        counted = c .counted;
+        end-is = c .end-is;
         next = c .next;
         after = c .after;
       }
@@ -193,17 +193,17 @@ module _ (words bytes : List ℕ) (k i : ℕ) where
       → Same (Kids W′ s′ j p end left) (Kids W s j p end left)
   values-same t =
       record {
-        to = λ e q c. kept c (rw (t (c .made) (c .counted)) (c .keep));
-        from = λ e q c. kept c (rw (t (c .made) (c .counted)) at (c .keep));
+        to = λ e q c. kept c (rw (t (c .made) (c .end-is)) (c .keep));
+        from = λ e q c. kept c (rw (t (c .made) (c .end-is)) at (c .keep));
       }
 
   pub values-none : {W : Trees → Trees} {s : State} {j p end left : ℕ}
       → ((ns : Nodes) → end ≡ j + countAll ns → keepRules k s (W (layoutAll ns)) ≡ false) → (e q : ℕ) → Kids W s j p end left e q → ⊥
-  values-none t e q c = rw (t (c .made) (c .counted)) at (c .keep)
+  values-none t e q c = rw (t (c .made) (c .end-is)) at (c .keep)
 
   -- ---- the answer of one child
 
-  module _ {s : State} {j p left : ℕ} {b : Bool} {n m : ℕ} (d : Decides (NodeAt words bytes j i p left) b n m) where
+  module _ {s : State} {j p left : ℕ} {b : Bool} {n m : ℕ} (d : DecidesNext (LawfulNodeAt words bytes j i p left) b n m) where
     pub child-refused : {state : ℕ} → b ≡ false → ChildTaken words bytes k i s j p left false 0 0 state
     child-refused f =
         record { sound = λ o. absurd (true≢false (sym o)); complete = λ e q s′ a t. absurd (true≢false (sym (d .complete e q a .0) ∙ f)) }

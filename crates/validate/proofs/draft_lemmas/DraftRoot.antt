@@ -18,14 +18,14 @@ use Rattle.document.proofs.RulesTest.{test-lawful}
 use Rattle.document.proofs.Records.{table-length}
 use Rattle.document.proofs.LaidOut.{laid-out}
 use Rattle.table.specs.Stored.{wordAt}
-use Rattle.validate.specs.internal.Walking.{NodeAt}
+use Rattle.validate.specs.internal.DraftWalk.{LawfulNodeAt}
 use Rattle.document.specs.rules.Draft.{IsDraft}
 use Rattle.table.proofs.Stored.{table-stored, stored-table}
 use Rattle.validate.proofs.draft_lemmas.ChildWalk.{class-word}
 
 -- What the root's record and the lengths have to be.
 pub record RootAt (words bytes : List ℕ) (e q : ℕ) : Type 0 where
-  pub root : NodeAt words bytes 0 missing 0 64 e q
+  pub root : LawfulNodeAt words bytes 0 missing 0 64 e q
   pub of-kind : wordAt words 0 0 ≡ Class.document
   pub all-words : length words ≡ 11 * e
   pub all-bytes : length bytes ≡ q

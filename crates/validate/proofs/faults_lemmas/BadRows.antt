@@ -14,7 +14,7 @@ use Rattle.document.specs.rules.Visits.{childCount}
 use Rattle.validate.specs.declared.faults.Found.{Found}
 use Rattle.validate.specs.declared.faults.Found.the-variants.{At, Nothing}
 use Rattle.table.specs.Stored.{wordAt}
-use Rattle.validate.specs.internal.Words.{found, cellsFound, Family, Below, in-table, in-body, elsewhere, Binder, Spot, Searched}
+use Rattle.validate.specs.internal.TableWords.{found, cellsFound, Family, Below, in-table, in-body, elsewhere, Binder, Spot, Searched}
 
 pub found-nothing : (f : First) → found f ≡ Nothing → f ≡ nowhere
 unfolding found
@@ -80,22 +80,22 @@ module _ (words : List ℕ) (i : ℕ) (b : Bool) (s : Spot words i b) where
           sym (spot-row (exactly n) (exactly-found (s .must) n (must-found ∙ e)) ∙ ap (λ (x : ℕ). not (eqb n x)) (sym (g (s .cells) (s .family))))
 
 -- A turn of the search: the row at i is answered, or the search goes on at j with n nodes left.
-pub record Turn (words : List ℕ) (n i j : ℕ) (f : First) : Type 0 where
+pub record SearchStep (words : List ℕ) (n i j : ℕ) (f : First) : Type 0 where
   pub test : Bool
   pub spot : Spot words i test
   pub here : test ≡ true → f ≡ at-node i
   pub on : test ≡ false → Searched words n j f
 
-turn-of : (words : List ℕ) (n i : ℕ) (f : First) → Searched words (suc n) i f → Turn words n i (suc i) f
+search-step-of : (words : List ℕ) (n i : ℕ) (f : First) → Searched words (suc n) i f → SearchStep words n i (suc i) f
 unfolding Searched
-turn-of words n i f (b, g, spot, q, t) =
+search-step-of words n i f (b, g, spot, q, t) =
     record { test = b; spot = spot; here = λ x. q ∙ rw x; on = λ x. let y : f ≡ g = q ∙ rw x in rw y t }
 
-pub search-turn : (words : List ℕ) (n i : ℕ) (f : First) → i < n → Searched words (n - i) i f → Turn words (n - (i + 1)) i (i + 1) f
-search-turn words n i f l s =
+pub search-step : (words : List ℕ) (n i : ℕ) (f : First) → i < n → Searched words (n - i) i f → SearchStep words (n - (i + 1)) i (i + 1) f
+search-step words n i f l s =
     let e : n - i ≡ suc (n - (i + 1)) = omega arith in
-    subst (λ (j : ℕ). Turn words (n - (i + 1)) i j f) (sym (add-one i))
-    (turn-of words (n - (i + 1)) i f (subst (λ (m : ℕ). Searched words m i f) e s))
+    subst (λ (j : ℕ). SearchStep words (n - (i + 1)) i j f) (sym (add-one i))
+    (search-step-of words (n - (i + 1)) i f (subst (λ (m : ℕ). Searched words m i f) e s))
 
 pub search-end : (words : List ℕ) (n i : ℕ) (f : First) → n ≤ i → Searched words (n - i) i f → f ≡ nowhere
 unfolding Searched

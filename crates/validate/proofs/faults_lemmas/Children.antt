@@ -10,10 +10,10 @@ use Rattle.document.specs.rules.Table.{count, countAll}
 use Rattle.document.specs.reference.Check.{Cells, any-number, exactly, headCells, cellsIn}
 use Rattle.document.specs.rules.Visits.{childCount}
 use Rattle.table.specs.Stored.{wordAt}
-use Rattle.validate.specs.internal.Words.{Shape, Shapes, Family, Below, in-table, in-body, elsewhere}
+use Rattle.validate.specs.internal.TableWords.{Shape, Shapes, Family, Below, in-table, in-body, elsewhere}
 
 -- The siblings from number i on that end at e: none, or one and those from its end on.
-pub record Turn (words : List ℕ) (p i e : ℕ) (ms : Nodes) : Type 0 where
+pub record FirstSibling (words : List ℕ) (p i e : ℕ) (ms : Nodes) : Type 0 where
   pub first : Node
   pub rest : Nodes
   pub split : ms ≡ child first rest
@@ -22,10 +22,10 @@ pub record Turn (words : List ℕ) (p i e : ℕ) (ms : Nodes) : Type 0 where
   pub ends : wordAt words i 2 + countAll rest ≡ e
   pub on : i < wordAt words i 2
 
-pub turn : (words : List ℕ) (p i e : ℕ) (ms : Nodes) → Shapes words p i ms → i + countAll ms ≡ e → i < e → Turn words p i e ms
+pub first-sibling : (words : List ℕ) (p i e : ℕ) (ms : Nodes) → Shapes words p i ms → i + countAll ms ≡ e → i < e → FirstSibling words p i e ms
 unfolding Shape count
-turn words p i e childless s q l = absurd (omega arith)
-turn words p i e (child (node k key type text w h ns) ms) (s, t) q l =
+first-sibling words p i e childless s q l = absurd (omega arith)
+first-sibling words p i e (child (node k key type text w h ns) ms) (s, t) q l =
     let end : wordAt words i 2 ≡ i + suc (countAll ns) = s .2 .0 in
     record { first = node k key type text w h ns; rest = ms; split = refl; shape = s; shapes = rw end t; ends = omega arith; on = omega arith }
 
@@ -35,43 +35,43 @@ no-more childless i e q l = refl
 no-more (child (node k key type text w h ns) ms) i e q l = absurd (omega arith)
 
 -- What is left to count, or to look at for a head, at number i.
-pub record Counted (words : List ℕ) (p i e n : ℕ) (ns : Nodes) : Type 0 where
+pub record ChildrenCounted (words : List ℕ) (p i e n : ℕ) (ns : Nodes) : Type 0 where
   pub left : Nodes
   pub shapes : Shapes words p i left
   pub ends : i + countAll left ≡ e
-  pub counted : n + childCount left ≡ childCount ns
+  pub total : n + childCount left ≡ childCount ns
 
-pub record Sought (words : List ℕ) (p i e : ℕ) (ns : Nodes) : Type 0 where
+pub record HeadSought (words : List ℕ) (p i e : ℕ) (ns : Nodes) : Type 0 where
   pub left : Nodes
   pub shapes : Shapes words p i left
   pub ends : i + countAll left ≡ e
   pub sought : cellsIn left ≡ cellsIn ns
 
 module _ (words : List ℕ) (p e : ℕ) (ns : Nodes) where
-  pub counted-start : Family words p ns → wordAt words p 2 ≡ e → Counted words p (p + 1) e 0 ns
-  counted-start f q = record { left = ns; shapes = f .1; ends = omega (arith, f .0); counted = omega arith }
+  pub counted-start : Family words p ns → wordAt words p 2 ≡ e → ChildrenCounted words p (p + 1) e 0 ns
+  counted-start f q = record { left = ns; shapes = f .1; ends = omega (arith, f .0); total = omega arith }
 
-  pub counted-on : (i n : ℕ) → Counted words p i e n ns → i < e → (i < wordAt words i 2) × Counted words p (wordAt words i 2) e (n + 1) ns
+  pub counted-on : (i n : ℕ) → ChildrenCounted words p i e n ns → i < e → (i < wordAt words i 2) × ChildrenCounted words p (wordAt words i 2) e (n + 1) ns
   unfolding childCount
   counted-on i n c l =
-      let t = turn words p i e (c .left) (c .shapes) (c .ends) l in
-      let q : n + childCount (child (t .first) (t .rest)) ≡ childCount ns = rw (t .split) at (c .counted) in
-      (t .on, record { left = t .rest; shapes = t .shapes; ends = t .ends; counted = omega arith })
+      let t = first-sibling words p i e (c .left) (c .shapes) (c .ends) l in
+      let q : n + childCount (child (t .first) (t .rest)) ≡ childCount ns = rw (t .split) at (c .total) in
+      (t .on, record { left = t .rest; shapes = t .shapes; ends = t .ends; total = omega arith })
 
-  pub counted-end : (i n : ℕ) → Counted words p i e n ns → e < suc i → n ≡ childCount ns
+  pub counted-end : (i n : ℕ) → ChildrenCounted words p i e n ns → e < suc i → n ≡ childCount ns
   unfolding childCount
   counted-end i n c l =
-      let q : n + childCount childless ≡ childCount ns = rw (no-more (c .left) i e (c .ends) l) at (c .counted) in
+      let q : n + childCount childless ≡ childCount ns = rw (no-more (c .left) i e (c .ends) l) at (c .total) in
       omega arith
 
-  pub sought-start : Family words p ns → wordAt words p 2 ≡ e → Sought words p (p + 1) e ns
+  pub sought-start : Family words p ns → wordAt words p 2 ≡ e → HeadSought words p (p + 1) e ns
   sought-start f q = record { left = ns; shapes = f .1; ends = omega (arith, f .0); sought = refl }
 
   -- A head is found.
-  pub sought-head : (i : ℕ) → Sought words p i e ns → i < e → wordAt words i 0 ≡ Class.head
+  pub sought-head : (i : ℕ) → HeadSought words p i e ns → i < e → wordAt words i 0 ≡ Class.head
       → (ms : Nodes) × Family words i ms × (cellsIn ns ≡ exactly (childCount ms))
   sought-head i c l h =
-      let t = turn words p i e (c .left) (c .shapes) (c .ends) l in
+      let t = first-sibling words p i e (c .left) (c .shapes) (c .ends) l in
       go (t .first) (t .rest) (t .shape) (sym (c .sought) ∙ ap cellsIn (t .split))
     where
       go : (m : Node) (ms : Nodes) → Shape words p i m → cellsIn ns ≡ cellsIn (child m ms)
@@ -80,10 +80,10 @@ module _ (words : List ℕ) (p e : ℕ) (ns : Nodes) where
           unfold Shape cellsIn headCells in
           (us, s .2, q ∙ rw (eq-eqb k Class.head (sym (s .0) ∙ h)))
 
-  pub sought-on : (i : ℕ) → Sought words p i e ns → i < e → (wordAt words i 0 ≡ Class.head → ⊥)
-      → (i < wordAt words i 2) × Sought words p (wordAt words i 2) e ns
+  pub sought-on : (i : ℕ) → HeadSought words p i e ns → i < e → (wordAt words i 0 ≡ Class.head → ⊥)
+      → (i < wordAt words i 2) × HeadSought words p (wordAt words i 2) e ns
   sought-on i c l h =
-      let t = turn words p i e (c .left) (c .shapes) (c .ends) l in
+      let t = first-sibling words p i e (c .left) (c .shapes) (c .ends) l in
       (t .on, record { left = t .rest; shapes = t .shapes; ends = t .ends; sought = go (t .first) (t .rest) (t .shape) (sym (c .sought) ∙ ap cellsIn (t .split)) })
     where
       go : (m : Node) (ms : Nodes) → Shape words p i m → cellsIn ns ≡ cellsIn (child m ms) → cellsIn ms ≡ cellsIn ns
@@ -91,7 +91,7 @@ module _ (words : List ℕ) (p e : ℕ) (ns : Nodes) where
           unfold Shape cellsIn headCells in
           sym (q ∙ rw (ne-eqb k Class.head (λ x. h (s .0 ∙ x))))
 
-  pub sought-end : (i : ℕ) → Sought words p i e ns → e < suc i → cellsIn ns ≡ any-number
+  pub sought-end : (i : ℕ) → HeadSought words p i e ns → e < suc i → cellsIn ns ≡ any-number
   unfolding cellsIn
   sought-end i c l = sym (c .sought) ∙ rw (no-more (c .left) i e (c .ends) l)
 

@@ -7,8 +7,9 @@ use Rattle.document.specs.rules.Document.{Node}
 use Rattle.document.specs.reference.Check.{First, any-number, badRow, Entry, entries, repeatedId, unknownTarget, unknownLink, unknownFootnote, Check, sound, checkedBy, check}
 use Rattle.validate.specs.declared.faults.Found.{Found}
 use Rattle.validate.specs.declared.faults.Found.the-variants.{At, Nothing}
-use Rattle.validate.specs.Checked.{checkNumber, checkNode, Holds}
-use Rattle.validate.specs.internal.Words.{entriesFrom, idsBefore, found, Searched}
+use Rattle.validate.specs.CheckNumbers.{checkNumber, checkNode}
+use Rattle.validate.specs.internal.DocumentTable.{BeginsWithTable}
+use Rattle.validate.specs.internal.TableWords.{entriesFrom, idsBefore, found, Searched}
 use Rattle.validate.proofs.faults_lemmas.BadRows.{found-nothing, found-at}
 use Rattle.validate.proofs.faults_lemmas.TableEntries.{entries-are, link-is, note-is, rows-searched}
 
@@ -25,7 +26,7 @@ module _ (n : ℕ) (f : First) (next : Check) (v : Found) (e : v ≡ found f) wh
   unfolding checkedBy
   on m i q a = rw (found-nothing f (sym e ∙ q)) a
 
-module _ (words : List ℕ) (n : ℕ) (bytes : List ℕ) (d : Node) (holds : Holds words n bytes d) where
+module _ (words : List ℕ) (n : ℕ) (bytes : List ℕ) (d : Node) (holds : BeginsWithTable words n bytes d) where
   module _ (row : Found) (rows : (f : First) → Searched words n 0 f → row ≡ found f) where
     row-is : row ≡ found (badRow 0 any-number d)
     row-is = rows (badRow 0 any-number d) (rows-searched words n bytes d holds)

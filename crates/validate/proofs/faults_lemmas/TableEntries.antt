@@ -23,11 +23,11 @@ use Rattle.document.specs.reference.Check.{First, at-node, orElse, Cells, any-n
 use Rattle.document.specs.rules.Visits.{childCount, nodeKind, nodeKey, Visit, visits, visitsAll, visitsOf, upFrom, endOf, wordsOf}
 use Rattle.document.proofs.RulesTest.{lawful-test}
 use Rattle.document.proofs.Records.{entryOf, record-at, key-at, table-length, numbered, entries-visits}
-use Rattle.validate.specs.Checked.{Holds}
+use Rattle.validate.specs.internal.DocumentTable.{BeginsWithTable}
 use Rattle.document.specs.reference.Printing.{part}
 use Rattle.table.specs.Stored.{wordAt, stringAt}
-use Rattle.validate.specs.internal.Words.{keyAt, entryAt, entriesFrom, wanted, idsBefore, Shape, Shapes, Family, Below, in-table, in-body, elsewhere, Searched}
-use Rattle.validate.proofs.index_lemmas.BlockIds.{named}
+use Rattle.validate.specs.internal.TableWords.{keyAt, entryOfNode, entriesFrom, wanted, idsBefore, Shape, Shapes, Family, Below, in-table, in-body, elsewhere, Searched}
+use Rattle.validate.proofs.index_lemmas.BlockIds.{idWanted}
 
 -- What stands in a part of a list that is long enough.
 part-of : (xs ys : List ℕ) (at size : ℕ) (key : List ℕ) → take size (drop at xs) ≡ key → length key ≡ size → take size (drop at (xs ++ ys)) ≡ key
@@ -45,12 +45,12 @@ Recorded words v =
     × (wordAt words (v .number) 2 ≡ v .number + count (v .visited))
 
 -- Word j of the record of a visited node.
-module _ (words : List ℕ) (n : ℕ) (bytes : List ℕ) (d : Node) (holds : Holds words n bytes d) (v : Visit) (m : List·Memᴰ v (visitsOf d)) where
+module _ (words : List ℕ) (n : ℕ) (bytes : List ℕ) (d : Node) (holds : BeginsWithTable words n bytes d) (v : Visit) (m : List·Memᴰ v (visitsOf d)) where
   within : recordLength * v .number + recordLength ≤ recordLength * n
   unfolding wordsOf
   within =
       let e : length (take recordLength (drop (recordLength * v .number) (tableOf d))) ≡ recordLength = ap length (record-at d v m) in
-      let t : length (tableOf d) ≡ recordLength * n = table-length d ∙ ap (λ (x : ℕ). recordLength * x) (holds .counted) in
+      let t : length (tableOf d) ≡ recordLength * n = table-length d ∙ ap (λ (x : ℕ). recordLength * x) (holds .node-count) in
       omega (arith, length-take recordLength (drop (recordLength * v .number) (tableOf d)), length-drop (recordLength * v .number) (tableOf d))
 
   pub word-is : (j : ℕ) → j < recordLength → wordAt words (v .number) j ≡ getD (wordsOf v) j 0
@@ -72,33 +72,33 @@ module _ (words : List ℕ) (n : ℕ) (bytes : List ℕ) (d : Node) (holds : Hol
       (ap (λ (l : List ℕ). take (length key) (drop (offset (v .start) key) l)) split
       ∙ part-of (pool d) (drop (length (pool d)) bytes) (offset (v .start) key) (length key) key (key-at d v m) refl)
 
-  pub entry-is : entryAt words bytes (v .number) ≡ entryOf v
+  pub entry-is : entryOfNode words bytes (v .number) ≡ entryOf v
   unfolding entryOf wordsOf
   entry-is = rw (word-is 0 (lit< tt), key-is)
 
   -- The words that say where a node stands.
-  pub recorded : Recorded words v
+  pub kind-parent-end : Recorded words v
   unfolding wordsOf endOf
-  recorded = (word-is 0 (lit< tt), word-is 1 (lit< tt), word-is 2 (lit< tt))
+  kind-parent-end = (word-is 0 (lit< tt), word-is 1 (lit< tt), word-is 2 (lit< tt))
 
 -- The entries, one by one.
-entries-up : (words bytes : List ℕ) (n i : ℕ) → entriesFrom words bytes n i ≡ map (entryAt words bytes) (upFrom i n)
+entries-up : (words bytes : List ℕ) (n i : ℕ) → entriesFrom words bytes n i ≡ map (entryOfNode words bytes) (upFrom i n)
 unfolding entriesFrom upFrom
 entries-up words bytes zero i = refl
-entries-up words bytes (suc n) i = ap (λ (l : List Entry). entryAt words bytes i ∷ l) (entries-up words bytes n (suc i))
+entries-up words bytes (suc n) i = ap (λ (l : List Entry). entryOfNode words bytes i ∷ l) (entries-up words bytes n (suc i))
 
 each-entry : (f : ℕ → Entry) (vs : List Visit) → ((v : Visit) → List·Memᴰ v vs → f (v .number) ≡ entryOf v)
     → map f (map (λ (v : Visit). v .number) vs) ≡ map entryOf vs
 each-entry f [] h = refl
 each-entry f (v ∷ vs) h = rw (h v (List·Memᴰ·head refl), each-entry f vs (λ u m. h u (List·Memᴰ·tail m)))
 
-pub entries-are : (words : List ℕ) (n : ℕ) (bytes : List ℕ) (d : Node) → Holds words n bytes d → entriesFrom words bytes n 0 ≡ entries 0 d
+pub entries-are : (words : List ℕ) (n : ℕ) (bytes : List ℕ) (d : Node) → BeginsWithTable words n bytes d → entriesFrom words bytes n 0 ≡ entries 0 d
 unfolding visitsOf
 entries-are words n bytes d holds =
     entries-up words bytes n 0
-    ∙ (ap (λ (m : ℕ). map (entryAt words bytes) (upFrom 0 m)) (sym (holds .counted))
-    ∙ (ap (map (entryAt words bytes)) (sym (numbered d))
-    ∙ (each-entry (entryAt words bytes) (visitsOf d) (λ v m. entry-is words n bytes d holds v m) ∙ sym (entries-visits d 0 missing 0))))
+    ∙ (ap (λ (m : ℕ). map (entryOfNode words bytes) (upFrom 0 m)) (sym (holds .node-count))
+    ∙ (ap (map (entryOfNode words bytes)) (sym (numbered d))
+    ∙ (each-entry (entryOfNode words bytes) (visitsOf d) (λ v m. entry-is words n bytes d holds v m) ∙ sym (entries-visits d 0 missing 0))))
 
 -- The ids before node i, and those from it on, are those of all.
 or-swap : (a b c : Bool) → (a || b) || c ≡ b || (a || c)
@@ -113,7 +113,7 @@ module _ (words bytes s : List ℕ) (only : ℕ) where
       ≡ isAmong s (idsBefore words bytes only i) || isAmong s (idsWhere (wanted only) (entriesFrom words bytes (suc n) i))
   unfolding isAmong idsBefore idsWhere entriesFrom
   ids-swap n i =
-      bool-case (named words bytes only i) (λ e. rw e (or-swap (same s (keyAt words bytes i)) _ _)) (λ e. rw e)
+      bool-case (idWanted words bytes only i) (λ e. rw e (or-swap (same s (keyAt words bytes i)) _ _)) (λ e. rw e)
 
   ids-all : (i n : ℕ)
       → isAmong s (idsBefore words bytes only i) || isAmong s (idsWhere (wanted only) (entriesFrom words bytes n i))
@@ -132,7 +132,7 @@ unfolding unknownTarget
 unknown-same k ids ids′ [] h = refl
 unknown-same k ids ids′ (e ∷ es) h = rw (h (e .key), unknown-same k ids ids′ es h)
 
-module _ (words : List ℕ) (n : ℕ) (bytes : List ℕ) (d : Node) (holds : Holds words n bytes d) where
+module _ (words : List ℕ) (n : ℕ) (bytes : List ℕ) (d : Node) (holds : BeginsWithTable words n bytes d) where
   unknown-is : (k only : ℕ)
       → unknownTarget k (idsBefore words bytes only n) (entriesFrom words bytes n 0) ≡ unknownTarget k (idsWhere (wanted only) (entries 0 d)) (entries 0 d)
   unknown-is k only =
@@ -228,9 +228,9 @@ root-kind (value c s) l =
 root-kind (size w h) l = absurd l
 root-kind (element k ts) l = eqb-true k Class.document (T-true _ (both (eqb k Class.document) _ l .0))
 
-pub rows-searched : (words : List ℕ) (n : ℕ) (bytes : List ℕ) (d : Node) → Holds words n bytes d → Searched words n 0 (badRow 0 any-number d)
+pub rows-searched : (words : List ℕ) (n : ℕ) (bytes : List ℕ) (d : Node) → BeginsWithTable words n bytes d → Searched words n 0 (badRow 0 any-number d)
 unfolding visitsOf
 rows-searched words n bytes d holds =
     let e : nodeKind d ≡ Class.document = ap nodeKind (sym (holds .document .said)) ∙ root-kind (holds .document .tree) (lawful-test (holds .document .tree) (holds .document .lawful)) in
-    subst (λ (m : ℕ). Searched words m 0 (badRow 0 any-number d)) (holds .counted)
-    (searched words d 0 missing any-number (shape words d 0 missing 0 (λ v m. recorded words n bytes d holds v m)) (λ f. absurd (f e)))
+    subst (λ (m : ℕ). Searched words m 0 (badRow 0 any-number d)) (holds .node-count)
+    (searched words d 0 missing any-number (shape words d 0 missing 0 (λ v m. kind-parent-end words n bytes d holds v m)) (λ f. absurd (f e)))

@@ -14,7 +14,7 @@ use Rattle.elements.specs.rules.Class.{isBlock}
 use Rattle.document.specs.rules.Value.{nonEmpty}
 use Rattle.document.specs.reference.Check.{nowhere, at-node, Entry, hasId, isAmong, repeatedId, unknownTarget}
 use Rattle.table.specs.Stored.{wordAt}
-use Rattle.validate.specs.internal.Words.{keyAt, entryAt, entriesFrom, wanted, idsBefore, repeatsAt, danglesAt}
+use Rattle.validate.specs.internal.TableWords.{keyAt, entryOfNode, entriesFrom, wanted, idsBefore, repeatsAt, danglesAt}
 
 -- The kind of node i is the first word of its record.
 pub kind-read : (words : List ℕ) (i : ℕ) → getD words (11 * i) 0 ≡ wordAt words i 0
@@ -52,50 +52,50 @@ not-empty (x ∷ s) = rw (ne-eqb (suc (length s)) 0 (λ e. omega arith))
 
 module _ (words bytes : List ℕ) where
   -- The test of an id at node i.
-  abbrev pub named : ℕ → ℕ → Bool
-  named only i = wanted only (wordAt words i 0) && hasId (entryAt words bytes i)
+  abbrev pub idWanted : ℕ → ℕ → Bool
+  idWanted only i = wanted only (wordAt words i 0) && hasId (entryOfNode words bytes i)
 
-  pub no-block : (only i : ℕ) → isBlock (wordAt words i 0) ≡ false → named only i ≡ false
+  pub no-block : (only i : ℕ) → isBlock (wordAt words i 0) ≡ false → idWanted only i ≡ false
   unfolding hasId
   no-block only i e = rw e (and-false (cond (eqb only 0) false (eqb only (wordAt words i 0))))
 
-  pub other-kind : (only i : ℕ) → (only ≡ 0 → ⊥) → (only ≡ wordAt words i 0 → ⊥) → named only i ≡ false
+  pub other-kind : (only i : ℕ) → (only ≡ 0 → ⊥) → (only ≡ wordAt words i 0 → ⊥) → idWanted only i ≡ false
   other-kind only i f g = rw (ne-eqb only 0 f, ne-eqb only (wordAt words i 0) g)
 
   pub is-wanted : (only i : ℕ) → isBlock (wordAt words i 0) ≡ true → wanted only (wordAt words i 0) ≡ true
-      → named only i ≡ not (eqb (length (keyAt words bytes i)) 0)
+      → idWanted only i ≡ not (eqb (length (keyAt words bytes i)) 0)
   unfolding hasId
   is-wanted only i b e = rw (e, b) (not-empty (keyAt words bytes i))
 
   -- Any block is wanted.
-  pub any-block : (i : ℕ) → named 0 i ≡ hasId (entryAt words bytes i)
+  pub any-block : (i : ℕ) → idWanted 0 i ≡ hasId (entryOfNode words bytes i)
   unfolding hasId
   any-block i = bool-case (isBlock (wordAt words i 0)) (λ e. rw e) (λ e. rw e)
 
   -- A node whose kind is above those of blocks has no id.
-  pub above-id : (i : ℕ) → 7 < getD words (11 * i) 0 → hasId (entryAt words bytes i) ≡ false
+  pub above-id : (i : ℕ) → 7 < getD words (11 * i) 0 → hasId (entryOfNode words bytes i) ≡ false
   above-id i l = sym (any-block i) ∙ no-block 0 i (above-blocks _ (rw kind-read at l))
 
   -- One node fewer to look at.
   ids-before : (only i : ℕ) → 0 < i
       → idsBefore words bytes only i
-      ≡ cond (named only (i - 1)) (keyAt words bytes (i - 1) ∷ idsBefore words bytes only (i - 1)) (idsBefore words bytes only (i - 1))
+      ≡ cond (idWanted only (i - 1)) (keyAt words bytes (i - 1) ∷ idsBefore words bytes only (i - 1)) (idsBefore words bytes only (i - 1))
   unfolding idsBefore
   ids-before only i l =
       let e : i ≡ suc (i - 1) = omega arith in
       ap (idsBefore words bytes only) e
 
-  pub known-here : (s : List ℕ) (only i : ℕ) → 0 < i → named only (i - 1) ≡ true → same s (keyAt words bytes (i - 1)) ≡ true
+  pub known-here : (s : List ℕ) (only i : ℕ) → 0 < i → idWanted only (i - 1) ≡ true → same s (keyAt words bytes (i - 1)) ≡ true
       → isAmong s (idsBefore words bytes only i) ≡ true
   unfolding isAmong
   known-here s only i l e f = rw (ids-before only i l, e, f)
 
-  pub known-other : (s : List ℕ) (only i : ℕ) → 0 < i → named only (i - 1) ≡ true → same s (keyAt words bytes (i - 1)) ≡ false
+  pub known-other : (s : List ℕ) (only i : ℕ) → 0 < i → idWanted only (i - 1) ≡ true → same s (keyAt words bytes (i - 1)) ≡ false
       → isAmong s (idsBefore words bytes only (i - 1)) ≡ isAmong s (idsBefore words bytes only i)
   unfolding isAmong
   known-other s only i l e f = sym (ap (isAmong s) (ids-before only i l) ∙ rw (e, f))
 
-  pub known-none : (s : List ℕ) (only i : ℕ) → 0 < i → named only (i - 1) ≡ false
+  pub known-none : (s : List ℕ) (only i : ℕ) → 0 < i → idWanted only (i - 1) ≡ false
       → isAmong s (idsBefore words bytes only (i - 1)) ≡ isAmong s (idsBefore words bytes only i)
   known-none s only i l e = sym (ap (isAmong s) (ids-before only i l) ∙ rw e)
 
@@ -109,7 +109,7 @@ module _ (words bytes : List ℕ) where
   abbrev pub rest : ℕ → ℕ → List Entry
   rest count i = entriesFrom words bytes (count - i) i
 
-  rest-cons : (count i : ℕ) → i < count → rest count i ≡ entryAt words bytes i ∷ rest count (i + 1)
+  rest-cons : (count i : ℕ) → i < count → rest count i ≡ entryOfNode words bytes i ∷ rest count (i + 1)
   unfolding entriesFrom
   rest-cons count i l =
       let e : count - i ≡ suc (count - (i + 1)) = omega arith in
@@ -122,7 +122,7 @@ module _ (words bytes : List ℕ) where
       rw e
 
   -- A turn of the search for a repeated id.
-  ids-after : (i : ℕ) (b : Bool) → hasId (entryAt words bytes i) ≡ b
+  ids-after : (i : ℕ) (b : Bool) → hasId (entryOfNode words bytes i) ≡ b
       → idsBefore words bytes 0 (i + 1) ≡ cond b (keyAt words bytes i ∷ idsBefore words bytes 0 i) (idsBefore words bytes 0 i)
   unfolding idsBefore
   ids-after i b e = rw (add-one i, any-block i, e)
@@ -130,14 +130,14 @@ module _ (words bytes : List ℕ) where
   pub repeated-here : (count i : ℕ) → i < count → repeatsAt words bytes i ≡ true → repeatedId (idsBefore words bytes 0 i) (rest count i) ≡ at-node i
   unfolding repeatedId
   repeated-here count i l e =
-      let b = and-both (hasId (entryAt words bytes i)) (isAmong (keyAt words bytes i) (idsBefore words bytes 0 i)) e in
+      let b = and-both (hasId (entryOfNode words bytes i)) (isAmong (keyAt words bytes i) (idsBefore words bytes 0 i)) e in
       rw (rest-cons count i l, b .0, b .1)
 
   pub repeated-on : (count i : ℕ) → i < count → repeatsAt words bytes i ≡ false
       → repeatedId (idsBefore words bytes 0 (i + 1)) (rest count (i + 1)) ≡ repeatedId (idsBefore words bytes 0 i) (rest count i)
   unfolding repeatedId
   repeated-on count i l e =
-      bool-case (hasId (entryAt words bytes i)) (λ h.
+      bool-case (hasId (entryOfNode words bytes i)) (λ h.
       let f : isAmong (keyAt words bytes i) (idsBefore words bytes 0 i) ≡ false = rw h at e in
       rw (rest-cons count i l, ids-after i true h, h, f)) (λ h. rw (rest-cons count i l, ids-after i false h, h))
 

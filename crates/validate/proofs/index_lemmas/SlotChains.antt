@@ -14,9 +14,9 @@ use Rattle.base.proofs.Booleans.{bool-case, cond-case, not-T-false}
 use Rattle.elements.specs.rules.Bytes.{same}
 use Rattle.elements.proofs.Same.{same-equal}
 use Rattle.document.specs.reference.Check.{hasId, isAmong}
-use Rattle.validate.specs.internal.Words.{keyAt, entryAt, idsBefore}
-use Rattle.validate.specs.internal.Index.{mixed, slotOf, lastIn, Indexed}
-use Rattle.validate.proofs.index_lemmas.BlockIds.{and-both, named}
+use Rattle.validate.specs.internal.TableWords.{keyAt, entryOfNode, idsBefore}
+use Rattle.validate.specs.internal.IdIndex.{mixed, slotOf, lastIn, Indexed}
+use Rattle.validate.proofs.index_lemmas.BlockIds.{and-both, idWanted}
 
 pub slot-below : (id : List ℕ) → slotOf id < 4096
 unfolding slotOf
@@ -34,7 +34,7 @@ mixed-end h id i l = rw (drop-of-length-le id l)
 module _ (words bytes : List ℕ) where
   -- Node n is a block whose id has slot s.
   abbrev inSlot : ℕ → ℕ → Bool
-  inSlot s n = hasId (entryAt words bytes n) && eqb (slotOf (keyAt words bytes n)) s
+  inSlot s n = hasId (entryOfNode words bytes n) && eqb (slotOf (keyAt words bytes n)) s
 
   last-here : (s n : ℕ) → inSlot s n ≡ true → lastIn words bytes s (n + 1) ≡ n + 1
   unfolding lastIn
@@ -57,14 +57,14 @@ module _ (words bytes : List ℕ) where
 
   module _ (only : ℕ) (id : List ℕ) where
     -- A node of another slot has another id.
-    other-slot : (n : ℕ) → inSlot (slotOf id) n ≡ false → hasId (entryAt words bytes n) ≡ true → same id (keyAt words bytes n) ≡ false
+    other-slot : (n : ℕ) → inSlot (slotOf id) n ≡ false → hasId (entryOfNode words bytes n) ≡ true → same id (keyAt words bytes n) ≡ false
     other-slot n e h =
         let f : eqb (slotOf (keyAt words bytes n)) (slotOf id) ≡ false = rw h at e in
         not-T-false (same id (keyAt words bytes n)) (λ t. eqb-false _ _ f (ap slotOf (sym (same-equal id (keyAt words bytes n) t))))
 
     passed : (n : ℕ) → inSlot (slotOf id) n ≡ false → isAmong id (idsBefore words bytes only n) ≡ isAmong id (idsBefore words bytes only (suc n))
     unfolding isAmong idsBefore
-    passed n e = bool-case (named words bytes only n) (λ h. rw (h, other-slot n e (and-both _ _ h .1))) (λ h. rw h)
+    passed n e = bool-case (idWanted words bytes only n) (λ h. rw (h, other-slot n e (and-both _ _ h .1))) (λ h. rw h)
 
     last-among : (n : ℕ) → isAmong id (idsBefore words bytes only (lastIn words bytes (slotOf id) n)) ≡ isAmong id (idsBefore words bytes only n)
     unfolding lastIn
@@ -74,29 +74,29 @@ module _ (words bytes : List ℕ) where
         (λ e. refl) (λ e. last-among n ∙ passed n e)
 
     -- What is left to look at of n nodes: those up to number j - 1, the next one in the slot.
-    pub record Left (n j : ℕ) : Type 0 where
+    pub record LeftInSlot (n j : ℕ) : Type 0 where
       pub within : j ≤ n
       pub among : isAmong id (idsBefore words bytes only j) ≡ isAmong id (idsBefore words bytes only n)
       pub in-slot : 0 < j → inSlot (slotOf id) (j - 1) ≡ true
 
     left-at : (n m : ℕ) → m ≤ n → isAmong id (idsBefore words bytes only m) ≡ isAmong id (idsBefore words bytes only n)
-        → Left n (lastIn words bytes (slotOf id) m)
+        → LeftInSlot n (lastIn words bytes (slotOf id) m)
     left-at n m l e =
         record { within = omega (arith, last-le (slotOf id) m); among = last-among m ∙ e; in-slot = last-is (slotOf id) m }
 
     module _ (n : ℕ) (heads nexts : List ℕ) (x : Indexed words bytes n heads nexts) where
-      pub left-first : {s : ℕ} → s ≡ slotOf id → Left n (getD heads s 0)
+      pub left-first : {s : ℕ} → s ≡ slotOf id → LeftInSlot n (getD heads s 0)
       left-first e = rw (e, x .last-in (slotOf id) (slot-below id)) (left-at n n (omega arith) refl)
 
-      pub left-next : (j : ℕ) → 0 < j → Left n j
-          → isAmong id (idsBefore words bytes only (j - 1)) ≡ isAmong id (idsBefore words bytes only j) → Left n (getD nexts (j - 1) 0)
+      pub left-next : (j : ℕ) → 0 < j → LeftInSlot n j
+          → isAmong id (idsBefore words bytes only (j - 1)) ≡ isAmong id (idsBefore words bytes only j) → LeftInSlot n (getD nexts (j - 1) 0)
       left-next j l y e =
           let (h, s) = and-both _ _ (y .in-slot l) in
           let lt : j - 1 < n = omega (arith, y .within) in
           let q : slotOf (keyAt words bytes (j - 1)) ≡ slotOf id = eqb-true _ _ s in
           rw (x .before-in (j - 1) lt h, q) (left-at n (j - 1) (omega arith) (e ∙ y .among))
 
-      pub next-below : (j : ℕ) → 0 < j → Left n j → getD nexts (j - 1) 0 < j
+      pub next-below : (j : ℕ) → 0 < j → LeftInSlot n j → getD nexts (j - 1) 0 < j
       next-below j l y =
           let (h, s) = and-both _ _ (y .in-slot l) in
           let lt : j - 1 < n = omega (arith, y .within) in
@@ -117,17 +117,17 @@ module _ (words bytes : List ℕ) where
     earlier : (k : ℕ) → k < n + 1 → (k ≡ n → ⊥) → k < n
     earlier k l f = omega (arith, f)
 
-    pub no-id : hasId (entryAt words bytes n) ≡ false → Indexed words bytes (n + 1) heads nexts
+    pub no-id : hasId (entryOfNode words bytes n) ≡ false → Indexed words bytes (n + 1) heads nexts
     no-id e =
         record {
           few = omega arith;
           heads-length = x .heads-length;
           nexts-length = x .nexts-length;
           last-in = λ s l. x .last-in s l ∙ sym (last-on s n (rw e));
-          before-in = λ k l h. x .before-in k (earlier k l (λ q. true≢false (sym h ∙ (ap (λ i. hasId (entryAt words bytes i)) q ∙ e)))) h;
+          before-in = λ k l h. x .before-in k (earlier k l (λ q. true≢false (sym h ∙ (ap (λ i. hasId (entryOfNode words bytes i)) q ∙ e)))) h;
         }
 
-    module _ (id : hasId (entryAt words bytes n) ≡ true) where
+    module _ (id : hasId (entryOfNode words bytes n) ≡ true) where
       abbrev s₀ : ℕ
       s₀ = slotOf (keyAt words bytes n)
 
@@ -138,7 +138,7 @@ module _ (words bytes : List ℕ) where
           rw (sym (eqb-true s₀ s e)) (getD-set-same heads s₀ (n + 1) 0 p ∙ sym (last-here s₀ n (rw (id, eq-eqb s₀ s₀ refl))))) (λ e.
           getD-set-other heads s₀ s (n + 1) 0 (λ q. eqb-false s₀ s e (sym q)) ∙ (x .last-in s l ∙ sym (last-on s n (rw (id, e)))))
 
-      before-after : (k : ℕ) → k < n + 1 → hasId (entryAt words bytes k) ≡ true
+      before-after : (k : ℕ) → k < n + 1 → hasId (entryOfNode words bytes k) ≡ true
           → getD (set nexts n (getD heads s₀ 0)) k 0 ≡ lastIn words bytes (slotOf (keyAt words bytes k)) k
       before-after k l h =
           let p : n < length nexts = omega (arith, x .nexts-length) in

@@ -12,7 +12,7 @@ use Rattle.document.specs.rules.Table.{countAll, pool, poolAll, offset}
 use Rattle.document.specs.reference.Printing.{part}
 use Rattle.table.specs.Stored.{wordAt, Recorded, Stored, StoredAll}
 use Rattle.table.specs.Stored.{stringAt}
-use Rattle.validate.specs.internal.Walking.{offsetOf, StringAt, stringsEnd, RecordAt}
+use Rattle.validate.specs.internal.DraftWalk.{offsetOf, NamesStringAt, stringsEnd, RecordAt}
 use Rattle.table.proofs.Stored.{recorded-word, recorded-within, word-recorded}
 
 -- The node whose record is that of number i, with these children.
@@ -44,19 +44,19 @@ unfolding part
 string-within bytes s p e h = omega (arith, simp (length-take, length-drop) at (ap length e))
 
 -- A string of no bytes is missing.
-pub no-string : (words bytes : List ℕ) (i j : ℕ) → wordAt words i (j + 1) ≡ 0 → stringAt words bytes i j ≡ []
+pub missing-string : (words bytes : List ℕ) (i j : ℕ) → wordAt words i (j + 1) ≡ 0 → stringAt words bytes i j ≡ []
 unfolding stringAt part
-no-string words bytes i j e = rw e
+missing-string words bytes i j e = rw e
 
 -- The string s is the one that words j and j + 1 name.
-pub record Named (words bytes : List ℕ) (i j p : ℕ) : Type 0 where
+pub record StringNamed (words bytes : List ℕ) (i j p : ℕ) : Type 0 where
   pub size : length (stringAt words bytes i j) ≡ wordAt words i (j + 1)
   pub from : offset p (stringAt words bytes i j) ≡ wordAt words i j
   pub there : part bytes p (length (stringAt words bytes i j)) ≡ stringAt words bytes i j
 
-pub named : (words bytes : List ℕ) (i j p : ℕ) → StringAt words i j p (length bytes) → Named words bytes i j p
+pub string-named : (words bytes : List ℕ) (i j p : ℕ) → NamesStringAt words i j p (length bytes) → StringNamed words bytes i j p
 unfolding stringAt
-named words bytes i j p s =
+string-named words bytes i j p s =
     let same = part-from bytes (wordAt words i j) p (wordAt words i (j + 1)) (s .offset) in
     let size : length (part bytes (wordAt words i j) (wordAt words i (j + 1))) ≡ wordAt words i (j + 1)
     = rw same (part-length bytes p (wordAt words i (j + 1)) (s .within)) in
@@ -64,7 +64,7 @@ named words bytes i j p s =
 
 -- The words of a string that is there name it.
 names : (words bytes s : List ℕ) (i j p : ℕ) → wordAt words i j ≡ offset p s → wordAt words i (j + 1) ≡ length s → part bytes p (length s) ≡ s
-    → p ≤ length bytes → StringAt words i j p (length bytes) × (s ≡ stringAt words bytes i j)
+    → p ≤ length bytes → NamesStringAt words i j p (length bytes) × (s ≡ stringAt words bytes i j)
 unfolding stringAt
 names words bytes s i j p o l e h =
     let f : wordAt words i j ≡ offsetOf p (wordAt words i (j + 1)) = o ∙ rw l (offset-length p s) in (
@@ -104,9 +104,9 @@ pub node-stored : (ns : Nodes) (words bytes : List ℕ) (i parent p : ℕ) → R
     → StoredAll words bytes (i + 1) i (stringsEnd words i p) ns → Stored words bytes i parent p (nodeOf words bytes i ns)
 unfolding Stored nodeOf Recorded
 node-stored ns words bytes i parent p r e a =
-    let n1 = named words bytes i 3 p (r .key-at) in
-    let n2 = named words bytes i 5 (p + wordAt words i 4) (r .type-at) in
-    let n3 = named words bytes i 7 (p + wordAt words i 4 + wordAt words i 6) (r .text-at) in (
+    let n1 = string-named words bytes i 3 p (r .key-at) in
+    let n2 = string-named words bytes i 5 (p + wordAt words i 4) (r .type-at) in
+    let n3 = string-named words bytes i 7 (p + wordAt words i 4 + wordAt words i 6) (r .text-at) in (
       rw (n1 .size, n2 .size, n3 .size, n1 .from, n2 .from, n3 .from, ← (r .under), ← e) (word-recorded words i (r .whole)),
       n1 .there,
       rw (n1 .size) (n2 .there),
@@ -119,7 +119,7 @@ pub node-pool : (ns : Nodes) (words bytes : List ℕ) (i parent p : ℕ) → Rec
     → p + length (pool (nodeOf words bytes i ns)) ≡ stringsEnd words i p + length (poolAll ns)
 unfolding nodeOf pool
 node-pool ns words bytes i parent p r =
-    let n1 = named words bytes i 3 p (r .key-at) in
-    let n2 = named words bytes i 5 (p + wordAt words i 4) (r .type-at) in
-    let n3 = named words bytes i 7 (p + wordAt words i 4 + wordAt words i 6) (r .text-at) in
+    let n1 = string-named words bytes i 3 p (r .key-at) in
+    let n2 = string-named words bytes i 5 (p + wordAt words i 4) (r .type-at) in
+    let n3 = string-named words bytes i 7 (p + wordAt words i 4 + wordAt words i 6) (r .text-at) in
     simp length-append (rw (n1 .size, n2 .size, n3 .size) (omega arith))

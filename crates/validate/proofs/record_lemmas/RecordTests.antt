@@ -14,8 +14,8 @@ use Rattle.document.specs.rules.Value.{nonEmpty}
 use Rattle.document.specs.reference.RulesTest.{isText}
 use Rattle.table.specs.Stored.{wordAt, Recorded}
 use Rattle.table.proofs.Stored.{recorded-word}
-use Rattle.validate.specs.internal.Walking.{Decided, offsetOf, StringAt, TextAlone}
-use Rattle.validate.proofs.record_lemmas.Decided.{decided, denied, equal, unequal, both-decided, reworded}
+use Rattle.validate.specs.internal.DraftWalk.{Decided, offsetOf, NamesStringAt, TextAlone}
+use Rattle.validate.proofs.record_lemmas.Decided.{decided-by, denied, equal-decided, unequal-decided, both-decided, reworded}
 
 -- ---- the words of a record
 
@@ -37,21 +37,21 @@ word-in words r i j e h = sym (recorded-word words r i j e h)
 -- ---- the tests
 
 module _ (words : List ℕ) (i j p size : ℕ) {o n : ℕ} (a : o ≡ wordAt words i j) (b : n ≡ wordAt words i (j + 1)) where
-  pub string-none : p ≤ size → n ≡ 0 → Decided (StringAt words i j p size) (eqb o 0)
+  pub string-none : p ≤ size → n ≡ 0 → Decided (NamesStringAt words i j p size) (eqb o 0)
   unfolding offsetOf
   string-none h z =
       let none = eq-eqb (wordAt words i (j + 1)) 0 (sym b ∙ z) in
-      decided (eqb o 0) (λ e. record { offset = rw none (sym a ∙ eqb-true o 0 e); within = omega arith })
+      decided-by (eqb o 0) (λ e. record { offset = rw none (sym a ∙ eqb-true o 0 e); within = omega arith })
       (λ e s. eqb-false o 0 e (a ∙ rw none at (s .offset)))
 
-  pub string-long : p ≤ size → size - p < n → Decided (StringAt words i j p size) false
+  pub string-long : p ≤ size → size - p < n → Decided (NamesStringAt words i j p size) false
   string-long h l = denied (λ s. omega (arith, s .within))
 
-  pub string-there : (n ≡ 0 → ⊥) → p ≤ size → n ≤ size - p → Decided (StringAt words i j p size) (eqb o p)
+  pub string-there : (n ≡ 0 → ⊥) → p ≤ size → n ≤ size - p → Decided (NamesStringAt words i j p size) (eqb o p)
   unfolding offsetOf
   string-there z h l =
       let some = ne-eqb (wordAt words i (j + 1)) 0 (λ e. z (b ∙ e)) in
-      decided (eqb o p) (λ e. record { offset = rw some (sym a ∙ eqb-true o p e); within = omega arith })
+      decided-by (eqb o p) (λ e. record { offset = rw some (sym a ∙ eqb-true o p e); within = omega arith })
       (λ e s. eqb-false o p e (a ∙ rw some at (s .offset)))
 
 -- What stands in the record of a text beside the text.
@@ -79,12 +79,12 @@ alone-tests words i parent end =
     (both-decided
     (both-decided
     (both-decided
-    (both-decided (both-decided (both-decided (equal _ _) (equal _ _)) (equal _ _)) (equal _ _))
-    (equal _ _))
-    (equal _ _))
-    (unequal _ _))
-    (equal _ _))
-    (equal _ _))
+    (both-decided (both-decided (both-decided (equal-decided _ _) (equal-decided _ _)) (equal-decided _ _)) (equal-decided _ _))
+    (equal-decided _ _))
+    (equal-decided _ _))
+    (unequal-decided _ _))
+    (equal-decided _ _))
+    (equal-decided _ _))
 
 -- A text is valid where it has bytes and all are valid.
 pub text-bytes : (s : List ℕ) → T (isText s) → (length s ≡ 0 → ⊥) × (eqb (validUpTo s) (length s) ≡ true)

@@ -5,8 +5,8 @@ use borrow.Author.Needs.{needs}
 use borrow.Author.Tests.{not-true, not-false}
 use Rattle.kind.specs.Machine.{withChild}
 use Rattle.kind.proofs.Table.{no-include}
-use Rattle.kind.proofs.Steps.{taken, significance-small}
-use Rattle.kind.proofs.Children.{first-refused, first-taken}
+use Rattle.kind.proofs.Steps.{numbers-of-taken, significance-small}
+use Rattle.kind.proofs.Children.{first-refused, first-child-taken}
 use Rattle.kind.proofs.machine.first_child.Statement.{statement}
 use Rattle.kind.proofs.machine.first_child.Tie as tie
 
@@ -20,7 +20,7 @@ returns-2 : tie.Need-returns-2
 unfolding withChild
 returns-2 c =
     let stands = sym (c .before .before .allowed .ensures) ∙ not-false _ (c .before .if1 .left) in
-    taken (rw (c .significance .ensures)) (first-taken _ _ (no-include _ _ stands) stands (c .significance .ensures))
+    numbers-of-taken (rw (c .significance .ensures)) (first-child-taken _ _ (no-include _ _ stands) stands (c .significance .ensures))
 
 pub first-child-spec : {M : Type 1} → statement M
 first-child-spec =

@@ -4,13 +4,13 @@ use borrow.Author.Needs.{needs}
 use borrow.Author.Tests.{eq-eqb, ne-eqb}
 use Rattle.elements.specs.rules.Inside.{nextParameter}
 use Rattle.kind.specs.Machine.{afterLast}
-use Rattle.kind.proofs.Steps.{taken, last-state}
+use Rattle.kind.proofs.Steps.{numbers-of-taken, last-state}
 use Rattle.kind.proofs.machine.last_parameter.Statement.{statement}
 use Rattle.kind.proofs.machine.last_parameter.Tie as tie
 
 returns : tie.Need-returns
 unfolding nextParameter afterLast
-returns c = rw (eq-eqb _ _ (c .if1 .taken)) (taken refl (rw last-state))
+returns c = rw (eq-eqb _ _ (c .if1 .taken)) (numbers-of-taken refl (rw last-state))
 
 returns-2 : tie.Need-returns-2
 unfolding nextParameter afterLast

@@ -5,7 +5,7 @@ use native.Mathlib.Omega.{arith}
 use borrow.Author.Needs.{needs}
 use borrow.Author.Tests.{not-true, not-false, eq-eqb, ne-eqb}
 use Rattle.kind.proofs.Table.{no-include, empty-but-verbatim}
-use Rattle.kind.proofs.Steps.{taken, refused}
+use Rattle.kind.proofs.Steps.{numbers-of-taken, numbers-of-refused}
 use Rattle.kind.proofs.Children.{next-of-one, next-refused, next-other, next-same}
 use Rattle.kind.proofs.machine.next_child.Statement.{statement}
 use Rattle.kind.proofs.machine.next_child.Tie as tie
@@ -16,12 +16,12 @@ returns c = next-refused _ _ _ (c .refused .ensures) (sym (c .before .before .al
 returns-2 : tie.Need-returns-2
 returns-2 c =
     let stands = sym (c .before .before .before .allowed .ensures) ∙ not-false _ (c .before .before .if1 .left) in
-    refused refl (λ z. omega arith) (next-of-one _ _ _ (no-include _ _ stands) (empty-but-verbatim _ ∙ ap not (eq-eqb _ _ (c .if2 .taken))))
+    numbers-of-refused refl (λ z. omega arith) (next-of-one _ _ _ (no-include _ _ stands) (empty-but-verbatim _ ∙ ap not (eq-eqb _ _ (c .if2 .taken))))
 
 returns-3 : tie.Need-returns-3
 returns-3 c =
     let stands = sym (c .before .before .before .before .before .allowed .ensures) ∙ not-false _ (c .before .before .before .before .if1 .left) in
-    refused refl (λ z. omega arith)
+    numbers-of-refused refl (λ z. omega arith)
     (next-other _ _ (no-include _ _ stands)
     stands
     (c .before .significance .ensures)
@@ -32,7 +32,7 @@ returns-3 c =
 returns-4 : tie.Need-returns-4
 returns-4 c =
     let stands = sym (c .before .before .before .before .before .allowed .ensures) ∙ not-false _ (c .before .before .before .before .if1 .left) in
-    taken refl
+    numbers-of-taken refl
     (next-same _ _ (no-include _ _ stands)
     stands
     (c .before .significance .ensures)

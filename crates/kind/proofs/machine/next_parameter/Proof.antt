@@ -8,13 +8,13 @@ use Rattle.elements.specs.rules.Rules.{ruleOf}
 use Rattle.elements.specs.rules.Inside.{go, nextParameter}
 use Rattle.kind.specs.Machine.{afterPlace}
 use Rattle.kind.proofs.Table.{past-four}
-use Rattle.kind.proofs.Steps.{taken, refused, alike, Leads, led-on, first-child, absent, required-taken, neither, either-taken, optional-taken, passed, first-child-end, place-state}
+use Rattle.kind.proofs.Steps.{numbers-of-taken, numbers-of-refused, same-step, StepsTo, led-on, first-child, absent, required-taken, neither, either-taken, optional-taken, passed, first-child-end, place-state}
 use Rattle.kind.proofs.machine.next_parameter.Statement.{statement}
 use Rattle.kind.proofs.machine.next_parameter.Tie as tie
 
 abbrev Inv-loop : tie.InvT-loop
 Inv-loop kind state class place₀ place =
-    Leads (ruleOf kind .content) class (drop place (ruleOf kind .parameters)) place
+    StepsTo (ruleOf kind .content) class (drop place (ruleOf kind .parameters)) place
     (nextParameter (drop state (ruleOf kind .parameters)) (ruleOf kind .content) class)
     (afterPlace state (drop state (ruleOf kind .parameters)) class)
 
@@ -30,11 +30,11 @@ returns c =
     (c .before .before .before .before .loop .place) _ (c .before .before .slot .ensures)
     _ _
     (c .before .if1 .taken) in
-    alike (c .first-child .ensures) (led-on now (c .before .before .before .before .loop .inv))
+    same-step (c .first-child .ensures) (led-on now (c .before .before .before .before .loop .inv))
 
 returns-2 : tie.Need-returns-2 Inv-loop μ-loop
 returns-2 c =
-    refused refl (λ z. omega arith)
+    numbers-of-refused refl (λ z. omega arith)
     (sym (absent (ruleOf (c .before .before .before .before .before .before .args .kind) .parameters)
     (c .before .before .before .before .before .loop .place) _ (c .before .before .before .slot .ensures)
     _ _
@@ -52,7 +52,7 @@ returns-3 c =
     (c .before .if2 .taken)
     (c .if3 .left) in
     let (step, number) = led-on now (c .before .before .before .before .before .loop .inv) in
-    taken number (ap go (place-state _ _ (omega arith)) ∙ step)
+    numbers-of-taken number (ap go (place-state _ _ (omega arith)) ∙ step)
 
 returns-4 : tie.Need-returns-4 Inv-loop μ-loop
 returns-4 c =
@@ -62,7 +62,7 @@ returns-4 c =
     (c .before .before .id-type .ensures)
     (c .before .before .before .if4 .taken)
     (c .before .if5 .taken) in
-    alike (c .first-child2 .ensures) (led-on now (c .before .before .before .before .before .before .before .before .loop .inv))
+    same-step (c .first-child2 .ensures) (led-on now (c .before .before .before .before .before .before .before .before .loop .inv))
 
 returns-5 : tie.Need-returns-5 Inv-loop μ-loop
 returns-5 c =
@@ -73,7 +73,7 @@ returns-5 c =
     (c .before .before .if4 .taken)
     (c .if5 .left) in
     let (step, number) = led-on now (c .before .before .before .before .before .before .before .loop .inv) in
-    taken number step
+    numbers-of-taken number step
 
 returns-6 : tie.Need-returns-6 Inv-loop μ-loop
 returns-6 c =
@@ -84,7 +84,7 @@ returns-6 c =
     (c .before .if4 .left)
     (c .if6 .taken) in
     let (step, number) = led-on now (c .before .before .before .before .before .before .loop .inv) in
-    taken number (ap go (place-state _ _ (omega arith)) ∙ step)
+    numbers-of-taken number (ap go (place-state _ _ (omega arith)) ∙ step)
 
 loop-again : tie.Need-loop-again Inv-loop μ-loop
 loop-again c =
@@ -99,7 +99,7 @@ loop-again c =
 returns-7 : tie.Need-returns-7 Inv-loop μ-loop
 returns-7 c =
     let now = first-child-end _ _ _ (past-four (c .before .before .before .args .kind) (c .before .before .loop .place) (c .before .loop-test .left)) in
-    alike (c .first-child3 .ensures) (led-on now (c .before .before .loop .inv))
+    same-step (c .first-child3 .ensures) (led-on now (c .before .before .loop .inv))
 
 pub next-parameter-spec : {M : Type 1} → statement M
 next-parameter-spec =

@@ -6,7 +6,7 @@ use lib.ListN.{drop}
 use Rattle.elements.specs.rules.Rules.{ruleOf}
 use Rattle.elements.specs.rules.Inside.{noneRequired}
 use Rattle.kind.proofs.Table.{past-four}
-use Rattle.kind.proofs.Steps.{none-left, none-required-end, required-first, not-required}
+use Rattle.kind.proofs.Steps.{no-parameter-left, none-required-end, required-first, not-required}
 use Rattle.kind.proofs.machine.none_required.Statement.{statement}
 use Rattle.kind.proofs.machine.none_required.Tie as tie
 
@@ -22,7 +22,7 @@ loop-holds c = refl
 
 returns : tie.Need-returns Inv-loop μ-loop
 returns c =
-    let end = none-left (ruleOf (c .before .before .before .before .args .kind) .parameters)
+    let end = no-parameter-left (ruleOf (c .before .before .before .before .args .kind) .parameters)
     (c .before .before .before .loop .place) _ (c .before .slot .ensures)
     (c .if1 .taken) in
     sym (none-required-end end) ∙ c .before .before .before .loop .inv

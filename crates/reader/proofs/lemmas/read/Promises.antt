@@ -27,7 +27,7 @@ use Rattle.document.proofs.CheckedNode.{unsound-below}
 use Rattle.document.specs.rules.Canonical.{layout, treeLevels}
 use Rattle.document.specs.reference.Printing.{checkedAs, checking}
 use Rattle.document.proofs.PrintingDecided.{checks}
-use Rattle.validate.specs.Checked.{checkNumber, checkNode}
+use Rattle.validate.specs.CheckNumbers.{checkNumber, checkNode}
 use Rattle.validate.specs.Checks.{Checks}
 use Rattle.validate.specs.declared.Checked.{Checked}
 use Rattle.reader.specs.declared.Answer.{Answer}

@@ -14,8 +14,8 @@ use Rattle.elements.specs.rules.Rules.{ruleOf}
 use Rattle.elements.specs.rules.Inside.{start}
 use Rattle.kind.specs.Machine.{stateOf}
 use Rattle.document.specs.rules.Canonical.{nodeFirst, placeValues, layoutAll}
-use Rattle.validate.specs.internal.Walking.{stringsEnd, valuesOf, behindFirst, ChildrenAt}
-use Rattle.validate.proofs.record_lemmas.Decided.{not-held, refused, Same, through, decides-same, none-same}
+use Rattle.validate.specs.internal.DraftWalk.{stringsEnd, nodeValues, behindFirst, ChildrenAt}
+use Rattle.validate.proofs.record_lemmas.Decided.{not-held, decides-none, Same, through, decides-same, none-same}
 use Rattle.validate.proofs.record_lemmas.RecordTests.{word-in}
 use Rattle.validate.proofs.record_lemmas.NodeRecords.{stored-node}
 use Rattle.validate.proofs.draft_lemmas.LawfulNodes.{element-same, element-record}
@@ -112,8 +112,8 @@ children-claims t = (lead-reads.Asked, lead-reads.Learnt, refused-reads.Asked, r
 abbrev children-Inv-loop : children-lts.InvT-loop
 children-Inv-loop nodes pool i kind end levels at left due₀ s₀ j₀ p₀ due s j p =
     (i < j) × (p ≤ length pool) × (due ≡ true → j < end)
-    × Same (ChildrenAt nodes pool (behindFirst due (valuesOf nodes pool kind i)) kind i (stateOf kind s) j p end left)
-    (ChildrenAt nodes pool (placeValues (nodeFirst (ruleOf kind .parameters)) (valuesOf nodes pool kind i)) kind i (start kind) (i + 1) at end left)
+    × Same (ChildrenAt nodes pool (behindFirst due (nodeValues nodes pool kind i)) kind i (stateOf kind s) j p end left)
+    (ChildrenAt nodes pool (placeValues (nodeFirst (ruleOf kind .parameters)) (nodeValues nodes pool kind i)) kind i (start kind) (i + 1) at end left)
 
 abbrev children-μ-loop : children-lts.MeasureT-loop
 children-μ-loop nodes pool i kind end levels at left due₀ s₀ j₀ p₀ due s j p = end - j
@@ -122,7 +122,7 @@ children-lead-requires : (t : ℕ) → children-lts.Need-lead-requires (children
 children-lead-requires t c κs = (c .before .before .pre .1 .0, c .before .before .pre .1 .2)
 
 children-returns : (t : ℕ) → children-lts.Need-returns (children-claims t) (children-at t) children.Post children-Inv-loop children-μ-loop
-children-returns t c = refused (c .refused .ensures) (values-none _ _ _ _ (λ ns e. c .before .before .before .lead .ensures .taken ns e ∙ rw (not-true (c .before .before .before .lead .result .ok) (c .before .if1 .taken))))
+children-returns t c = decides-none (c .refused .ensures) (values-none _ _ _ _ (λ ns e. c .before .before .before .lead .ensures .taken ns e ∙ rw (not-true (c .before .before .before .lead .result .ok) (c .before .if1 .taken))))
 
 children-add-j : (t : ℕ) → children-lts.Need-add-j (children-claims t) (children-at t) children.Post children-Inv-loop children-μ-loop
 children-add-j t c = omega (arith, c .before .before .before .before .before .pre .1 .0)
@@ -135,11 +135,11 @@ children-child-requires t c κs = (omega (arith, c .before .before .before .befo
 
 children-returns-2 : (t : ℕ) → children-lts.Need-returns-2 (children-claims t) (children-at t) children.Post children-Inv-loop children-μ-loop
 children-returns-2 t c =
-    refused (c .refused2 .ensures) (none-same (c .before .before .before .before .before .loop .inv .3) (child-none _ _ _ _ _ _ (behind-child (c .before .before .before .before .before .loop .due) _) (c .before .before .before .child .ensures) (c .before .before .before .before .loop-test .taken) (not-true _ (c .before .if2 .taken))))
+    decides-none (c .refused2 .ensures) (none-same (c .before .before .before .before .before .loop .inv .3) (child-none _ _ _ _ _ _ (behind-child (c .before .before .before .before .before .loop .due) _) (c .before .before .before .child .ensures) (c .before .before .before .before .loop-test .taken) (not-true _ (c .before .if2 .taken))))
 
 children-returns-3 : (t : ℕ) → children-lts.Need-returns-3 (children-claims t) (children-at t) children.Post children-Inv-loop children-μ-loop
 children-returns-3 t c =
-    refused (c .refused3 .ensures) (none-same (c .before .before .before .before .before .before .before .before .before .loop .inv .3)
+    decides-none (c .refused3 .ensures) (none-same (c .before .before .before .before .before .before .before .before .before .loop .inv .3)
     (none-same (child-same _ _ _ _ _ _ (behind-child (c .before .before .before .before .before .before .before .before .before .loop .due) _) (c .before .before .before .before .before .before .before .child .ensures) (c .before .before .before .before .before .before .before .before .loop-test .taken) (not-false _ (c .before .before .before .before .before .if2 .left)))
     (values-none _ _ _ _ (λ ns e. rw (c .before .before .before .before .if3 .taken) (c .before .before .before .values .ensures .taken (layoutAll ns) ∙ rw (not-true (c .before .before .before .values .result .ok) (c .before .if4 .taken)))))))
 
@@ -169,7 +169,7 @@ children-loop-again-2 t c =
     )
 
 children-returns-4 : (t : ℕ) → children-lts.Need-returns-4 (children-claims t) (children-at t) children.Post children-Inv-loop children-μ-loop
-children-returns-4 t c = refused (c .refused4 .ensures) (none-same (c .before .before .before .loop .inv .3) (λ e q. end-passed _ _ _ _ (c .before .before .loop-test .left) (c .before .if5 .taken)))
+children-returns-4 t c = decides-none (c .refused4 .ensures) (none-same (c .before .before .before .loop .inv .3) (λ e q. end-passed _ _ _ _ (c .before .before .loop-test .left) (c .before .if5 .taken)))
 
 children-returns-5 : (t : ℕ) → children-lts.Need-returns-5 (children-claims t) (children-at t) children.Post children-Inv-loop children-μ-loop
 children-returns-5 t c =
@@ -187,7 +187,7 @@ element-stands-requires t c κs = (c .words .ensures .1, c .before .before .befo
 
 element-returns : (t : ℕ) → element-lts.Need-returns (element-claims t) (element-at t) element.Post
 element-returns t c =
-    refused (c .refused .ensures)
+    decides-none (c .refused .ensures)
     (λ e q a. not-held (c .before .before .stands .ensures _ _ (c .before .before .before .words .ensures .0)) (not-true _ (c .before .if1 .taken)) (stored-node (a .made) _ _ _ _ _ (a .stored) (c .before .before .before .before .before .before .pre .1 .1) .recorded))
 
 element-value-levels-requires : (t : ℕ) → element-lts.Need-value-levels-requires (element-claims t) (element-at t) element.Post
@@ -200,7 +200,7 @@ element-returns-2 : (t : ℕ) → element-lts.Need-returns-2 (element-claims t) 
 element-returns-2 t c =
     let r = c .before .before .before .before .before .before .words .ensures .0 in
     let there = c .before .before .before .before .before .stands .ensures _ _ r .sound (not-false _ (c .before .before .before .before .if1 .left)) in
-    refused (c .refused2 .ensures)
+    decides-none (c .refused2 .ensures)
     (λ e q a. not-held (c .before .before .element-fits .ensures _ _ r (c .before .before .before .value-levels .ensures _ _ r)) (not-true _ (c .before .if2 .taken)) (element-record _ _ _ _ _ there _ refl (c .before .before .before .before .before .before .before .before .before .pre .1 .2) a))
 
 element-cast-after : (t : ℕ) → element-lts.Need-cast-after (element-claims t) (element-at t) element.Post
@@ -264,7 +264,7 @@ node-claims t = (refused-reads.Asked, refused-reads.Learnt, words-reads.Asked, w
 
 node-returns : (t : ℕ) → node-lts.Need-returns (node-claims t) (node-at t) node.Post
 node-returns t c =
-    refused (c .refused .ensures) (λ e q a. omega (arith, stored-node (a .made) _ _ _ _ _ (a .stored) (c .before .before .before .before .pre .1) .recorded .whole))
+    decides-none (c .refused .ensures) (λ e q a. omega (arith, stored-node (a .made) _ _ _ _ _ (a .stored) (c .before .before .before .before .pre .1) .recorded .whole))
 
 node-text-node-requires : (t : ℕ) → node-lts.Need-text-node-requires (node-claims t) (node-at t) node.Post
 node-text-node-requires t c κs = (omega arith, c .before .before .before .before .before .before .before .pre .1, sym (word-in _ _ _ 0 (c .before .before .before .words .ensures .0) (omega arith)) ∙ c .if2 .taken)

@@ -6,7 +6,7 @@ use lib.ListN.{getD}
 use borrow.Author.Tests.{not-true, not-false}
 use Rattle.document.specs.reference.Printing.{part}
 use Rattle.table.specs.Stored.{wordAt}
-use Rattle.validate.proofs.record_lemmas.Decided.{not-held, refused}
+use Rattle.validate.proofs.record_lemmas.Decided.{not-held, decides-none}
 use Rattle.validate.proofs.record_lemmas.RecordTests.{word-in}
 use Rattle.validate.proofs.draft_lemmas.LawfulNodes.{text-record, text-valid, text-decides}
 use borrow.Author.Needs.{needs}
@@ -15,14 +15,14 @@ use Rattle.validate.proofs.draft.text_node.Tie as tie
 
 returns : tie.Need-returns
 returns c = λ left.
-    refused (c .refused .ensures)
+    decides-none (c .refused .ensures)
     (λ e q a. not-held (c .before .before .text-alone .ensures _ _ (c .before .before .before .words .ensures .0)) (not-true _ (c .before .if1 .taken)) (text-record _ _ _ _ _ (c .before .before .before .before .before .before .pre .2) (c .before .before .before .before .before .before .pre .1) a .0 .alone))
 
 returns-2 : tie.Need-returns-2
 returns-2 c = λ left.
     let r = c .before .before .before .before .before .before .before .words .ensures .0 in
     let text = c .before .before .string-stands .ensures _ _ 7 (word-in _ _ _ 7 r (omega arith)) (word-in _ _ _ 8 r (omega arith)) in
-    refused (c .refused2 .ensures)
+    decides-none (c .refused2 .ensures)
     (λ e q a. not-held text (not-true _ (c .before .if2 .taken)) (text-record _ _ _ _ _ (c .before .before .before .before .before .before .before .before .before .before .pre .2) (c .before .before .before .before .before .before .before .before .before .before .pre .1) a .0 .text-at))
 
 cast-size : tie.Need-cast-size

@@ -4,13 +4,13 @@ use mathlib.Core.Path.{sym}
 use native.Mathlib.Omega.{arith}
 use borrow.Author.Needs.{needs}
 use Rattle.document.specs.rules.Document.{Nodes}
-use Rattle.validate.specs.internal.Words.{Family}
-use Rattle.validate.proofs.faults_lemmas.Children.{Counted, counted-start, counted-on, counted-end}
+use Rattle.validate.specs.internal.TableWords.{Family}
+use Rattle.validate.proofs.faults_lemmas.Children.{ChildrenCounted, counted-start, counted-on, counted-end}
 use Rattle.validate.proofs.faults.child_count.Statement.{statement}
 use Rattle.validate.proofs.faults.child_count.Tie as tie
 
 abbrev Inv-loop : tie.InvT-loop
-Inv-loop nodes i end at₀ n₀ at n = (n ≤ at) × ((ns : Nodes) → Family nodes i ns → Counted nodes i at end n ns)
+Inv-loop nodes i end at₀ n₀ at n = (n ≤ at) × ((ns : Nodes) → Family nodes i ns → ChildrenCounted nodes i at end n ns)
 
 abbrev μ-loop : tie.MeasureT-loop
 μ-loop nodes i end at₀ n₀ at n = end - at

@@ -5,9 +5,9 @@ use mathlib.Core.Logic.{⊎-elim}
 use native.Mathlib.Omega.{arith}
 use borrow.Author.Needs.{needs}
 use Rattle.document.specs.reference.Check.{First}
-use Rattle.validate.specs.internal.Words.{found, Searched}
+use Rattle.validate.specs.internal.TableWords.{found, Searched}
 use Rattle.validate.proofs.index_lemmas.BlockIds.{kind-read}
-use Rattle.validate.proofs.faults_lemmas.BadRows.{spot-other, search-turn, search-end}
+use Rattle.validate.proofs.faults_lemmas.BadRows.{spot-other, search-step, search-end}
 use Rattle.validate.proofs.faults.first_bad_row.Statement.{statement}
 use Rattle.validate.proofs.faults.first_bad_row.Tie as tie
 
@@ -36,7 +36,7 @@ returns c =
     let loop-test = c .before .before .before .before .loop-test in
     let row-differs = c .before .row-differs in
     λ f s.
-    let t = search-turn (args .nodes .now) (args .count) (loop .i) f (loop-test .taken) (loop .inv f s) in
+    let t = search-step (args .nodes .now) (args .count) (loop .i) f (loop-test .taken) (loop .inv f s) in
     let r = row-differs .ensures (t .test) (t .spot) in
     ap found (sym (t .here (sym r ∙ c .if2 .taken)))
 
@@ -46,7 +46,7 @@ loop-again c =
     let loop = c .before .before .before .loop in
     let loop-test = c .before .before .loop-test in
     λ f s.
-    let t = search-turn (args .nodes .now) (args .count) (loop .i) f (loop-test .taken) (loop .inv f s) in
+    let t = search-step (args .nodes .now) (args .count) (loop .i) f (loop-test .taken) (loop .inv f s) in
     t .on (⊎-elim (λ w. sym (w .1 .ensures (t .test) (t .spot)) ∙ w .2 .left)
     (λ w. sym (spot-other _ _ _ (t .spot) (λ k. w .left (kind-read _ _ ∙ k)))) (c .if1 .came))
 

@@ -8,8 +8,8 @@ use mathlib.Core.Logic.{⊎-elim}
 use native.Mathlib.Omega.{arith}
 use borrow.Author.Needs.{needs}
 use Rattle.document.specs.reference.Check.{repeatedId}
-use Rattle.validate.specs.internal.Words.{entriesFrom, idsBefore, repeatsAt, found}
-use Rattle.validate.specs.internal.Index.{Indexed}
+use Rattle.validate.specs.internal.TableWords.{entriesFrom, idsBefore, repeatsAt, found}
+use Rattle.validate.specs.internal.IdIndex.{Indexed}
 use Rattle.validate.proofs.index_lemmas.BlockIds.{above-id, rest, repeated-here, repeated-on, repeated-end}
 use Rattle.validate.proofs.index_lemmas.SlotChains.{no-id}
 use Rattle.validate.proofs.faults.first_repeated.Statement.{statement}

@@ -4,13 +4,13 @@ use mathlib.Core.Path.{_∙_, sym}
 use native.Mathlib.Omega.{arith}
 use borrow.Author.Needs.{needs}
 use Rattle.document.specs.rules.Document.{Nodes}
-use Rattle.validate.specs.internal.Words.{cellsFound, Family}
-use Rattle.validate.proofs.faults_lemmas.Children.{Sought, sought-start, sought-head, sought-on, sought-end}
+use Rattle.validate.specs.internal.TableWords.{cellsFound, Family}
+use Rattle.validate.proofs.faults_lemmas.Children.{HeadSought, sought-start, sought-head, sought-on, sought-end}
 use Rattle.validate.proofs.faults.head_names.Statement.{statement}
 use Rattle.validate.proofs.faults.head_names.Tie as tie
 
 abbrev Inv-loop : tie.InvT-loop
-Inv-loop nodes t end at₀ at = (ns : Nodes) → Family nodes t ns → Sought nodes t at end ns
+Inv-loop nodes t end at₀ at = (ns : Nodes) → Family nodes t ns → HeadSought nodes t at end ns
 
 abbrev μ-loop : tie.MeasureT-loop
 μ-loop nodes t end at₀ at = end - at

@@ -4,8 +4,8 @@ use mathlib.Core.Bool.{true, false, true≢false}
 use borrow.Author.Needs.{needs}
 use borrow.Author.Tests.{not-true, not-false}
 use Rattle.document.specs.reference.Check.{hasId}
-use Rattle.validate.specs.internal.Words.{keyAt, entryAt}
-use Rattle.validate.specs.internal.Index.{slotOf}
+use Rattle.validate.specs.internal.TableWords.{keyAt, entryOfNode}
+use Rattle.validate.specs.internal.IdIndex.{slotOf}
 use Rattle.validate.proofs.index_lemmas.BlockIds.{any-block}
 use Rattle.validate.proofs.index_lemmas.SlotChains.{slot-below, no-id, entered}
 use Rattle.validate.proofs.faults.repeats.Statement.{statement}
@@ -16,7 +16,7 @@ returns c =
     let args = c .before .before .before .before .args in
     let pre = c .before .before .before .before .pre in
     let has-id = c .before .has-id in
-    let h : hasId (entryAt (args .nodes .now) (args .pool .now) (args .i)) ≡ false =
+    let h : hasId (entryOfNode (args .nodes .now) (args .pool .now) (args .i)) ≡ false =
     sym (any-block (args .nodes .now) (args .pool .now) (args .i)) ∙ (sym (has-id .ensures) ∙ not-true _ (c .if1 .taken)) in
     (rw h, λ e. no-id _ _ _ _ _ (pre .1) (pre .0) h)
 
@@ -27,7 +27,7 @@ returns-2 c =
     let if1 = c .before .before .before .before .before .before .if1 in
     let string = c .before .before .before .before .before .string in
     let known = c .before .known in
-    let h : hasId (entryAt (args .nodes .now) (args .pool .now) (args .i)) ≡ true =
+    let h : hasId (entryOfNode (args .nodes .now) (args .pool .now) (args .i)) ≡ true =
     sym (any-block (args .nodes .now) (args .pool .now) (args .i)) ∙ (sym (has-id .ensures) ∙ not-false _ (if1 .left)) in
     (rw (h, ← string .ensures) (sym (c .if2 .taken) ∙ known .ensures), λ e. absurd (true≢false e))
 
@@ -47,7 +47,7 @@ returns-3 c =
     let slot = c .before .before .before .before .before .before .before .slot in
     let known = c .before .before .before .before .known in
     let if2 = c .before .before .before .if2 in
-    let h : hasId (entryAt (args .nodes .now) (args .pool .now) (args .i)) ≡ true =
+    let h : hasId (entryOfNode (args .nodes .now) (args .pool .now) (args .i)) ≡ true =
     sym (any-block (args .nodes .now) (args .pool .now) (args .i)) ∙ (sym (has-id .ensures) ∙ not-false _ (if1 .left)) in (
       rw (h, ← string .ensures) (sym (if2 .left) ∙ known .ensures),
       λ e.

@@ -6,14 +6,14 @@ use native.Mathlib.Omega.{arith}
 use borrow.Author.Needs.{needs}
 use Rattle.elements.specs.rules.Bytes.{same}
 use Rattle.document.specs.reference.Check.{isAmong}
-use Rattle.validate.specs.internal.Words.{idsBefore}
+use Rattle.validate.specs.internal.TableWords.{idsBefore}
 use Rattle.validate.proofs.index_lemmas.BlockIds.{known-here, known-other, known-none, known-end}
-use Rattle.validate.proofs.index_lemmas.SlotChains.{slot-below, Left, left-first, left-next, next-below}
+use Rattle.validate.proofs.index_lemmas.SlotChains.{slot-below, LeftInSlot, left-first, left-next, next-below}
 use Rattle.validate.proofs.index.known.Statement.{statement}
 use Rattle.validate.proofs.index.known.Tie as tie
 
 abbrev Inv-loop : tie.InvT-loop
-Inv-loop nodes count pool heads nexts s only id j₀ j = Left nodes pool only id count j
+Inv-loop nodes count pool heads nexts s only id j₀ j = LeftInSlot nodes pool only id count j
 
 abbrev μ-loop : tie.MeasureT-loop
 μ-loop nodes count pool heads nexts s only id j₀ j = j

@@ -4,7 +4,7 @@ use mathlib.Core.Path.{_≡_, _∙_, refl, sym, ap}
 use native.Mathlib.Nat.{mod-lt}
 use native.Mathlib.Omega.{arith}
 use lib.ListN.{length, drop}
-use Rattle.validate.specs.internal.Index.{mixed, slotOf}
+use Rattle.validate.specs.internal.IdIndex.{mixed, slotOf}
 use Rattle.validate.proofs.index_lemmas.SlotChains.{mixed-on, mixed-end}
 use Rattle.validate.proofs.index.slot.Statement.{statement}
 use Rattle.validate.proofs.index.slot.Tie as tie

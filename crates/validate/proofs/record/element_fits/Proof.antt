@@ -6,7 +6,7 @@ use lib.Dec.{ltb}
 use borrow.Author.Tests.{ltb-true, ltb-false}
 use Rattle.base.specs.rules.Limits.{missing}
 use Rattle.table.specs.Stored.{wordAt}
-use Rattle.validate.proofs.record_lemmas.Decided.{decided, denied}
+use Rattle.validate.proofs.record_lemmas.Decided.{decided-by, denied}
 use Rattle.validate.proofs.record_lemmas.RecordTests.{word-in}
 use borrow.Author.Needs.{needs}
 use Rattle.validate.proofs.record.element_fits.Statement.{statement}
@@ -29,7 +29,7 @@ returns-5 c =
     let levels = c .before .before .before .before .before .before .before .before .args .levels in
     let left = c .before .before .before .before .before .before .before .before .args .left in
     λ words i e l.
-    decided (ltb levels left)
+    decided-by (ltb levels left)
     (λ t. record {
       kind-low = omega (arith, word-in words _ i 0 e (omega arith));
       kind-high = omega (arith, word-in words _ i 0 e (omega arith));

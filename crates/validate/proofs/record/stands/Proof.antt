@@ -4,7 +4,7 @@ use mathlib.Core.Path.{refl, sym, _∙_}
 use borrow.Author.Tests.{not-true, not-false}
 use Rattle.table.specs.Stored.{wordAt}
 use Rattle.table.proofs.Stored.{recorded-within}
-use Rattle.validate.proofs.record_lemmas.Decided.{decided, denied, not-held}
+use Rattle.validate.proofs.record_lemmas.Decided.{decided-by, denied, not-held}
 use Rattle.validate.proofs.record_lemmas.RecordTests.{word-in}
 use borrow.Author.Needs.{needs}
 use Rattle.validate.proofs.record.stands.Statement.{statement}
@@ -51,7 +51,7 @@ returns-4 c = λ words i e.
     let key = c .before .before .before .before .before .before .before .before .before .before .string-stands .ensures words i 3 (word-in words _ i 3 e (omega arith)) key-length in
     let type = c .before .before .before .before .before .string-stands2 .ensures words i 5 (word-in words _ i 5 e (omega arith)) type-length in
     let text = c .string-stands3 .ensures words i 7 (word-in words _ i 7 e (omega arith)) (word-in words _ i 8 e (omega arith)) in
-    decided (c .string-stands3 .result)
+    decided-by (c .string-stands3 .result)
     (λ b. record {
       whole = recorded-within words _ i e (c .before .before .before .before .before .before .before .before .before .before .before .before .before .before .before .before .pre .0);
       under = sym (word-in words _ i 1 e (omega arith)) ∙ c .before .before .before .before .before .before .before .before .before .before .before .before .before .if1 .left;

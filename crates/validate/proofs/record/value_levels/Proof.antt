@@ -3,7 +3,7 @@ use native.Mathlib.Omega.{arith}
 use borrow.Author.Tests.{eq-eqb, ne-eqb}
 use Rattle.base.proofs.Booleans.{and-false}
 use Rattle.table.proofs.Stored.{recorded-word}
-use Rattle.validate.specs.internal.Walking.{valueLevels}
+use Rattle.validate.specs.internal.DraftWalk.{valueLevels}
 use borrow.Author.Needs.{needs}
 use Rattle.validate.proofs.record.value_levels.Statement.{statement}
 use Rattle.validate.proofs.record.value_levels.Tie as tie

@@ -8,8 +8,8 @@ use lib.ListN.{length}
 use Rattle.document.specs.rules.Canonical.{keyClass}
 use Rattle.elements.specs.rules.Class.{isBlock}
 use Rattle.table.specs.Stored.{stringAt}
-use Rattle.validate.specs.internal.Walking.{valuesOf}
-use Rattle.validate.proofs.record_lemmas.NodeRecords.{no-string}
+use Rattle.validate.specs.internal.DraftWalk.{nodeValues}
+use Rattle.validate.proofs.record_lemmas.NodeRecords.{missing-string}
 use Rattle.validate.proofs.record_lemmas.RecordTests.{word-in}
 use Rattle.validate.proofs.values_lemmas.ValueSteps.{value-missing, takes-then, takes-not}
 use borrow.Author.Needs.{needs}
@@ -27,7 +27,7 @@ unfolding keyClass
 take-value-requires c κs = rw (c .key-class .ensures) (cond-case (λ (n : ℕ). (26 ≤ n) × (n ≤ 28)) (isBlock (c .before .before .before .before .before .before .before .args .kind)) (λ e. omega arith) (λ e. omega arith))
 
 returns : tie.Need-returns
-unfolding valuesOf stringAt
+unfolding nodeValues stringAt
 returns c =
     let r = c .before .before .before .before .before .before .before .words .ensures .0 in
     let key = rw (c .before .before .before .key-class .ensures, c .before .before .before .before .part .ensures, word-in _ _ _ 3 r (omega arith), word-in _ _ _ 4 r (omega arith)) at (c .before .before .take-value .ensures) in
@@ -40,7 +40,7 @@ cast-take-size-2 : tie.Need-cast-take-size-2
 cast-take-size-2 c = omega (arith, c .shared-slice-known6 .given 10)
 
 returns-2 : tie.Need-returns-2
-unfolding valuesOf stringAt
+unfolding nodeValues stringAt
 returns-2 c =
     let r = c .before .before .before .before .before .before .before .before .before .before .before .before .words .ensures .0 in
     let key = rw (c .before .before .before .before .before .before .before .before .key-class .ensures, c .before .before .before .before .before .before .before .before .before .part .ensures, word-in _ _ _ 3 r (omega arith), word-in _ _ _ 4 r (omega arith)) at (c .before .before .before .before .before .before .before .take-value .ensures) in
@@ -48,12 +48,12 @@ returns-2 c =
     takes-then key (not-false _ (c .before .before .before .before .before .if1 .left)) (takes-not size (not-true _ (c .if2 .taken)))
 
 returns-3 : tie.Need-returns-3
-unfolding valuesOf stringAt
+unfolding nodeValues stringAt
 returns-3 c =
     let r = c .before .before .before .before .before .before .before .before .before .before .before .before .before .before .words .ensures .0 in
     let key = rw (c .before .before .before .before .before .before .before .before .before .before .key-class .ensures, c .before .before .before .before .before .before .before .before .before .before .before .part .ensures, word-in _ _ _ 3 r (omega arith), word-in _ _ _ 4 r (omega arith)) at (c .before .before .before .before .before .before .before .before .before .take-value .ensures) in
     let size = rw (word-in _ _ _ 9 r (omega arith), word-in _ _ _ 10 r (omega arith)) at (c .before .before .before .before .take-size .ensures) in
-    let none = no-string (c .before .before .before .before .before .before .before .before .before .before .before .before .before .before .before .before .before .args .nodes .now) (c .before .before .before .before .before .before .before .before .before .before .before .before .before .before .before .before .before .args .pool .now) (c .before .before .before .before .before .before .before .before .before .before .before .before .before .before .before .before .before .args .i) 5 (sym (word-in _ _ _ 6 r (omega arith)) ∙ c .if3 .taken) in
+    let none = missing-string (c .before .before .before .before .before .before .before .before .before .before .before .before .before .before .before .before .before .args .nodes .now) (c .before .before .before .before .before .before .before .before .before .before .before .before .before .before .before .before .before .args .pool .now) (c .before .before .before .before .before .before .before .before .before .before .before .before .before .before .before .before .before .args .i) 5 (sym (word-in _ _ _ 6 r (omega arith)) ∙ c .if3 .taken) in
     rw (not-false (c .before .before .before .before .take-size .result .ok) (c .before .before .if2 .left))
     (takes-then key (not-false _ (c .before .before .before .before .before .before .before .if1 .left)) (takes-then size (not-false _ (c .before .before .if2 .left)) (value-missing _ _ _ _ (ap length none))))
 
@@ -64,7 +64,7 @@ cast-part-4 : tie.Need-cast-part-4
 cast-part-4 c = omega (arith, c .shared-slice-known9 .given 6)
 
 returns-4 : tie.Need-returns-4
-unfolding valuesOf stringAt
+unfolding nodeValues stringAt
 returns-4 c =
     let r = c .before .before .before .before .before .before .before .before .before .before .before .before .before .before .before .before .before .before .words .ensures .0 in
     let key = rw (c .before .before .before .before .before .before .before .before .before .before .before .before .before .before .key-class .ensures, c .before .before .before .before .before .before .before .before .before .before .before .before .before .before .before .part .ensures, word-in _ _ _ 3 r (omega arith), word-in _ _ _ 4 r (omega arith)) at (c .before .before .before .before .before .before .before .before .before .before .before .before .before .take-value .ensures) in

@@ -7,7 +7,7 @@ use lib.Dec.{eqb}
 use lib.ListN.{length, getD}
 use Rattle.base.specs.rules.Limits.{mostNodes}
 use Rattle.document.specs.reference.Check.{hasId}
-use Rattle.validate.specs.internal.Words.{keyAt, entryAt}
+use Rattle.validate.specs.internal.TableWords.{keyAt, entryOfNode}
 
 -- The hash h after these bytes.
 unfoldable pub mixed : ℕ → List ℕ → ℕ
@@ -22,7 +22,7 @@ slotOf id = mixed 5381 id % mostNodes
 unfoldable pub lastIn : List ℕ → List ℕ → ℕ → ℕ → ℕ
 lastIn words bytes s zero = zero
 lastIn words bytes s (suc n) =
-    cond (hasId (entryAt words bytes n) && eqb (slotOf (keyAt words bytes n)) s) (suc n) (lastIn words bytes s n)
+    cond (hasId (entryOfNode words bytes n) && eqb (slotOf (keyAt words bytes n)) s) (suc n) (lastIn words bytes s n)
 
 -- The first n nodes have entered: heads has the last node of each slot, and nexts the one before each in its slot.
 pub record Indexed (words bytes : List ℕ) (n : ℕ) (heads nexts : List ℕ) : Type 0 where
@@ -30,5 +30,5 @@ pub record Indexed (words bytes : List ℕ) (n : ℕ) (heads nexts : List ℕ) :
   pub heads-length : length heads ≡ mostNodes
   pub nexts-length : length nexts ≡ mostNodes
   pub last-in : (s : ℕ) → s < mostNodes → getD heads s 0 ≡ lastIn words bytes s n
-  pub before-in : (k : ℕ) → k < n → hasId (entryAt words bytes k) ≡ true
+  pub before-in : (k : ℕ) → k < n → hasId (entryOfNode words bytes k) ≡ true
       → getD nexts k 0 ≡ lastIn words bytes (slotOf (keyAt words bytes k)) k

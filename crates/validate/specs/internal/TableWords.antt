@@ -18,13 +18,13 @@ use Rattle.validate.specs.declared.faults.Found.the-variants.{At, Nothin
 abbrev pub keyAt : List ℕ → List ℕ → ℕ → List ℕ
 keyAt words bytes i = stringAt words bytes i Word.key-offset
 
-abbrev pub entryAt : List ℕ → List ℕ → ℕ → Entry
-entryAt words bytes i = record { number = i; kind = wordAt words i Word.kind; key = keyAt words bytes i }
+abbrev pub entryOfNode : List ℕ → List ℕ → ℕ → Entry
+entryOfNode words bytes i = record { number = i; kind = wordAt words i Word.kind; key = keyAt words bytes i }
 
 -- The n entries from node i on.
 unfoldable pub entriesFrom : List ℕ → List ℕ → ℕ → ℕ → List Entry
 entriesFrom words bytes zero i = []
-entriesFrom words bytes (suc n) i = entryAt words bytes i ∷ entriesFrom words bytes n (suc i)
+entriesFrom words bytes (suc n) i = entryOfNode words bytes i ∷ entriesFrom words bytes n (suc i)
 
 -- A kind, or 0 for that of any block.
 abbrev pub wanted : ℕ → ℕ → Bool
@@ -34,12 +34,12 @@ wanted only k = cond (eqb only 0) (Class.isBlock k) (eqb only k)
 unfoldable pub idsBefore : List ℕ → List ℕ → ℕ → ℕ → List (List ℕ)
 idsBefore words bytes only zero = []
 idsBefore words bytes only (suc n) =
-    cond (wanted only (wordAt words n Word.kind) && hasId (entryAt words bytes n)) (keyAt words bytes n ∷ idsBefore words bytes only n)
+    cond (wanted only (wordAt words n Word.kind) && hasId (entryOfNode words bytes n)) (keyAt words bytes n ∷ idsBefore words bytes only n)
     (idsBefore words bytes only n)
 
 -- Node i is a block whose id is on an earlier block.
 abbrev pub repeatsAt : List ℕ → List ℕ → ℕ → Bool
-repeatsAt words bytes i = hasId (entryAt words bytes i) && isAmong (keyAt words bytes i) (idsBefore words bytes 0 i)
+repeatsAt words bytes i = hasId (entryOfNode words bytes i) && isAmong (keyAt words bytes i) (idsBefore words bytes 0 i)
 
 -- Node i is of kind k, and its target none of these ids.
 abbrev pub danglesAt : List ℕ → List ℕ → ℕ → List (List ℕ) → ℕ → Bool

@@ -24,7 +24,7 @@ pub record Decided (P : Type 0) (answer : Bool) : Type 0 where
   pub complete : P → answer ≡ true
 
 -- An answer tells whether something holds of the next node number and the next place in the pool, and of which.
-pub record Decides (P : ℕ → ℕ → Type 0) (ok : Bool) (next pool : ℕ) : Type 0 where
+pub record DecidesNext (P : ℕ → ℕ → Type 0) (ok : Bool) (next pool : ℕ) : Type 0 where
   pub sound : ok ≡ true → P next pool
   pub complete : (e q : ℕ) → P e q → (ok ≡ true) × (next ≡ e) × (pool ≡ q)
 
@@ -33,7 +33,7 @@ unfoldable pub offsetOf : ℕ → ℕ → ℕ
 offsetOf p n = cond (eqb n 0) 0 p
 
 -- Words j and j + 1 name a string that stands at p, within a pool of that size.
-pub record StringAt (words : List ℕ) (i j p size : ℕ) : Type 0 where
+pub record NamesStringAt (words : List ℕ) (i j p size : ℕ) : Type 0 where
   pub offset : wordAt words i j ≡ offsetOf p (wordAt words i (j + 1))
   pub within : p + wordAt words i (j + 1) ≤ size
 
@@ -45,9 +45,9 @@ stringsEnd words i p = p + wordAt words i Word.key-length + wordAt words i Word.
 pub record RecordAt (words : List ℕ) (size i parent p : ℕ) : Type 0 where
   pub whole : recordLength * i + recordLength ≤ length words
   pub under : wordAt words i Word.parent ≡ parent
-  pub key-at : StringAt words i Word.key-offset p size
-  pub type-at : StringAt words i Word.type-offset (p + wordAt words i Word.key-length) size
-  pub text-at : StringAt words i Word.text-offset (p + wordAt words i Word.key-length + wordAt words i Word.type-length) size
+  pub key-at : NamesStringAt words i Word.key-offset p size
+  pub type-at : NamesStringAt words i Word.type-offset (p + wordAt words i Word.key-length) size
+  pub text-at : NamesStringAt words i Word.text-offset (p + wordAt words i Word.key-length + wordAt words i Word.type-length) size
 
 -- A record has this parent and end, a text, and no other string and no size.
 pub record TextAlone (words : List ℕ) (i parent end : ℕ) : Type 0 where
@@ -74,14 +74,14 @@ pub record ElementAt (words : List ℕ) (i left : ℕ) : Type 0 where
   pub levels : valueLevels words i < left
 
 -- The values of node i, of kind k, in canonical order before the trees.
-unfoldable pub valuesOf : List ℕ → List ℕ → ℕ → ℕ → Trees → Trees
-valuesOf words bytes k i ts =
+unfoldable pub nodeValues : List ℕ → List ℕ → ℕ → ℕ → Trees → Trees
+nodeValues words bytes k i ts =
     valueBefore (keyClass k) (stringAt words bytes i Word.key-offset)
     (sizeBefore (wordAt words i Word.width) (wordAt words i Word.height)
     (valueBefore Class.type (stringAt words bytes i Word.type-offset) ts))
 
 -- What W puts before the trees inside an element of kind k is taken, if ok, and leads from one state to the other.
-pub record Takes (k : ℕ) (W : Trees → Trees) (state : ℕ) (ok : Bool) (state′ : ℕ) : Type 0 where
+pub record TakesValues (k : ℕ) (W : Trees → Trees) (state : ℕ) (ok : Bool) (state′ : ℕ) : Type 0 where
   pub taken : (ts : Trees) → keepRules k (stateOf k state) (W ts) ≡ ok && keepRules k (stateOf k state′) ts
 
 -- Where W is due, it goes behind the first of the trees; where not, it was put before.
@@ -89,23 +89,23 @@ abbrev pub behindFirst : Bool → (Trees → Trees) → Trees → Trees
 behindFirst due W ts = cond due (placeValues true W ts) ts
 
 -- The values of node i, whose children end at `end`, are taken before the children, if ok, and lead to the state, or are due behind the first child, which is there.
-pub record Leads (words bytes : List ℕ) (k i end : ℕ) (ok due : Bool) (state : ℕ) : Type 0 where
+pub record ValuesLead (words bytes : List ℕ) (k i end : ℕ) (ok due : Bool) (state : ℕ) : Type 0 where
   pub taken : (ns : Nodes) → end ≡ i + 1 + countAll ns
-      → keepRules k (start k) (placeValues (nodeFirst (ruleOf k .parameters)) (valuesOf words bytes k i) (layoutAll ns))
-      ≡ ok && keepRules k (stateOf k state) (behindFirst due (valuesOf words bytes k i) (layoutAll ns))
+      → keepRules k (start k) (placeValues (nodeFirst (ruleOf k .parameters)) (nodeValues words bytes k i) (layoutAll ns))
+      ≡ ok && keepRules k (stateOf k state) (behindFirst due (nodeValues words bytes k i) (layoutAll ns))
   pub before-child : due ≡ true → i + 1 < end
 
 -- A node keeps the rules, its layout says it, and nests at most `left` levels.
-pub record Lawful (left : ℕ) (n : Node) : Type 0 where
+pub record LawfulWithin (left : ℕ) (n : Node) : Type 0 where
   pub keeps : T (keepsRules 0 (layout n))
   pub said : says (layout n) ≡ n
   pub levels : treeLevels (layout n) ≤ left
 
 -- A lawful node stands in the table with number i and in the pool from p on; the number e and the place q follow it.
-pub record NodeAt (words bytes : List ℕ) (i parent p left e q : ℕ) : Type 0 where
+pub record LawfulNodeAt (words bytes : List ℕ) (i parent p left e q : ℕ) : Type 0 where
   pub made : Node
   pub stored : Stored words bytes i parent p made
-  pub lawful : Lawful left made
+  pub lawful : LawfulWithin left made
   pub next : e ≡ i + count made
   pub after : q ≡ p + length (pool made)
 
@@ -117,12 +117,12 @@ pub record ChildrenAt (words bytes : List ℕ) (W : Trees → Trees) (k i : ℕ)
   pub keep : T (keepRules k s (W (layoutAll made)))
   pub said : sayAll (layoutAll made) ≡ made
   pub levels : mostLevelsIn (layoutAll made) ≤ left
-  pub counted : end ≡ at + countAll made
+  pub end-is : end ≡ at + countAll made
   pub next : e ≡ end
   pub after : q ≡ p + length (poolAll made)
 
 -- An answer tells whether a lawful child of node i stands in the table with number `at` and is taken, and what follows it.
 pub record ChildTaken (words bytes : List ℕ) (k i : ℕ) (s : State) (at p left : ℕ) (ok : Bool) (next pool state : ℕ) : Type 0 where
-  pub sound : ok ≡ true → NodeAt words bytes at i p left next pool × (step k s (wordAt words at Word.kind) ≡ go (stateOf k state))
-  pub complete : (e q : ℕ) (s′ : State) → NodeAt words bytes at i p left e q → step k s (wordAt words at Word.kind) ≡ go s′
+  pub sound : ok ≡ true → LawfulNodeAt words bytes at i p left next pool × (step k s (wordAt words at Word.kind) ≡ go (stateOf k state))
+  pub complete : (e q : ℕ) (s′ : State) → LawfulNodeAt words bytes at i p left e q → step k s (wordAt words at Word.kind) ≡ go s′
       → (ok ≡ true) × (next ≡ e) × (pool ≡ q)
