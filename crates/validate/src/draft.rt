@@ -181,7 +181,8 @@ fn children(
     left: usize,
 ) -> Walked
     requires { ⌜ (recordLength * i + recordLength ≤ length (now nodes)) × (at ≤ length (now pool)) × (levels ≡ valueLevels (now nodes) i) ⌝ }
-    ensures { λ r. ⌜ DecidesNext (ChildrenAt (now (nodes .entry)) (now (pool .entry)) (placeValues (nodeFirst (ruleOf kind .parameters)) (nodeValues (now (nodes .entry)) (now (pool .entry)) kind i))
+    ensures { λ r. ⌜ DecidesNext (ChildrenAt (now (nodes .entry)) (now (pool .entry))
+        (placeValues (nodeFirst (ruleOf kind .parameters)) (nodeValues (now (nodes .entry)) (now (pool .entry)) kind i))
         kind i (start kind) (i + 1) at end left) (r .ok) (r .next) (r .pool) ⌝ }
 {
     let led = lead(nodes, pool, i, kind, end, levels);

@@ -14,4 +14,5 @@ returns-2 c = rw (c .before .before .word .ensures, c .before .word2 .ensures) a
 
 pub string-spec : {M : Type 1} → statement M
 string-spec =
-    tie.close (tie.spec (λ c. search needs) (λ c. search needs) (λ c. search needs) returns (λ c κs. search needs) (λ c. search needs) (λ c κs. search needs) (λ c κs. search needs) returns-2)
+    tie.close (tie.spec (λ c. search needs) (λ c. search needs) (λ c. search needs) returns (λ c κs. search needs) (λ c. search needs)
+    (λ c κs. search needs) (λ c κs. search needs) returns-2)

@@ -25,19 +25,29 @@ returns-3 c = no-table-answered _ _ _ _ (λ hn hm d x. no-both _ (c .if3 .taken)
 
 check-table-requires : tie.Need-check-table-requires
 check-table-requires c κs =
+    let if1 = c .before .before .before .before .before .if1 in
+    let if2 = c .before .before .before .before .if2 in
     let (d, x) = c .before .is-draft .ensures .0 (not-false _ (c .if3 .left)) in
-    let hn = c .before .before .before .before .before .if1 .left in
-    (few-nodes _ _ _ _ hn (c .before .before .before .before .if2 .left) d x, rw length-take-le (omega arith))
+    let hn = if1 .left in
+    (few-nodes _ _ _ _ hn (if2 .left) d x, rw length-take-le (omega arith))
 
 cast-t15 : tie.Need-cast-t15
 cast-t15 c =
-    let (d, x) = c .before .before .before .is-draft .ensures .0 (not-false _ (c .before .before .if3 .left)) in
-    omega (arith, node-fits _ _ _ _ (c .before .before .before .before .before .before .before .if1 .left) (c .before .before .before .before .before .before .if2 .left) d x _ _ (c .before .check-table .ensures) (omega arith))
+    let if1 = c .before .before .before .before .before .before .before .if1 in
+    let if2 = c .before .before .before .before .before .before .if2 in
+    let is-draft = c .before .before .before .is-draft in
+    let if3 = c .before .before .if3 in
+    let (d, x) = is-draft .ensures .0 (not-false _ (if3 .left)) in
+    omega (arith, node-fits _ _ _ _ (if1 .left) (if2 .left) d x _ _ (c .before .check-table .ensures) (omega arith))
 
 returns-4 : tie.Need-returns-4
 returns-4 c =
-    let (d, x) = c .before .before .before .is-draft .ensures .0 (not-false _ (c .before .before .if3 .left)) in
-    answered _ _ _ _ (c .before .before .before .before .before .before .before .if1 .left) (c .before .before .before .before .before .before .if2 .left) d x _ _ (c .before .check-table .ensures)
+    let if1 = c .before .before .before .before .before .before .before .if1 in
+    let if2 = c .before .before .before .before .before .before .if2 in
+    let is-draft = c .before .before .before .is-draft in
+    let if3 = c .before .before .if3 in
+    let (d, x) = is-draft .ensures .0 (not-false _ (if3 .left)) in
+    answered _ _ _ _ (if1 .left) (if2 .left) d x _ _ (c .before .check-table .ensures)
 
 pub check-spec : {M : Type 1} → statement M
 check-spec =

@@ -21,7 +21,8 @@ use Rattle.document.specs.rules.Table.{count, pool}
 use Rattle.document.specs.rules.Canonical.{nodeFirst, placeValues, layout, layoutAll, treeLevels, mostLevelsIn}
 use Rattle.table.specs.Stored.{wordAt, StoredAll}
 use Rattle.table.specs.Stored.{stringAt}
-use Rattle.validate.specs.internal.DraftWalk.{Decided, DecidesNext, offsetOf, NamesStringAt, stringsEnd, RecordAt, TextAlone, ElementAt, valueLevels, nodeValues, LawfulWithin, LawfulNodeAt, ChildrenAt}
+use Rattle.validate.specs.internal.DraftWalk.{Decided, DecidesNext, offsetOf, NamesStringAt, stringsEnd, RecordAt, TextAlone}
+use Rattle.validate.specs.internal.DraftWalk.{ElementAt, valueLevels, nodeValues, LawfulWithin, LawfulNodeAt, ChildrenAt}
 use Rattle.validate.proofs.record_lemmas.Decided.{decided-by, Same}
 use Rattle.validate.proofs.record_lemmas.NodeRecords.{nodeOf, missing-string, string-named, stored-node, node-stored, node-pool}
 use Rattle.validate.proofs.record_lemmas.RecordTests.{text-bytes, bytes-text}
@@ -48,7 +49,8 @@ pub record TextAt (words bytes : List ℕ) (i parent p : ℕ) : Type 0 where
 
 module _ (words bytes : List ℕ) (i parent p : ℕ) where
   -- A text that stands there is valid where its bytes are.
-  pub text-valid : TextAlone words i parent (i + 1) → NamesStringAt words i 7 p (length bytes) → {n : ℕ} → n ≡ validUpTo (part bytes p (wordAt words i 8))
+  pub text-valid : TextAlone words i parent (i + 1) → NamesStringAt words i 7 p (length bytes) → {n : ℕ} → n ≡ validUpTo
+      (part bytes p (wordAt words i 8))
       → Decided (TextAt words bytes i parent p) (eqb n (wordAt words i 8))
   text-valid a s e =
       let t = string-named words bytes i 7 p s in
@@ -84,7 +86,14 @@ module _ (words bytes : List ℕ) (i parent p : ℕ) where
         let a = t .alone in
         record {
           keeps = rw l (t .valid);
-          said = rw l (cc (of-kind, missing-string words bytes i 3 (a .no-key), missing-string words bytes i 5 (a .no-type), a .no-width, a .no-height));
+          said = rw l (cc (
+            of-kind,
+            missing-string words bytes i 3 (a .no-key),
+            missing-string words bytes i 5
+                (a .no-type),
+            a .no-width,
+            a .no-height,
+          ));
           levels = rw l (omega arith);
         }
 
@@ -174,16 +183,19 @@ module _ (words bytes : List ℕ) (i parent p : ℕ) (r : RecordAt words (length
 
     inner-says : (ns : Nodes)
         → says (element k (inner k ns))
-        ≡ node k (stringAt words bytes i 3) (stringAt words bytes i 5) [] (wordAt words i 9) (cond (eqb (wordAt words i 9) missing) missing (wordAt words i 10)) (sayAll (layoutAll ns))
+        ≡ node k (stringAt words bytes i 3) (stringAt words bytes i 5) [] (wordAt words i 9)
+        (cond (eqb (wordAt words i 9) missing) missing (wordAt words i 10)) (sayAll (layoutAll ns))
     unfolding says nodeValues
     inner-says ns =
-        let s = inside-say k (stringAt words bytes i 3) (stringAt words bytes i 5) (wordAt words i 9) (wordAt words i 10) (nodeFirst (ruleOf k .parameters)) ns in
+        let s = inside-say k (stringAt words bytes i 3) (stringAt words bytes i 5) (wordAt words i 9) (wordAt words i 10)
+        (nodeFirst (ruleOf k .parameters)) ns in
         cc (s .key-is, s .type-is, s .width-is, s .height-is, s .said)
 
     inner-levels : (ns : Nodes) → mostLevelsIn (inner k ns) ≡ max (valueLevels words i) (mostLevelsIn (layoutAll ns))
     unfolding nodeValues
     inner-levels ns =
-        inside-say k (stringAt words bytes i 3) (stringAt words bytes i 5) (wordAt words i 9) (wordAt words i 10) (nodeFirst (ruleOf k .parameters)) ns .levels-are
+        inside-say k (stringAt words bytes i 3) (stringAt words bytes i 5) (wordAt words i 9) (wordAt words i 10)
+        (nodeFirst (ruleOf k .parameters)) ns .levels-are
         ∙ rw levels-words
 
     -- Lawful as an element.
@@ -221,16 +233,19 @@ module _ (words bytes : List ℕ) (i parent p : ℕ) (r : RecordAt words (length
     from-inside left ns a =
         let l = layout-element ns in
         let height : cond (eqb (wordAt words i 9) missing) missing (wordAt words i 10) ≡ wordAt words i 10
-        = cond-case (λ (n : ℕ). n ≡ wordAt words i 10) (eqb (wordAt words i 9) missing) (λ e. sym (a .record-fits .sized (eqb-true _ _ e))) (λ e. refl) in
+        = cond-case (λ (n : ℕ). n ≡ wordAt words i 10) (eqb (wordAt words i 9) missing) (λ e. sym (a .record-fits .sized (eqb-true _ _ e)))
+        (λ e. refl) in
         record {
-          keeps = rw l (both-true (Class.isElement k) (keepRules k (start k) (inner k ns)) (range-element k no-text (rw of-kind at (a .record-fits .kind-low)) (rw of-kind at (a .record-fits .kind-high))) (a .keep));
+          keeps = rw l (both-true (Class.isElement k) (keepRules k (start k) (inner k ns))
+              (range-element k no-text (rw of-kind at (a .record-fits .kind-low)) (rw of-kind at (a .record-fits .kind-high))) (a .keep));
           said = rw l (inner-says ns ∙ cc (of-kind, missing-string words bytes i 7 (a .record-fits .no-text), height, a .said));
           levels = rw l (omega (arith, inner-levels ns, a .record-fits .levels, a .levels));
         }
 
     -- The element stands in the table where its children and values do.
     pub element-same : {left : ℕ} → ElementAt words i left
-        → Same (ChildrenAt words bytes (placeValues (nodeFirst (ruleOf k .parameters)) (nodeValues words bytes k i)) k i (start k) (i + 1) (stringsEnd words i p) (wordAt words i 2) (left - 1))
+        → Same (ChildrenAt words bytes (placeValues (nodeFirst (ruleOf k .parameters)) (nodeValues words bytes k i)) k i (start k) (i + 1)
+        (stringsEnd words i p) (wordAt words i 2) (left - 1))
         (LawfulNodeAt words bytes i parent p left)
     unfolding count nodeOf pool
     element-same {left} f =

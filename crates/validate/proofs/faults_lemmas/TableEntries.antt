@@ -19,7 +19,8 @@ use Rattle.document.specs.reference.RulesTest.{keepsRules, isDocument}
 use Rattle.document.specs.rules.Value.{nonEmpty, isValue}
 use Rattle.document.specs.rules.Record.{recordLength}
 use Rattle.document.specs.rules.Table.{count, countAll, pool, offset, tableOf}
-use Rattle.document.specs.reference.Check.{First, at-node, orElse, Cells, any-number, cellsBelow, differs, badRow, badRowAmong, Entry, entries, isAmong, idsWhere, unknownTarget, unknownLink, unknownFootnote}
+use Rattle.document.specs.reference.Check.{First, at-node, orElse, Cells, any-number, cellsBelow, differs, badRow}
+use Rattle.document.specs.reference.Check.{badRowAmong, Entry, entries, isAmong, idsWhere, unknownTarget, unknownLink, unknownFootnote}
 use Rattle.document.specs.rules.Visits.{childCount, nodeKind, nodeKey, Visit, visits, visitsAll, visitsOf, upFrom, endOf, wordsOf}
 use Rattle.document.proofs.RulesTest.{lawful-test}
 use Rattle.document.proofs.Records.{entryOf, record-at, key-at, table-length, numbered, entries-visits}
@@ -45,7 +46,8 @@ Recorded words v =
     × (wordAt words (v .number) 2 ≡ v .number + count (v .visited))
 
 -- Word j of the record of a visited node.
-module _ (words : List ℕ) (n : ℕ) (bytes : List ℕ) (d : Node) (holds : BeginsWithTable words n bytes d) (v : Visit) (m : List·Memᴰ v (visitsOf d)) where
+module _ (words : List ℕ) (n : ℕ) (bytes : List ℕ) (d : Node) (holds : BeginsWithTable words n bytes d) (v : Visit)
+    (m : List·Memᴰ v (visitsOf d)) where
   within : recordLength * v .number + recordLength ≤ recordLength * n
   unfolding wordsOf
   within =
@@ -134,7 +136,8 @@ unknown-same k ids ids′ (e ∷ es) h = rw (h (e .key), unknown-same k ids ids�
 
 module _ (words : List ℕ) (n : ℕ) (bytes : List ℕ) (d : Node) (holds : BeginsWithTable words n bytes d) where
   unknown-is : (k only : ℕ)
-      → unknownTarget k (idsBefore words bytes only n) (entriesFrom words bytes n 0) ≡ unknownTarget k (idsWhere (wanted only) (entries 0 d)) (entries 0 d)
+      → unknownTarget k (idsBefore words bytes only n) (entriesFrom words bytes n 0) ≡ unknownTarget k (idsWhere (wanted only) (entries 0 d))
+      (entries 0 d)
   unknown-is k only =
       unknown-same k (idsBefore words bytes only n) (idsWhere (wanted only) (entriesFrom words bytes n 0)) (entriesFrom words bytes n 0)
       (λ s. ids-known words bytes s only n)
@@ -144,7 +147,8 @@ module _ (words : List ℕ) (n : ℕ) (bytes : List ℕ) (d : Node) (holds : Beg
   unfolding unknownLink
   link-is = unknown-is Class.link 0
 
-  pub note-is : unknownTarget Class.footnote-ref (idsBefore words bytes Class.footnote n) (entriesFrom words bytes n 0) ≡ unknownFootnote (entries 0 d)
+  pub note-is : unknownTarget Class.footnote-ref (idsBefore words bytes Class.footnote n) (entriesFrom words bytes n 0) ≡ unknownFootnote
+      (entries 0 d)
   unfolding unknownFootnote
   note-is = unknown-is Class.footnote-ref Class.footnote
 
@@ -157,7 +161,8 @@ mutual
       let own = r (record { number = i; parent = parent; start = p; visited = node k key type said w h ns }) (List·Memᴰ·head refl) in
       (own .0, own .1, (own .2, shapes words ns (i + 1) i (p + length key + length type + length said) (λ v m. r v (List·Memᴰ·tail m))))
 
-  shapes : (words : List ℕ) (ns : Nodes) (i parent p : ℕ) → ((v : Visit) → List·Memᴰ v (visitsAll i parent p ns) → Recorded words v) → Shapes words parent i ns
+  shapes : (words : List ℕ) (ns : Nodes)
+      (i parent p : ℕ) → ((v : Visit) → List·Memᴰ v (visitsAll i parent p ns) → Recorded words v) → Shapes words parent i ns
   shapes words childless i parent p r = tt
   shapes words (child n ns) i parent p r = (
     shape words n i parent p (λ v m. r v (Memᴰ·append-left (visitsAll (i + count n) parent (p + length (pool n)) ns) m)),
@@ -228,9 +233,11 @@ root-kind (value c s) l =
 root-kind (size w h) l = absurd l
 root-kind (element k ts) l = eqb-true k Class.document (T-true _ (both (eqb k Class.document) _ l .0))
 
-pub rows-searched : (words : List ℕ) (n : ℕ) (bytes : List ℕ) (d : Node) → BeginsWithTable words n bytes d → Searched words n 0 (badRow 0 any-number d)
+pub rows-searched : (words : List ℕ) (n : ℕ) (bytes : List ℕ) (d : Node) → BeginsWithTable words n bytes d → Searched words n 0
+    (badRow 0 any-number d)
 unfolding visitsOf
 rows-searched words n bytes d holds =
-    let e : nodeKind d ≡ Class.document = ap nodeKind (sym (holds .document .said)) ∙ root-kind (holds .document .tree) (lawful-test (holds .document .tree) (holds .document .lawful)) in
+    let e : nodeKind d ≡ Class.document = ap nodeKind (sym (holds .document .said)) ∙ root-kind (holds .document .tree)
+    (lawful-test (holds .document .tree) (holds .document .lawful)) in
     subst (λ (m : ℕ). Searched words m 0 (badRow 0 any-number d)) (holds .node-count)
     (searched words d 0 missing any-number (shape words d 0 missing 0 (λ v m. kind-parent-end words n bytes d holds v m)) (λ f. absurd (f e)))

@@ -8,7 +8,8 @@ use Rattle.elements.specs.rules.Rules.{ruleOf}
 use Rattle.elements.specs.rules.Inside.{go, nextParameter}
 use Rattle.kind.specs.Machine.{afterPlace}
 use Rattle.kind.proofs.Table.{past-four}
-use Rattle.kind.proofs.Steps.{numbers-of-taken, numbers-of-refused, same-step, StepsTo, led-on, first-child, absent, required-taken, neither, either-taken, optional-taken, passed, first-child-end, place-state}
+use Rattle.kind.proofs.Steps.{numbers-of-taken, numbers-of-refused, same-step, StepsTo, led-on, first-child, absent}
+use Rattle.kind.proofs.Steps.{required-taken, neither, either-taken, optional-taken, passed, first-child-end, place-state}
 use Rattle.kind.proofs.machine.next_parameter.Statement.{statement}
 use Rattle.kind.proofs.machine.next_parameter.Tie as tie
 

@@ -101,13 +101,33 @@ child-words-requires t c κs =
     stored-node (here .made) _ _ _ _ _ (here .stored) (c .before .before .before .before .before .pre .1 .2) .recorded .whole
 
 child-cast-step : (t : ℕ) → child-lts.Need-cast-step (child-claims t) (child-at t) child.Post
-child-cast-step t c = omega (arith, word-in _ _ _ 0 (c .before .words .ensures .0) (omega arith), kind-word (c .before .before .before .before .node .ensures .sound (not-false _ (c .before .before .if1 .left))))
+child-cast-step t c =
+    let node = c .before .before .before .before .node in
+    let if1 = c .before .before .if1 in
+    omega (arith, word-in _ _ _ 0 (c .before .words .ensures .0) (omega arith), kind-word (node .ensures .sound (not-false _ (if1 .left))))
 
 child-returns-2 : (t : ℕ) → child-lts.Need-returns-2 (child-claims t) (child-at t) child.Post
-child-returns-2 t c = child-stepped _ _ _ _ (c .before .before .before .before .before .before .node .ensures) (c .before .step .result .fault) (not-false _ (c .before .before .before .before .if1 .left)) (rw (word-in _ _ _ 0 (c .before .before .before .words .ensures .0) (omega arith)) at (c .before .step .ensures .stands))
+child-returns-2 t c =
+    let node = c .before .before .before .before .before .before .node in
+    let if1 = c .before .before .before .before .if1 in
+    let words = c .before .before .before .words in
+    let step = c .before .step in
+    child-stepped _ _ _ _ (node .ensures) (step .result .fault) (not-false _ (if1 .left))
+    (rw (word-in _ _ _ 0 (words .ensures .0) (omega arith)) at (step .ensures .stands))
 
 abbrev children-claims : ℕ → children-lts.Claims
-children-claims t = (lead-reads.Asked, lead-reads.Learnt, refused-reads.Asked, refused-reads.Learnt, child-below t, child.Post, values-reads.Asked, values-reads.Learnt, may-end-reads.Asked, may-end-reads.Learnt)
+children-claims t = (
+  lead-reads.Asked,
+  lead-reads.Learnt,
+  refused-reads.Asked,
+  refused-reads.Learnt,
+  child-below t,
+  child.Post,
+  values-reads.Asked,
+  values-reads.Learnt,
+  may-end-reads.Asked,
+  may-end-reads.Learnt,
+)
 
 abbrev children-Inv-loop : children-lts.InvT-loop
 children-Inv-loop nodes pool i kind end levels at left due₀ s₀ j₀ p₀ due s j p =
@@ -122,38 +142,76 @@ children-lead-requires : (t : ℕ) → children-lts.Need-lead-requires (children
 children-lead-requires t c κs = (c .before .before .pre .1 .0, c .before .before .pre .1 .2)
 
 children-returns : (t : ℕ) → children-lts.Need-returns (children-claims t) (children-at t) children.Post children-Inv-loop children-μ-loop
-children-returns t c = decides-none (c .refused .ensures) (values-none _ _ _ _ (λ ns e. c .before .before .before .lead .ensures .taken ns e ∙ rw (not-true (c .before .before .before .lead .result .ok) (c .before .if1 .taken))))
+children-returns t c =
+    let lead = c .before .before .before .lead in
+    decides-none (c .refused .ensures)
+    (values-none _ _ _ _ (λ ns e. lead .ensures .taken ns e ∙ rw (not-true (lead .result .ok) (c .before .if1 .taken))))
 
 children-add-j : (t : ℕ) → children-lts.Need-add-j (children-claims t) (children-at t) children.Post children-Inv-loop children-μ-loop
 children-add-j t c = omega (arith, c .before .before .before .before .before .pre .1 .0)
 
 children-loop-holds : (t : ℕ) → children-lts.Need-loop-holds (children-claims t) (children-at t) children.Post children-Inv-loop children-μ-loop
-children-loop-holds t c = (omega arith, c .before .before .before .before .before .pre .1 .1, c .before .before .lead .ensures .before-child, values-same _ _ _ _ (λ ns e. c .before .before .lead .ensures .taken ns e ∙ rw (not-false (c .before .before .lead .result .ok) (c .if1 .left))))
+children-loop-holds t c =
+    let pre = c .before .before .before .before .before .pre in
+    let lead = c .before .before .lead in (
+      omega arith,
+      pre .1 .1,
+      lead .ensures .before-child,
+      values-same _ _ _ _
+          (λ ns e. lead .ensures .taken ns e ∙ rw (not-false (lead .result .ok) (c .if1 .left))),
+    )
 
-children-child-requires : (t : ℕ) → children-lts.Need-child-requires (children-claims t) (children-at t) children.Post children-Inv-loop children-μ-loop
-children-child-requires t c κs = (omega (arith, c .before .before .before .before .before .before .before .pre .0), (c .before .before .before .before .before .before .before .pre .1 .0, c .before .loop .inv .0, c .before .loop .inv .1))
+children-child-requires : (t : ℕ) → children-lts.Need-child-requires (children-claims t)
+    (children-at t) children.Post children-Inv-loop children-μ-loop
+children-child-requires t c κs =
+    let pre = c .before .before .before .before .before .before .before .pre in
+    let loop = c .before .loop in
+    (omega (arith, pre .0), (pre .1 .0, loop .inv .0, loop .inv .1))
 
 children-returns-2 : (t : ℕ) → children-lts.Need-returns-2 (children-claims t) (children-at t) children.Post children-Inv-loop children-μ-loop
 children-returns-2 t c =
-    decides-none (c .refused2 .ensures) (none-same (c .before .before .before .before .before .loop .inv .3) (child-none _ _ _ _ _ _ (behind-child (c .before .before .before .before .before .loop .due) _) (c .before .before .before .child .ensures) (c .before .before .before .before .loop-test .taken) (not-true _ (c .before .if2 .taken))))
+    let loop = c .before .before .before .before .before .loop in
+    let loop-test = c .before .before .before .before .loop-test in
+    let child = c .before .before .before .child in
+    decides-none (c .refused2 .ensures)
+    (none-same (loop .inv .3)
+    (child-none _ _ _ _ _ _ (behind-child (loop .due) _) (child .ensures) (loop-test .taken) (not-true _ (c .before .if2 .taken))))
 
 children-returns-3 : (t : ℕ) → children-lts.Need-returns-3 (children-claims t) (children-at t) children.Post children-Inv-loop children-μ-loop
 children-returns-3 t c =
-    decides-none (c .refused3 .ensures) (none-same (c .before .before .before .before .before .before .before .before .before .loop .inv .3)
-    (none-same (child-same _ _ _ _ _ _ (behind-child (c .before .before .before .before .before .before .before .before .before .loop .due) _) (c .before .before .before .before .before .before .before .child .ensures) (c .before .before .before .before .before .before .before .before .loop-test .taken) (not-false _ (c .before .before .before .before .before .if2 .left)))
-    (values-none _ _ _ _ (λ ns e. rw (c .before .before .before .before .if3 .taken) (c .before .before .before .values .ensures .taken (layoutAll ns) ∙ rw (not-true (c .before .before .before .values .result .ok) (c .before .if4 .taken)))))))
+    let loop = c .before .before .before .before .before .before .before .before .before .loop in
+    let loop-test = c .before .before .before .before .before .before .before .before .loop-test in
+    let child = c .before .before .before .before .before .before .before .child in
+    let if2 = c .before .before .before .before .before .if2 in
+    let if3 = c .before .before .before .before .if3 in
+    let values = c .before .before .before .values in
+    decides-none (c .refused3 .ensures) (none-same (loop .inv .3)
+    (none-same (child-same _ _ _ _ _ _ (behind-child (loop .due) _) (child .ensures) (loop-test .taken) (not-false _ (if2 .left)))
+    (values-none _ _ _ _ (λ ns e. rw (if3 .taken)
+    (values .ensures .taken (layoutAll ns) ∙ rw (not-true (values .result .ok) (c .before .if4 .taken)))))))
 
 children-loop-less : (t : ℕ) → children-lts.Need-loop-less (children-claims t) (children-at t) children.Post children-Inv-loop children-μ-loop
-children-loop-less t c = omega (arith, node-forward (c .before .before .before .before .before .before .child .ensures .sound (not-false _ (c .before .before .before .before .if2 .left)) .0))
+children-loop-less t c =
+    let child = c .before .before .before .before .before .before .child in
+    let if2 = c .before .before .before .before .if2 in
+    omega (arith, node-forward (child .ensures .sound (not-false _ (if2 .left)) .0))
 
 children-loop-again : (t : ℕ) → children-lts.Need-loop-again (children-claims t) (children-at t) children.Post children-Inv-loop children-μ-loop
 children-loop-again t c =
-    let here = c .before .before .before .before .before .before .child .ensures .sound (not-false _ (c .before .before .before .before .if2 .left)) .0 in (
-      omega (arith, node-forward here, c .before .before .before .before .before .before .before .before .loop .inv .0),
-      node-within here (c .before .before .before .before .before .before .before .before .loop .inv .1),
+    let loop = c .before .before .before .before .before .before .before .before .loop in
+    let loop-test = c .before .before .before .before .before .before .before .loop-test in
+    let child = c .before .before .before .before .before .before .child in
+    let if2 = c .before .before .before .before .if2 in
+    let if3 = c .before .before .before .if3 in
+    let values = c .before .before .values in
+    let here = child .ensures .sound (not-false _ (if2 .left)) .0 in (
+      omega (arith, node-forward here, loop .inv .0),
+      node-within here (loop .inv .1),
       λ d. absurd (true≢false (sym d)),
-      through (values-same _ _ _ _ (λ ns e. rw (c .before .before .before .if3 .taken) (c .before .before .values .ensures .taken (layoutAll ns) ∙ rw (not-false (c .before .before .values .result .ok) (c .if4 .left)))))
-          (through (child-same _ _ _ _ _ _ (behind-child (c .before .before .before .before .before .before .before .before .loop .due) _) (c .before .before .before .before .before .before .child .ensures) (c .before .before .before .before .before .before .before .loop-test .taken) (not-false _ (c .before .before .before .before .if2 .left))) (c .before .before .before .before .before .before .before .before .loop .inv .3)),
+      through (values-same _ _ _ _
+          (λ ns e. rw (if3 .taken) (values .ensures .taken (layoutAll ns) ∙ rw (not-false (values .result .ok) (c .if4 .left)))))
+          (through (child-same _ _ _ _ _ _ (behind-child (loop .due) _) (child .ensures) (loop-test .taken) (not-false _ (if2 .left)))
+          (loop .inv .3)),
     )
 
 children-loop-less-2 : (t : ℕ) → children-lts.Need-loop-less-2 (children-claims t) (children-at t) children.Post children-Inv-loop children-μ-loop
@@ -161,23 +219,45 @@ children-loop-less-2 t c = omega (arith, node-forward (c .before .before .before
 
 children-loop-again-2 : (t : ℕ) → children-lts.Need-loop-again-2 (children-claims t) (children-at t) children.Post children-Inv-loop children-μ-loop
 children-loop-again-2 t c =
-    let here = c .before .before .before .child .ensures .sound (not-false _ (c .before .if2 .left)) .0 in (
-      omega (arith, node-forward here, c .before .before .before .before .before .loop .inv .0),
-      node-within here (c .before .before .before .before .before .loop .inv .1),
+    let loop = c .before .before .before .before .before .loop in
+    let loop-test = c .before .before .before .before .loop-test in
+    let child = c .before .before .before .child in
+    let if2 = c .before .if2 in
+    let here = child .ensures .sound (not-false _ (if2 .left)) .0 in (
+      omega (arith, node-forward here, loop .inv .0),
+      node-within here (loop .inv .1),
       λ d. absurd (true≢false (sym d ∙ c .if3 .left)),
-      through (values-same _ _ _ _ (λ ns e. rw (c .if3 .left))) (through (child-same _ _ _ _ _ _ (behind-child (c .before .before .before .before .before .loop .due) _) (c .before .before .before .child .ensures) (c .before .before .before .before .loop-test .taken) (not-false _ (c .before .if2 .left))) (c .before .before .before .before .before .loop .inv .3)),
+      through (values-same _ _ _ _ (λ ns e. rw (c .if3 .left)))
+          (through (child-same _ _ _ _ _ _ (behind-child (loop .due) _) (child .ensures) (loop-test .taken) (not-false _ (if2 .left))) (loop .inv .3)),
     )
 
 children-returns-4 : (t : ℕ) → children-lts.Need-returns-4 (children-claims t) (children-at t) children.Post children-Inv-loop children-μ-loop
-children-returns-4 t c = decides-none (c .refused4 .ensures) (none-same (c .before .before .before .loop .inv .3) (λ e q. end-passed _ _ _ _ (c .before .before .loop-test .left) (c .before .if5 .taken)))
+children-returns-4 t c =
+    let loop = c .before .before .before .loop in
+    let loop-test = c .before .before .loop-test in
+    decides-none (c .refused4 .ensures) (none-same (loop .inv .3) (λ e q. end-passed _ _ _ _ (loop-test .left) (c .before .if5 .taken)))
 
 children-returns-5 : (t : ℕ) → children-lts.Need-returns-5 (children-claims t) (children-at t) children.Post children-Inv-loop children-μ-loop
 children-returns-5 t c =
-    let taken = not-T-false (c .before .before .before .loop .due) (λ d. omega (arith, c .before .before .before .loop .inv .2 (T-true _ d))) in
-    rw (c .may-end .ensures) (decides-same (rw taken at (c .before .before .before .loop .inv .3)) (end-decides _ _ _ _ (c .before .if5 .left)))
+    let loop = c .before .before .before .loop in
+    let taken = not-T-false (loop .due) (λ d. omega (arith, loop .inv .2 (T-true _ d))) in
+    rw (c .may-end .ensures) (decides-same (rw taken at (loop .inv .3)) (end-decides _ _ _ _ (c .before .if5 .left)))
 
 abbrev element-claims : ℕ → element-lts.Claims
-element-claims t = (words-reads.Asked, words-reads.Learnt, stands-reads.Asked, stands-reads.Learnt, refused-reads.Asked, refused-reads.Learnt, value-levels-reads.Asked, value-levels-reads.Learnt, element-fits-reads.Asked, element-fits-reads.Learnt, children-below t, children.Post)
+element-claims t = (
+  words-reads.Asked,
+  words-reads.Learnt,
+  stands-reads.Asked,
+  stands-reads.Learnt,
+  refused-reads.Asked,
+  refused-reads.Learnt,
+  value-levels-reads.Asked,
+  value-levels-reads.Learnt,
+  element-fits-reads.Asked,
+  element-fits-reads.Learnt,
+  children-below t,
+  children.Post,
+)
 
 element-words-requires : (t : ℕ) → element-lts.Need-words-requires (element-claims t) (element-at t) element.Post
 element-words-requires t c κs = c .before .before .pre .1 .0
@@ -187,8 +267,12 @@ element-stands-requires t c κs = (c .words .ensures .1, c .before .before .befo
 
 element-returns : (t : ℕ) → element-lts.Need-returns (element-claims t) (element-at t) element.Post
 element-returns t c =
+    let pre = c .before .before .before .before .before .before .pre in
+    let words = c .before .before .before .words in
+    let stands = c .before .before .stands in
     decides-none (c .refused .ensures)
-    (λ e q a. not-held (c .before .before .stands .ensures _ _ (c .before .before .before .words .ensures .0)) (not-true _ (c .before .if1 .taken)) (stored-node (a .made) _ _ _ _ _ (a .stored) (c .before .before .before .before .before .before .pre .1 .1) .recorded))
+    (λ e q a. not-held (stands .ensures _ _ (words .ensures .0)) (not-true _ (c .before .if1 .taken))
+    (stored-node (a .made) _ _ _ _ _ (a .stored) (pre .1 .1) .recorded))
 
 element-value-levels-requires : (t : ℕ) → element-lts.Need-value-levels-requires (element-claims t) (element-at t) element.Post
 element-value-levels-requires t c κs = c .before .before .words .ensures .1
@@ -198,18 +282,28 @@ element-element-fits-requires t c κs = c .before .before .before .words .ensure
 
 element-returns-2 : (t : ℕ) → element-lts.Need-returns-2 (element-claims t) (element-at t) element.Post
 element-returns-2 t c =
-    let r = c .before .before .before .before .before .before .words .ensures .0 in
-    let there = c .before .before .before .before .before .stands .ensures _ _ r .sound (not-false _ (c .before .before .before .before .if1 .left)) in
+    let pre = c .before .before .before .before .before .before .before .before .before .pre in
+    let words = c .before .before .before .before .before .before .words in
+    let stands = c .before .before .before .before .before .stands in
+    let if1 = c .before .before .before .before .if1 in
+    let value-levels = c .before .before .before .value-levels in
+    let element-fits = c .before .before .element-fits in
+    let r = words .ensures .0 in
+    let there = stands .ensures _ _ r .sound (not-false _ (if1 .left)) in
     decides-none (c .refused2 .ensures)
-    (λ e q a. not-held (c .before .before .element-fits .ensures _ _ r (c .before .before .before .value-levels .ensures _ _ r)) (not-true _ (c .before .if2 .taken)) (element-record _ _ _ _ _ there _ refl (c .before .before .before .before .before .before .before .before .before .pre .1 .2) a))
+    (λ e q a. not-held (element-fits .ensures _ _ r (value-levels .ensures _ _ r)) (not-true _ (c .before .if2 .taken))
+    (element-record _ _ _ _ _ there _ refl (pre .1 .2) a))
 
 element-cast-after : (t : ℕ) → element-lts.Need-cast-after (element-claims t) (element-at t) element.Post
 element-cast-after t c = omega (arith, c .shared-slice-known3 .given 4)
 
 element-add-after : (t : ℕ) → element-lts.Need-add-after (element-claims t) (element-at t) element.Post
 element-add-after t c =
-    let r = c .before .before .before .before .before .before .words .ensures .0 in
-    let there = c .before .before .before .before .before .stands .ensures _ _ r .sound (not-false _ (c .before .before .before .before .if1 .left)) in
+    let words = c .before .before .before .before .before .before .words in
+    let stands = c .before .before .before .before .before .stands in
+    let if1 = c .before .before .before .before .if1 in
+    let r = words .ensures .0 in
+    let there = stands .ensures _ _ r .sound (not-false _ (if1 .left)) in
     omega (arith, word-in _ _ _ 4 r (omega arith), there .key-at .within)
 
 element-cast-after-2 : (t : ℕ) → element-lts.Need-cast-after-2 (element-claims t) (element-at t) element.Post
@@ -217,14 +311,21 @@ element-cast-after-2 t c = omega (arith, c .shared-slice-known4 .given 6)
 
 element-add-after-2 : (t : ℕ) → element-lts.Need-add-after-2 (element-claims t) (element-at t) element.Post
 element-add-after-2 t c =
-    let r = c .before .before .before .before .before .before .before .words .ensures .0 in
-    let there = c .before .before .before .before .before .before .stands .ensures _ _ r .sound (not-false _ (c .before .before .before .before .before .if1 .left)) in
+    let words = c .before .before .before .before .before .before .before .words in
+    let stands = c .before .before .before .before .before .before .stands in
+    let if1 = c .before .before .before .before .before .if1 in
+    let r = words .ensures .0 in
+    let there = stands .ensures _ _ r .sound (not-false _ (if1 .left)) in
     omega (arith, word-in _ _ _ 4 r (omega arith), word-in _ _ _ 6 r (omega arith), there .type-at .within)
 
 element-cast-children : (t : ℕ) → element-lts.Need-cast-children (element-claims t) (element-at t) element.Post
 element-cast-children t c =
-    let r = c .before .before .before .before .before .before .before .before .words .ensures .0 in
-    let fits = c .before .before .before .before .element-fits .ensures _ _ r (c .before .before .before .before .before .value-levels .ensures _ _ r) .sound (not-false _ (c .before .before .before .if2 .left)) in
+    let words = c .before .before .before .before .before .before .before .before .words in
+    let value-levels = c .before .before .before .before .before .value-levels in
+    let element-fits = c .before .before .before .before .element-fits in
+    let if2 = c .before .before .before .if2 in
+    let r = words .ensures .0 in
+    let fits = element-fits .ensures _ _ r (value-levels .ensures _ _ r) .sound (not-false _ (if2 .left)) in
     omega (arith, word-in _ _ _ 0 r (omega arith), fits .kind-high)
 
 element-cast-children-2 : (t : ℕ) → element-lts.Need-cast-children-2 (element-claims t) (element-at t) element.Post
@@ -232,31 +333,48 @@ element-cast-children-2 t c = omega (arith, c .shared-slice-known6 .given 2)
 
 element-sub-children : (t : ℕ) → element-lts.Need-sub-children (element-claims t) (element-at t) element.Post
 element-sub-children t c =
-    let r = c .before .before .before .before .before .before .before .before .before .words .ensures .0 in
-    let fits = c .before .before .before .before .before .element-fits .ensures _ _ r (c .before .before .before .before .before .before .value-levels .ensures _ _ r) .sound (not-false _ (c .before .before .before .before .if2 .left)) in
+    let words = c .before .before .before .before .before .before .before .before .before .words in
+    let value-levels = c .before .before .before .before .before .before .value-levels in
+    let element-fits = c .before .before .before .before .before .element-fits in
+    let if2 = c .before .before .before .before .if2 in
+    let r = words .ensures .0 in
+    let fits = element-fits .ensures _ _ r (value-levels .ensures _ _ r) .sound (not-false _ (if2 .left)) in
     omega (arith, fits .levels)
 
 element-children-requires : (t : ℕ) → element-lts.Need-children-requires (element-claims t) (element-at t) element.Post
 element-children-requires t c κs =
-    let r = c .before .before .before .before .before .before .before .before .before .words .ensures .0 in
-    let there = c .before .before .before .before .before .before .before .before .stands .ensures _ _ r .sound (not-false _ (c .before .before .before .before .before .before .before .if1 .left)) in (
-      omega (arith, c .before .before .before .before .before .before .before .before .before .before .before .before .pre .0),
+    let pre = c .before .before .before .before .before .before .before .before .before .before .before .before .pre in
+    let words = c .before .before .before .before .before .before .before .before .before .words in
+    let stands = c .before .before .before .before .before .before .before .before .stands in
+    let if1 = c .before .before .before .before .before .before .before .if1 in
+    let value-levels = c .before .before .before .before .before .before .value-levels in
+    let r = words .ensures .0 in
+    let there = stands .ensures _ _ r .sound (not-false _ (if1 .left)) in (
+      omega (arith, pre .0),
       (
-        c .before .before .before .before .before .before .before .before .before .before .before .before .pre .1 .0,
+        pre .1 .0,
         omega (arith, word-in _ _ _ 4 r (omega arith), word-in _ _ _ 6 r (omega arith), there .type-at .within),
-        c .before .before .before .before .before .before .value-levels .ensures _ _ r,
+        value-levels .ensures _ _ r,
       ),
     )
 
 element-returns-3 : (t : ℕ) → element-lts.Need-returns-3 (element-claims t) (element-at t) element.Post
 element-returns-3 t c =
-    let r = c .before .before .before .before .before .before .before .before .before .before .words .ensures .0 in
-    let there = c .before .before .before .before .before .before .before .before .before .stands .ensures _ _ r .sound (not-false _ (c .before .before .before .before .before .before .before .before .if1 .left)) in
-    let fits = c .before .before .before .before .before .before .element-fits .ensures _ _ r (c .before .before .before .before .before .before .before .value-levels .ensures _ _ r) .sound (not-false _ (c .before .before .before .before .before .if2 .left)) in
+    let args = c .before .before .before .before .before .before .before .before .before .before .before .before .before .args in
+    let pre = c .before .before .before .before .before .before .before .before .before .before .before .before .before .pre in
+    let words = c .before .before .before .before .before .before .before .before .before .before .words in
+    let stands = c .before .before .before .before .before .before .before .before .before .stands in
+    let if1 = c .before .before .before .before .before .before .before .before .if1 in
+    let value-levels = c .before .before .before .before .before .before .before .value-levels in
+    let element-fits = c .before .before .before .before .before .before .element-fits in
+    let if2 = c .before .before .before .before .before .if2 in
+    let r = words .ensures .0 in
+    let there = stands .ensures _ _ r .sound (not-false _ (if1 .left)) in
+    let fits = element-fits .ensures _ _ r (value-levels .ensures _ _ r) .sound (not-false _ (if2 .left)) in
     let kind = word-in _ _ _ 0 r (omega arith) in
-    let after : c .before .before .before .before .before .before .before .before .before .before .before .before .before .args .at + getD (c .before .before .before .before .before .before .before .before .before .before .words .result .now) 4 0 + getD (c .before .before .before .before .before .before .before .before .before .before .words .result .now) 6 0 ≡ stringsEnd (c .before .before .before .before .before .before .before .before .before .before .before .before .before .args .nodes .now) (c .before .before .before .before .before .before .before .before .before .before .before .before .before .args .i) (c .before .before .before .before .before .before .before .before .before .before .before .before .before .args .at)
+    let after : args .at + getD (words .result .now) 4 0 + getD (words .result .now) 6 0 ≡ stringsEnd (args .nodes .now) (args .i) (args .at)
     = omega (arith, word-in _ _ _ 4 r (omega arith), word-in _ _ _ 6 r (omega arith), fits .no-text) in
-    decides-same (element-same _ _ _ _ _ there (getD (c .before .before .before .before .before .before .before .before .before .before .words .result .now) 0 0) (sym kind) (λ t. c .before .before .before .before .before .before .before .before .before .before .before .before .before .pre .1 .2 (sym kind ∙ t)) fits)
+    decides-same (element-same _ _ _ _ _ there (getD (words .result .now) 0 0) (sym kind) (λ t. pre .1 .2 (sym kind ∙ t)) fits)
     (rw (after, word-in _ _ _ 2 r (omega arith)) at (c .children .ensures))
 
 abbrev node-claims : ℕ → node-lts.Claims
@@ -264,16 +382,23 @@ node-claims t = (refused-reads.Asked, refused-reads.Learnt, words-reads.Asked, w
 
 node-returns : (t : ℕ) → node-lts.Need-returns (node-claims t) (node-at t) node.Post
 node-returns t c =
-    decides-none (c .refused .ensures) (λ e q a. omega (arith, stored-node (a .made) _ _ _ _ _ (a .stored) (c .before .before .before .before .pre .1) .recorded .whole))
+    let pre = c .before .before .before .before .pre in
+    decides-none (c .refused .ensures) (λ e q a. omega (arith, stored-node (a .made) _ _ _ _ _ (a .stored) (pre .1) .recorded .whole))
 
 node-text-node-requires : (t : ℕ) → node-lts.Need-text-node-requires (node-claims t) (node-at t) node.Post
-node-text-node-requires t c κs = (omega arith, c .before .before .before .before .before .before .before .pre .1, sym (word-in _ _ _ 0 (c .before .before .before .words .ensures .0) (omega arith)) ∙ c .if2 .taken)
+node-text-node-requires t c κs =
+    let pre = c .before .before .before .before .before .before .before .pre in
+    let words = c .before .before .before .words in
+    (omega arith, pre .1, sym (word-in _ _ _ 0 (words .ensures .0) (omega arith)) ∙ c .if2 .taken)
 
 node-returns-2 : (t : ℕ) → node-lts.Need-returns-2 (node-claims t) (node-at t) node.Post
 node-returns-2 t c = c .text-node .ensures _
 
 node-element-requires : (t : ℕ) → node-lts.Need-element-requires (node-claims t) (node-at t) node.Post
-node-element-requires t c κs = (omega (arith, c .before .before .before .before .before .before .before .pre .0), (omega arith, c .before .before .before .before .before .before .before .pre .1, λ t. c .if2 .left (word-in _ _ _ 0 (c .before .before .before .words .ensures .0) (omega arith) ∙ t)))
+node-element-requires t c κs =
+    let pre = c .before .before .before .before .before .before .before .pre in
+    let words = c .before .before .before .words in
+    (omega (arith, pre .0), (omega arith, pre .1, λ t. c .if2 .left (word-in _ _ _ 0 (words .ensures .0) (omega arith) ∙ t)))
 
 node-returns-3 : (t : ℕ) → node-lts.Need-returns-3 (node-claims t) (node-at t) node.Post
 node-returns-3 t c = c .element .ensures

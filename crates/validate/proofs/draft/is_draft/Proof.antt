@@ -28,8 +28,10 @@ returns-4 c = no-draft (λ e q r. c .if4 .taken (c .before .before .word .ensure
 
 element-requires : tie.Need-element-requires
 element-requires c κs =
-    let kind : wordAt (c .before .before .before .before .before .before .before .before .args .nodes .now) 0 0 ≡ Class.document = sym (c .before .before .word .ensures) ∙ c .if4 .left in
-    (omega (arith, word-there (c .before .before .before .before .before .before .before .before .args .nodes .now) 0 0 (omega arith)), omega arith, λ t. omega arith)
+    let args = c .before .before .before .before .before .before .before .before .args in
+    let word = c .before .before .word in
+    let kind : wordAt (args .nodes .now) 0 0 ≡ Class.document = sym (word .ensures) ∙ c .if4 .left in
+    (omega (arith, word-there (args .nodes .now) 0 0 (omega arith)), omega arith, λ t. omega arith)
 
 returns-5 : tie.Need-returns-5
 returns-5 c = no-draft (λ e q r. true≢false (sym (c .before .before .element .ensures .complete e q (r .root) .0) ∙ not-true _ (c .if5 .taken)))
@@ -39,18 +41,26 @@ returns-6 c = no-draft (λ e q r. c .if6 .taken (c .before .before .before .befo
 
 returns-7 : tie.Need-returns-7
 returns-7 c =
-    let next = c .before .before .before .before .before .element .result .next in
-    let count = length (c .before .before .before .before .before .before .before .before .before .before .before .before .before .before .args .nodes .now) / 11 in
+    let args = c .before .before .before .before .before .before .before .before .before .before .before .before .before .before .args in
+    let if1 = c .before .before .before .before .before .before .before .before .before .before .before .if1 in
+    let if2 = c .before .before .before .before .before .before .before .before .before .before .if2 in
+    let if3 = c .before .before .before .before .before .before .before .before .before .if3 in
+    let word = c .before .before .before .before .before .before .before .before .word in
+    let if4 = c .before .before .before .before .before .before .if4 in
+    let element = c .before .before .before .before .before .element in
+    let if5 = c .before .before .before .if5 in
+    let next = element .result .next in
+    let count = length (args .nodes .now) / 11 in
     draft-told (eqb next count)
     (λ t. record {
-      root = c .before .before .before .before .before .element .ensures .sound (not-false _ (c .before .before .before .if5 .left));
-      of-kind = sym (c .before .before .before .before .before .before .before .before .word .ensures) ∙ c .before .before .before .before .before .before .if4 .left;
-      all-words = omega (arith, eqb-true next count t, c .before .before .before .before .before .before .before .before .before .if3 .left);
+      root = element .ensures .sound (not-false _ (if5 .left));
+      of-kind = sym (word .ensures) ∙ if4 .left;
+      all-words = omega (arith, eqb-true next count t, if3 .left);
       all-bytes = sym (c .before .if6 .left);
-      few-words = c .before .before .before .before .before .before .before .before .before .before .before .if1 .left;
-      few-bytes = c .before .before .before .before .before .before .before .before .before .before .if2 .left;
+      few-words = if1 .left;
+      few-bytes = if2 .left;
     })
-    (λ t e q r. eqb-false next count t (c .before .before .before .before .before .element .ensures .complete e q (r .root) .1 ∙ omega (arith, r .all-words)))
+    (λ t e q r. eqb-false next count t (element .ensures .complete e q (r .root) .1 ∙ omega (arith, r .all-words)))
 
 pub is-draft-spec : {M : Type 1} → statement M
 is-draft-spec =

@@ -17,8 +17,11 @@ returns-2 : tie.Need-returns-2
 returns-2 c = lead-due _ _ _ _ _ (sym (c .before .is-titled .ensures) ∙ c .if3 .taken) (c .before .before .if2 .taken)
 
 returns-3 : tie.Need-returns-3
-returns-3 c = lead-taken _ _ _ _ _
-    (λ h. ⊎-elim {C = nodeFirst (ruleOf (c .before .before .before .before .before .args .kind) .parameters) ≡ false} (λ w. sym (w .1 .ensures) ∙ w .2 .left) (λ w. absurd (omega arith)) (c .before .if2 .came))
+returns-3 c =
+    let args = c .before .before .before .before .before .args in
+    lead-taken _ _ _ _ _
+    (λ h. ⊎-elim {C = nodeFirst (ruleOf (args .kind) .parameters) ≡ false} (λ w. sym (w .1 .ensures) ∙ w .2 .left) (λ w. absurd (omega arith))
+    (c .before .if2 .came))
     (c .values .ensures)
 
 pub lead-spec : {M : Type 1} → statement M

@@ -28,9 +28,12 @@ shared-slice-read-if2-2 c = omega arith
 
 returns-2 : tie.Need-returns-2 Inv-loop μ-loop
 returns-2 c =
-    let if1 = c .before .before .before .before .before .if1 in
-    let loop = c .before .before .before .before .loop in
-    let loop-test = c .before .before .before .loop-test in
+    let if1-call = c .before .before .before .before .before .if1 in
+    let loop-call = c .before .before .before .before .loop in
+    let loop-test-call = c .before .before .before .loop-test in
+    let if1 = if1-call in
+    let loop = loop-call in
+    let loop-test = loop-test-call in
     sym (loop .inv .1 ∙ same-not _ _ _ (if1 .left) (loop-test .taken) (c .if2 .taken))
 
 add-i : tie.Need-add-i Inv-loop μ-loop
@@ -41,9 +44,12 @@ loop-less c = omega arith
 
 loop-again : tie.Need-loop-again Inv-loop μ-loop
 loop-again c =
-    let if1 = c .before .before .before .before .before .if1 in
-    let loop = c .before .before .before .before .loop in
-    let loop-test = c .before .before .before .loop-test in
+    let if1-call = c .before .before .before .before .before .if1 in
+    let loop-call = c .before .before .before .before .loop in
+    let loop-test-call = c .before .before .before .loop-test in
+    let if1 = if1-call in
+    let loop = loop-call in
+    let loop-test = loop-test-call in
     (omega arith, loop .inv .1 ∙ same-on _ _ _ (if1 .left) (loop-test .taken) (c .if2 .left))
 
 returns-3 : tie.Need-returns-3 Inv-loop μ-loop

@@ -39,49 +39,70 @@ loop-holds c = left-first _ _ _ _ _ _ _ (c .before .before .before .before .pre 
 
 returns : tie.Need-returns Inv-loop μ-loop
 returns c =
-    let args = c .before .before .before .before .before .before .before .before .before .before .before .args in
-    let loop = c .before .before .before .before .before .before .loop in
-    let loop-test = c .before .before .before .before .before .loop-test in
-    let has-id = c .before .before .before .before .has-id in
-    let if1 = c .before .before .before .if1 in
-    let string = c .before .before .string in
+    let args-call = c .before .before .before .before .before .before .before .before .before .before .before .args in
+    let loop-call = c .before .before .before .before .before .before .loop in
+    let loop-test-call = c .before .before .before .before .before .loop-test in
+    let has-id-call = c .before .before .before .before .has-id in
+    let if1-call = c .before .before .before .if1 in
+    let string-call = c .before .before .string in
+    let args = args-call in
+    let loop = loop-call in
+    let loop-test = loop-test-call in
+    let has-id = has-id-call in
+    let if1 = if1-call in
+    let string = string-call in
     let equal = c .before .equal in
     sym (known-here _ _ _ _ _ (loop-test .taken) (sym (has-id .ensures) ∙ if1 .taken)
     (sym (ap (same (args .id .now)) (string .ensures)) ∙ (sym (equal .ensures) ∙ c .if2 .taken))) ∙ loop .inv .among
 
 mul-j-2 : tie.Need-mul-j-2 Inv-loop μ-loop
 mul-j-2 c =
-    let pre = c .before .before .before .before .before .before .before .before .pre in
-    let loop = c .before .before .before .loop in
+    let pre-call = c .before .before .before .before .before .before .before .before .pre in
+    let loop-call = c .before .before .before .loop in
+    let pre = pre-call in
+    let loop = loop-call in
     omega (arith, pre .1 .few, loop .inv .within)
 
 element-copy-out-j-2 : tie.Need-element-copy-out-j-2 Inv-loop μ-loop
 element-copy-out-j-2 c =
-    let pre = c .before .before .before .before .before .before .before .before .pre in
-    let loop = c .before .before .before .loop in
+    let pre-call = c .before .before .before .before .before .before .before .before .pre in
+    let loop-call = c .before .before .before .loop in
+    let pre = pre-call in
+    let loop = loop-call in
     omega (arith, pre .1 .few, loop .inv .within)
 
 cast-j-2 : tie.Need-cast-j-2 Inv-loop μ-loop
 cast-j-2 c =
-    let pre = c .before .before .before .before .before .before .before .before .before .pre in
-    let loop = c .before .before .before .before .loop in
-    let loop-test = c .before .before .before .loop-test in
+    let pre-call = c .before .before .before .before .before .before .before .before .before .pre in
+    let loop-call = c .before .before .before .before .loop in
+    let loop-test-call = c .before .before .before .loop-test in
+    let pre = pre-call in
+    let loop = loop-call in
+    let loop-test = loop-test-call in
     omega (arith, pre .1 .few, loop .inv .within, next-below _ _ _ _ _ _ _ (pre .1) _ (loop-test .taken) (loop .inv))
 
 loop-less : tie.Need-loop-less Inv-loop μ-loop
 loop-less c =
-    let pre = c .before .before .before .before .before .before .before .before .before .pre in
-    let loop = c .before .before .before .before .loop in
-    let loop-test = c .before .before .before .loop-test in
+    let pre-call = c .before .before .before .before .before .before .before .before .before .pre in
+    let loop-call = c .before .before .before .before .loop in
+    let loop-test-call = c .before .before .before .loop-test in
+    let pre = pre-call in
+    let loop = loop-call in
+    let loop-test = loop-test-call in
     next-below _ _ _ _ _ _ _ (pre .1) _ (loop-test .taken) (loop .inv)
 
 loop-again : tie.Need-loop-again Inv-loop μ-loop
 loop-again c =
-    let args = c .before .before .before .before .before .before .before .before .before .args in
-    let pre = c .before .before .before .before .before .before .before .before .before .pre in
-    let loop = c .before .before .before .before .loop in
-    let loop-test = c .before .before .before .loop-test in
-    let has-id = c .before .before .has-id in
+    let args-call = c .before .before .before .before .before .before .before .before .before .args in
+    let pre-call = c .before .before .before .before .before .before .before .before .before .pre in
+    let loop-call = c .before .before .before .before .loop in
+    let loop-test-call = c .before .before .before .loop-test in
+    let has-id-call = c .before .before .has-id in
+    let args = args-call in
+    let pre = pre-call in
+    let loop = loop-call in
+    let loop-test = loop-test-call in
+    let has-id = has-id-call in
     let if1 = c .before .if1 in
     let words = args .nodes .now in
     let bytes = args .pool .now in

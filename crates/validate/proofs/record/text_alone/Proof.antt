@@ -13,9 +13,22 @@ cast-result-2 : tie.Need-cast-result-2
 cast-result-2 c = omega (arith, c .shared-slice-known2 .given 2)
 
 returns : tie.Need-returns
-returns c = λ words i e.
-    let at : (j : ℕ) → j < 11 → _ = λ j h. word-in words (c .before .before .before .before .before .before .before .before .before .args .r .now) i j e h in
-    rw (at 1 (omega arith), at 2 (omega arith), at 3 (omega arith), at 4 (omega arith), at 5 (omega arith), at 6 (omega arith), at 8 (omega arith), at 9 (omega arith), at 10 (omega arith))
+returns c =
+    let args = c .before .before .before .before .before .before .before .before .before .args in
+    λ words i e.
+    let at : (j : ℕ) → j < 11 → _ = λ j h. word-in words (args .r .now) i j e h in
+    rw (
+      at 1 (omega arith),
+      at 2 (omega arith),
+      at 3 (omega arith),
+      at 4 (omega arith),
+      at 5 (omega arith),
+      at 6 (omega arith),
+      at 8
+          (omega arith),
+      at 9 (omega arith),
+      at 10 (omega arith),
+    )
     (alone-tests words i _ _)
 
 pub text-alone-spec : {M : Type 1} → statement M

@@ -18,12 +18,31 @@ returns-2 c = λ words i e. rw (recorded-word words _ i 4 e (omega arith), ne-eq
 
 returns-3 : tie.Need-returns-3
 unfolding valueLevels
-returns-3 c = λ words i e. rw (recorded-word words _ i 4 e (omega arith), recorded-word words _ i 6 e (omega arith), eq-eqb _ 0 (c .before .before .if2 .left), ne-eqb _ 0 (c .if3 .taken))
+returns-3 c =
+    let if2 = c .before .before .if2 in
+    λ words i e. rw (
+      recorded-word words _ i 4 e (omega arith),
+      recorded-word words _ i 6 e (omega arith),
+      eq-eqb _ 0 (if2 .left),
+      ne-eqb _ 0
+          (c .if3 .taken),
+    )
 
 returns-4 : tie.Need-returns-4
 unfolding valueLevels
-returns-4 c = λ words i e.
-    rw (recorded-word words _ i 4 e (omega arith), recorded-word words _ i 6 e (omega arith), recorded-word words _ i 9 e (omega arith), eq-eqb _ 0 (c .before .before .if2 .left), eq-eqb _ 0 (c .if3 .left), eq-eqb _ _ (c .before .before .before .before .if1 .left))
+returns-4 c =
+    let if1 = c .before .before .before .before .if1 in
+    let if2 = c .before .before .if2 in
+    λ words i e.
+    rw (
+      recorded-word words _ i 4 e (omega arith),
+      recorded-word words _ i 6 e (omega arith),
+      recorded-word words _ i 9 e (omega arith),
+      eq-eqb _ 0
+          (if2 .left),
+      eq-eqb _ 0 (c .if3 .left),
+      eq-eqb _ _ (if1 .left),
+    )
 
 pub value-levels-spec : {M : Type 1} → statement M
 value-levels-spec =

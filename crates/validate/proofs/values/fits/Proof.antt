@@ -20,13 +20,26 @@ loop-holds : tie.Need-loop-holds Inv-loop μ-loop
 loop-holds c = refl
 
 returns : tie.Need-returns Inv-loop μ-loop
-returns c = sym (every-not (characterOf (c .before .before .before .before .before .before .args .sort)) (c .before .before .before .before .before .before .args .bytes .now) (c .before .before .before .before .loop .i) (c .before .before .before .loop-test .taken) (c .before .character .ensures) (not-true _ (c .if1 .taken))) ∙ c .before .before .before .before .loop .inv
+returns c =
+    let args = c .before .before .before .before .before .before .args in
+    let loop = c .before .before .before .before .loop in
+    let loop-test = c .before .before .before .loop-test in
+    sym (every-not (characterOf (args .sort)) (args .bytes .now) (loop .i) (loop-test .taken) (c .before .character .ensures)
+    (not-true _ (c .if1 .taken))) ∙ loop .inv
 
 loop-again : tie.Need-loop-again Inv-loop μ-loop
-loop-again c = sym (every-on (characterOf (c .before .before .before .before .before .before .args .sort)) (c .before .before .before .before .before .before .args .bytes .now) (c .before .before .before .before .loop .i) (c .before .before .before .loop-test .taken) (c .before .character .ensures) (not-false _ (c .if1 .left))) ∙ c .before .before .before .before .loop .inv
+loop-again c =
+    let args = c .before .before .before .before .before .before .args in
+    let loop = c .before .before .before .before .loop in
+    let loop-test = c .before .before .before .loop-test in
+    sym (every-on (characterOf (args .sort)) (args .bytes .now) (loop .i) (loop-test .taken) (c .before .character .ensures)
+    (not-false _ (c .if1 .left))) ∙ loop .inv
 
 returns-2 : tie.Need-returns-2 Inv-loop μ-loop
-returns-2 c = sym (every-end (characterOf (c .before .before .before .args .sort)) (c .before .before .before .args .bytes .now) (c .before .loop .i) (c .loop-test .left)) ∙ c .before .loop .inv
+returns-2 c =
+    let args = c .before .before .before .args in
+    let loop = c .before .loop in
+    sym (every-end (characterOf (args .sort)) (args .bytes .now) (loop .i) (c .loop-test .left)) ∙ loop .inv
 
 pub fits-spec : {M : Type 1} → statement M
 fits-spec =

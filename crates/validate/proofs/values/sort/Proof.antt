@@ -14,15 +14,29 @@ returns-2 c = λ s. id-characters _ _ s (c .if2 .taken)
 
 returns-3 : tie.Need-returns-3
 unfolding namesBlock
-returns-3 c = λ s. link-characters _ _ s (omega (arith, c .before .before .before .before .before .before .pre, c .before .before .before .before .if1 .left, c .before .before .if2 .left)) (rw (eq-eqb _ _ (c .if3 .taken)))
+returns-3 c =
+    let pre = c .before .before .before .before .before .before .pre in
+    let if1 = c .before .before .before .before .if1 in
+    let if2 = c .before .before .if2 in
+    λ s. link-characters _ _ s (omega (arith, pre, if1 .left, if2 .left)) (rw (eq-eqb _ _ (c .if3 .taken)))
 
 returns-4 : tie.Need-returns-4
 unfolding namesBlock
-returns-4 c = λ s. link-characters _ _ s (omega (arith, c .before .before .before .before .before .before .before .before .pre, c .before .before .before .before .before .before .if1 .left, c .before .before .before .before .if2 .left)) (rw (ne-eqb _ _ (c .before .before .if3 .left), eq-eqb _ _ (c .if4 .taken)))
+returns-4 c =
+    let pre = c .before .before .before .before .before .before .before .before .pre in
+    let if1 = c .before .before .before .before .before .before .if1 in
+    let if2 = c .before .before .before .before .if2 in
+    let if3 = c .before .before .if3 in
+    λ s. link-characters _ _ s (omega (arith, pre, if1 .left, if2 .left)) (rw (ne-eqb _ _ (if3 .left), eq-eqb _ _ (c .if4 .taken)))
 
 returns-5 : tie.Need-returns-5
 unfolding namesBlock
-returns-5 c = λ s. uri-characters _ _ s (omega (arith, c .before .before .before .before .before .before .before .before .pre, c .before .before .before .before .before .before .if1 .left, c .before .before .before .before .if2 .left)) (rw (ne-eqb _ _ (c .before .before .if3 .left), ne-eqb _ _ (c .if4 .left)))
+returns-5 c =
+    let pre = c .before .before .before .before .before .before .before .before .pre in
+    let if1 = c .before .before .before .before .before .before .if1 in
+    let if2 = c .before .before .before .before .if2 in
+    let if3 = c .before .before .if3 in
+    λ s. uri-characters _ _ s (omega (arith, pre, if1 .left, if2 .left)) (rw (ne-eqb _ _ (if3 .left), ne-eqb _ _ (c .if4 .left)))
 
 pub sort-spec : {M : Type 1} → statement M
 sort-spec = tie.close (tie.spec returns returns-2 returns-3 returns-4 returns-5)

@@ -14,7 +14,11 @@ returns-3 : tie.Need-returns-3
 returns-3 c = size-high _ _ _ _ (c .before .before .if1 .left) (c .before .if2 .left) (c .if3 .taken)
 
 returns-4 : tie.Need-returns-4
-returns-4 c = size-taken _ _ _ _ (c .before .before .before .before .if1 .left) _ _ (c .before .before .before .if2 .left) (c .before .before .if3 .left) (c .before .step .ensures .stands)
+returns-4 c =
+    let if1 = c .before .before .before .before .if1 in
+    let if2 = c .before .before .before .if2 in
+    let if3 = c .before .before .if3 in
+    size-taken _ _ _ _ (if1 .left) _ _ (if2 .left) (if3 .left) (c .before .step .ensures .stands)
 
 pub take-size-spec : {M : Type 1} → statement M
 take-size-spec = tie.close (tie.spec returns returns-2 returns-3 (λ c κs. search needs) returns-4)

@@ -12,7 +12,12 @@ returns-2 : tie.Need-returns-2
 returns-2 c = value-fault _ _ _ _ _ (c .before .before .step .ensures .stands) _ (c .before .before .before .if1 .left) (c .if2 .taken)
 
 returns-3 : tie.Need-returns-3
-returns-3 c = value-taken _ _ _ _ _ (c .before .before .before .before .step .ensures .stands) (characterOf (c .before .sort .result)) _ (c .before .before .before .before .before .if1 .left) (c .before .before .if2 .left) (c .before .sort .ensures _) (c .fits2 .ensures)
+returns-3 c =
+    let if1 = c .before .before .before .before .before .if1 in
+    let step = c .before .before .before .before .step in
+    let if2 = c .before .before .if2 in
+    let sort = c .before .sort in
+    value-taken _ _ _ _ _ (step .ensures .stands) (characterOf (sort .result)) _ (if1 .left) (if2 .left) (sort .ensures _) (c .fits2 .ensures)
 
 pub take-value-spec : {M : Type 1} → statement M
 take-value-spec =

@@ -24,13 +24,19 @@ cast-part-2 c = omega (arith, c .shared-slice-known4 .given 4)
 
 take-value-requires : tie.Need-take-value-requires
 unfolding keyClass
-take-value-requires c κs = rw (c .key-class .ensures) (cond-case (λ (n : ℕ). (26 ≤ n) × (n ≤ 28)) (isBlock (c .before .before .before .before .before .before .before .args .kind)) (λ e. omega arith) (λ e. omega arith))
+take-value-requires c κs =
+    let args = c .before .before .before .before .before .before .before .args in
+    rw (c .key-class .ensures) (cond-case (λ (n : ℕ). (26 ≤ n) × (n ≤ 28)) (isBlock (args .kind)) (λ e. omega arith) (λ e. omega arith))
 
 returns : tie.Need-returns
 unfolding nodeValues stringAt
 returns c =
-    let r = c .before .before .before .before .before .before .before .words .ensures .0 in
-    let key = rw (c .before .before .before .key-class .ensures, c .before .before .before .before .part .ensures, word-in _ _ _ 3 r (omega arith), word-in _ _ _ 4 r (omega arith)) at (c .before .before .take-value .ensures) in
+    let words = c .before .before .before .before .before .before .before .words in
+    let part = c .before .before .before .before .part in
+    let key-class = c .before .before .before .key-class in
+    let take-value = c .before .before .take-value in
+    let r = words .ensures .0 in
+    let key = rw (key-class .ensures, part .ensures, word-in _ _ _ 3 r (omega arith), word-in _ _ _ 4 r (omega arith)) at (take-value .ensures) in
     takes-not key (not-true _ (c .if1 .taken))
 
 cast-take-size : tie.Need-cast-take-size
@@ -42,20 +48,34 @@ cast-take-size-2 c = omega (arith, c .shared-slice-known6 .given 10)
 returns-2 : tie.Need-returns-2
 unfolding nodeValues stringAt
 returns-2 c =
-    let r = c .before .before .before .before .before .before .before .before .before .before .before .before .words .ensures .0 in
-    let key = rw (c .before .before .before .before .before .before .before .before .key-class .ensures, c .before .before .before .before .before .before .before .before .before .part .ensures, word-in _ _ _ 3 r (omega arith), word-in _ _ _ 4 r (omega arith)) at (c .before .before .before .before .before .before .before .take-value .ensures) in
-    let size = rw (word-in _ _ _ 9 r (omega arith), word-in _ _ _ 10 r (omega arith)) at (c .before .before .take-size .ensures) in
-    takes-then key (not-false _ (c .before .before .before .before .before .if1 .left)) (takes-not size (not-true _ (c .if2 .taken)))
+    let words = c .before .before .before .before .before .before .before .before .before .before .before .before .words in
+    let part = c .before .before .before .before .before .before .before .before .before .part in
+    let key-class = c .before .before .before .before .before .before .before .before .key-class in
+    let take-value = c .before .before .before .before .before .before .before .take-value in
+    let if1 = c .before .before .before .before .before .if1 in
+    let take-size = c .before .before .take-size in
+    let r = words .ensures .0 in
+    let key = rw (key-class .ensures, part .ensures, word-in _ _ _ 3 r (omega arith), word-in _ _ _ 4 r (omega arith)) at (take-value .ensures) in
+    let size = rw (word-in _ _ _ 9 r (omega arith), word-in _ _ _ 10 r (omega arith)) at (take-size .ensures) in
+    takes-then key (not-false _ (if1 .left)) (takes-not size (not-true _ (c .if2 .taken)))
 
 returns-3 : tie.Need-returns-3
 unfolding nodeValues stringAt
 returns-3 c =
-    let r = c .before .before .before .before .before .before .before .before .before .before .before .before .before .before .words .ensures .0 in
-    let key = rw (c .before .before .before .before .before .before .before .before .before .before .key-class .ensures, c .before .before .before .before .before .before .before .before .before .before .before .part .ensures, word-in _ _ _ 3 r (omega arith), word-in _ _ _ 4 r (omega arith)) at (c .before .before .before .before .before .before .before .before .before .take-value .ensures) in
-    let size = rw (word-in _ _ _ 9 r (omega arith), word-in _ _ _ 10 r (omega arith)) at (c .before .before .before .before .take-size .ensures) in
-    let none = missing-string (c .before .before .before .before .before .before .before .before .before .before .before .before .before .before .before .before .before .args .nodes .now) (c .before .before .before .before .before .before .before .before .before .before .before .before .before .before .before .before .before .args .pool .now) (c .before .before .before .before .before .before .before .before .before .before .before .before .before .before .before .before .before .args .i) 5 (sym (word-in _ _ _ 6 r (omega arith)) ∙ c .if3 .taken) in
-    rw (not-false (c .before .before .before .before .take-size .result .ok) (c .before .before .if2 .left))
-    (takes-then key (not-false _ (c .before .before .before .before .before .before .before .if1 .left)) (takes-then size (not-false _ (c .before .before .if2 .left)) (value-missing _ _ _ _ (ap length none))))
+    let args = c .before .before .before .before .before .before .before .before .before .before .before .before .before .before .before .before .before .args in
+    let words = c .before .before .before .before .before .before .before .before .before .before .before .before .before .before .words in
+    let part = c .before .before .before .before .before .before .before .before .before .before .before .part in
+    let key-class = c .before .before .before .before .before .before .before .before .before .before .key-class in
+    let take-value = c .before .before .before .before .before .before .before .before .before .take-value in
+    let if1 = c .before .before .before .before .before .before .before .if1 in
+    let take-size = c .before .before .before .before .take-size in
+    let if2 = c .before .before .if2 in
+    let r = words .ensures .0 in
+    let key = rw (key-class .ensures, part .ensures, word-in _ _ _ 3 r (omega arith), word-in _ _ _ 4 r (omega arith)) at (take-value .ensures) in
+    let size = rw (word-in _ _ _ 9 r (omega arith), word-in _ _ _ 10 r (omega arith)) at (take-size .ensures) in
+    let none = missing-string (args .nodes .now) (args .pool .now) (args .i) 5 (sym (word-in _ _ _ 6 r (omega arith)) ∙ c .if3 .taken) in
+    rw (not-false (take-size .result .ok) (if2 .left))
+    (takes-then key (not-false _ (if1 .left)) (takes-then size (not-false _ (if2 .left)) (value-missing _ _ _ _ (ap length none))))
 
 cast-part-3 : tie.Need-cast-part-3
 cast-part-3 c = omega (arith, c .shared-slice-known8 .given 5)
@@ -66,11 +86,18 @@ cast-part-4 c = omega (arith, c .shared-slice-known9 .given 6)
 returns-4 : tie.Need-returns-4
 unfolding nodeValues stringAt
 returns-4 c =
-    let r = c .before .before .before .before .before .before .before .before .before .before .before .before .before .before .before .before .before .before .words .ensures .0 in
-    let key = rw (c .before .before .before .before .before .before .before .before .before .before .before .before .before .before .key-class .ensures, c .before .before .before .before .before .before .before .before .before .before .before .before .before .before .before .part .ensures, word-in _ _ _ 3 r (omega arith), word-in _ _ _ 4 r (omega arith)) at (c .before .before .before .before .before .before .before .before .before .before .before .before .before .take-value .ensures) in
-    let size = rw (word-in _ _ _ 9 r (omega arith), word-in _ _ _ 10 r (omega arith)) at (c .before .before .before .before .before .before .before .before .take-size .ensures) in
+    let words = c .before .before .before .before .before .before .before .before .before .before .before .before .before .before .before .before .before .before .words in
+    let part = c .before .before .before .before .before .before .before .before .before .before .before .before .before .before .before .part in
+    let key-class = c .before .before .before .before .before .before .before .before .before .before .before .before .before .before .key-class in
+    let take-value = c .before .before .before .before .before .before .before .before .before .before .before .before .before .take-value in
+    let if1 = c .before .before .before .before .before .before .before .before .before .before .before .if1 in
+    let take-size = c .before .before .before .before .before .before .before .before .take-size in
+    let if2 = c .before .before .before .before .before .before .if2 in
+    let r = words .ensures .0 in
+    let key = rw (key-class .ensures, part .ensures, word-in _ _ _ 3 r (omega arith), word-in _ _ _ 4 r (omega arith)) at (take-value .ensures) in
+    let size = rw (word-in _ _ _ 9 r (omega arith), word-in _ _ _ 10 r (omega arith)) at (take-size .ensures) in
     let type = rw (c .before .part2 .ensures, word-in _ _ _ 5 r (omega arith), word-in _ _ _ 6 r (omega arith)) at (c .take-value2 .ensures) in
-    takes-then key (not-false _ (c .before .before .before .before .before .before .before .before .before .before .before .if1 .left)) (takes-then size (not-false _ (c .before .before .before .before .before .before .if2 .left)) type)
+    takes-then key (not-false _ (if1 .left)) (takes-then size (not-false _ (if2 .left)) type)
 
 pub values-spec : {M : Type 1} → statement M
 values-spec =
