@@ -8,7 +8,16 @@ ghost use Rattle.elements.specs.rules.Class as Class;
 ghost use Rattle.syntax.specs.reference.Scan.{ordinaryRun};
 ghost use Rattle.lexer.specs.Token.{a-list, a-string, a-symbol, blanks, leadClassAt, leadLength, seen, seenFirst, stringAt, the-end};
 
-// What is seen at a place after white space: sort 0 the end of the run, 1 a symbol, 2 a string, 3 a list.
+// The sorts of what is seen at a place, under the names of specs/Token.antt: the end of the run, a symbol, a string, a list.
+pub const THE_END: u8 = 0;
+
+pub const A_SYMBOL: u8 = 1;
+
+pub const A_STRING: u8 = 2;
+
+pub const A_LIST: u8 = 3;
+
+// What is seen at a place after white space.
 pub struct Seen {
     pub sort: u8,
     pub place: usize,
@@ -60,7 +69,7 @@ fn nothing_seen(place: usize) -> Seen
     ensures { λ r. ⌜ (r .sort ≡ the-end) × (r .place ≡ place) × (r .class ≡ 0) × (r .next ≡ place) × (r .length ≡ 0) ⌝ }
 {
     Seen {
-        sort: 0,
+        sort: THE_END,
         place,
         class: 0,
         next: place,
@@ -78,7 +87,7 @@ fn symbol_seen(text: &[u8], place: usize) -> Seen
 {
     let next = symbol_end(text, place);
     Seen {
-        sort: 1,
+        sort: A_SYMBOL,
         place,
         class: kind::Kind::TEXT.number,
         next,
@@ -96,7 +105,7 @@ fn string_seen(text: &[u8], place: usize) -> Seen
 {
     let string = string_at(text, place);
     Seen {
-        sort: 2,
+        sort: A_STRING,
         place,
         class: kind::Kind::TEXT.number,
         next: string.next,
@@ -117,7 +126,7 @@ fn list_seen(text: &[u8], place: usize) -> Seen
     let next = symbol_end(text, from);
     let class = kind::class_of(&text[from..next]);
     Seen {
-        sort: 3,
+        sort: A_LIST,
         place,
         class,
         next,

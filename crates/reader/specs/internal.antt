@@ -9,5 +9,6 @@ pub mod ParameterValue
 pub mod RunStands
 pub mod TableCheck
 pub mod Tape
+pub mod TapeWord
 pub mod Walk
 pub mod WalkAnswer

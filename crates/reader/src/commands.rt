@@ -1,6 +1,12 @@
 // The judging walk over the blocks of an imperative text (document 01, "Imperative"). A command closes before its content, which follows up to the
 // next command that ends the block; what stands in a command and in its content is walked as in the nested spelling.
+use super::tape::MISSING;
+use super::tape::TAPE_WORDS;
 use super::tape::enter;
+use super::walk::DOCUMENT;
+use super::walk::NOT_ALLOWED;
+use super::walk::NOT_ONE_EXPRESSION;
+use super::walk::TEXT;
 use super::walk::Turn;
 use super::walk::Walked;
 use super::walk::at_end;
@@ -9,34 +15,50 @@ use super::walk::inside;
 use super::walk::leave;
 use super::walk::past_bracket;
 use super::walk::refusal;
+use kind::Keyword;
 use kind::Kind;
 use kind::step;
+use lexer::A_LIST;
 use lexer::Seen;
+use lexer::THE_END;
 use lexer::look;
 ghost use mathlib.Core.Path.{_≡_};
 ghost use Prim.Native.Nat.{ℕ, _+_, _≤_, _<_};
 ghost use lib.ListN.{length};
+ghost use Rattle.base.specs.rules.Limits.{mostBytes, imperativeLevels, missing};
 ghost use Rattle.document.specs.rules.Spelling.{isBlockParameter};
 ghost use Rattle.syntax.specs.rules.Expression.{Expr, Exprs, and, depthAll};
 ghost use Rattle.document.specs.rules.Spelling.{Spelling};
 ghost use Rattle.document.specs.reference.Imperative.{regroup};
 ghost use Rattle.document.specs.reference.Outcome.{oneExpression};
 ghost use Rattle.reader.specs.internal.Tape.{taped};
+ghost use Rattle.reader.specs.internal.TapeWord.{tapeWords, mostWord};
 ghost use Rattle.reader.specs.internal.RunStands.{RunStands};
 ghost use Rattle.reader.specs.internal.WalkAnswer.{Bounded, readWalked};
 ghost use Rattle.reader.specs.internal.BlockWalk.{commandClass, looseClass, leadsCommand, endsAt, TurnAs, InCommand, InContent, Belongs, JudgesChild};
+
+// The parameters of blocks, and the first and the last of the kinds of commands.
+const TITLE: u8 = Kind::TITLE.number;
+
+const ID: u8 = Keyword::ID.number;
+
+const TYPE: u8 = Keyword::TYPE.number;
+
+const PART: u8 = Kind::PART.number;
+
+const FOOTNOTE: u8 = Kind::FOOTNOTE.number;
 
 // Title, id and type: the parameters of blocks.
 fn is_parameter(class: u8) -> bool
     ensures { λ r. ⌜ r ≡ isBlockParameter class ⌝ }
 {
-    if class == 8 {
+    if class == TITLE {
         return true;
     }
-    if class == 26 {
+    if class == ID {
         return true;
     }
-    class == 27
+    class == TYPE
 }
 
 // "A command holds its parameters only": what else stands in it counts as class 0, which is allowed nowhere.
@@ -56,7 +78,7 @@ fn loose(class: u8) -> u8
     if is_parameter(class) {
         return 0;
     }
-    if class == 1 {
+    if class == DOCUMENT {
         return 0;
     }
     class
@@ -66,17 +88,17 @@ fn loose(class: u8) -> u8
 pub fn is_command(class: u8) -> bool
     ensures { λ r. ⌜ r ≡ leadsCommand class ⌝ }
 {
-    if class < 2 {
+    if class < PART {
         return false;
     }
-    class <= 7
+    class <= FOOTNOTE
 }
 
 // A block ends where nothing is seen, and at a command of no lesser significance.
 fn ends(kind: u8, sort: u8, class: u8) -> bool
     ensures { λ r. ⌜ r ≡ endsAt kind sort class ⌝ }
 {
-    if sort == 0 {
+    if sort == THE_END {
         return true;
     }
     if !is_command(class) {
@@ -98,9 +120,9 @@ fn turn_as(
     nodes: usize,
     pool: usize,
     node: usize,
-    tape: &mut [u32; 32768],
+    tape: &mut [u32; TAPE_WORDS],
 ) -> Turn
-    requires { ⌜ (nodes ≤ i) × (i < seen .next → pool + seen .length ≤ seen .next) × (i ≤ 65536) × (seen .place ≤ 65536) × (node ≤ 4294967295) ⌝ }
+    requires { ⌜ (nodes ≤ i) × (i < seen .next → pool + seen .length ≤ seen .next) × (i ≤ mostBytes) × (seen .place ≤ mostBytes) × (node ≤ mostWord) ⌝ }
     ensures { λ r. ⌜ TurnAs at i (seen .sort) (seen .place) (seen .next) (seen .length) class kind state nodes pool node
         (now (tape .entry)) (now (tape .exit)) r ⌝ }
 {
@@ -112,12 +134,12 @@ fn turn_as(
     }
     // not where expressions stand, but on any bytes the walk is to end
     if next <= i {
-        return Turn::Done(refusal(8, place));
+        return Turn::Done(refusal(NOT_ALLOWED, place));
     }
-    if seen.sort == 3 {
+    if seen.sort == A_LIST {
         return Turn::List(place, class, next, taken.state);
     }
-    enter(tape, nodes, place, 9, node, nodes + 1);
+    enter(tape, nodes, place, TEXT, node, nodes + 1);
     Turn::Atom(next, nodes + 1, pool + seen.length, taken.state)
 }
 
@@ -130,9 +152,9 @@ fn block(
     nodes: usize,
     pool: usize,
     node: usize,
-    tape: &mut [u32; 32768],
+    tape: &mut [u32; TAPE_WORDS],
 ) -> Walked
-    requires { ⌜ (from ≤ length (now text)) × (nodes ≤ from) × (pool ≤ from) × (length (now text) ≤ 65536) × (node ≤ 4294967295) ⌝ }
+    requires { ⌜ (from ≤ length (now text)) × (nodes ≤ from) × (pool ≤ from) × (length (now text) ≤ mostBytes) × (node ≤ mostWord) ⌝ }
     ensures { λ r. ⌜ Bounded (now (text .entry)) from r ⌝ }
     ensures { λ r. ⌜ InCommand (now (text .entry)) at kind node from 0 nodes pool (now (tape .entry)) (now (tape .exit)) r ⌝ }
 {
@@ -143,10 +165,10 @@ fn block(
     loop {
         let seen = look(text, i);
         let end = seen.place;
-        if seen.sort == 0 {
+        if seen.sort == THE_END {
             // that there is a bracket is known only where expressions stand
             if text.len() <= end {
-                return refusal(8, end);
+                return refusal(NOT_ALLOWED, end);
             }
             return content(text, at, end + 1, kind, state, n, p, node, tape);
         }
@@ -201,9 +223,9 @@ fn content(
     nodes: usize,
     pool: usize,
     node: usize,
-    tape: &mut [u32; 32768],
+    tape: &mut [u32; TAPE_WORDS],
 ) -> Walked
-    requires { ⌜ (from ≤ length (now text)) × (nodes ≤ from) × (pool ≤ from) × (length (now text) ≤ 65536) × (node ≤ 4294967295) ⌝ }
+    requires { ⌜ (from ≤ length (now text)) × (nodes ≤ from) × (pool ≤ from) × (length (now text) ≤ mostBytes) × (node ≤ mostWord) ⌝ }
     ensures { λ r. ⌜ Bounded (now (text .entry)) from r ⌝ }
     ensures { λ r. ⌜ InContent (now (text .entry)) at kind node from read nodes pool (now (tape .entry)) (now (tape .exit)) r ⌝ }
 {
@@ -264,9 +286,9 @@ fn child(
     nodes: usize,
     pool: usize,
     node: usize,
-    tape: &mut [u32; 32768],
+    tape: &mut [u32; TAPE_WORDS],
 ) -> Walked
-    requires { ⌜ (from ≤ length (now text)) × (nodes < from) × (pool ≤ from) × (length (now text) ≤ 65536) × (node ≤ 4294967295)
+    requires { ⌜ (from ≤ length (now text)) × (nodes < from) × (pool ≤ from) × (length (now text) ≤ mostBytes) × (node ≤ mostWord)
         × (at ≤ length (now text)) × Belongs parent class ⌝ }
     ensures { λ r. ⌜ Bounded (now (text .entry)) from r ⌝ }
     ensures { λ r. ⌜ JudgesChild (now (text .entry)) at from parent class nodes pool node (now (tape .entry)) (now (tape .exit)) r ⌝ }
@@ -284,28 +306,28 @@ fn child(
 }
 
 // Judges an imperative text that was scanned: 7 to 12, or the counts of its document.
-pub fn judge_imperative(text: &[u8], tape: &mut [u32; 32768]) -> Walked
-    requires { ⌜ length (now text) ≤ 65536 ⌝ }
-    ensures { λ r. ⌜ ((es : Exprs) → RunStands (now (text .entry)) 0 es (length (now (text .entry))) → depthAll es ≤ 59
+pub fn judge_imperative(text: &[u8], tape: &mut [u32; TAPE_WORDS]) -> Walked
+    requires { ⌜ length (now text) ≤ mostBytes ⌝ }
+    ensures { λ r. ⌜ ((es : Exprs) → RunStands (now (text .entry)) 0 es (length (now (text .entry))) → depthAll es ≤ imperativeLevels
         → r ≡ readWalked (oneExpression Spelling.imperative (length (now (text .entry))) es)) ⌝ }
-    ensures { λ r. ⌜ ((e : Expr) (es : Exprs) → RunStands (now (text .entry)) 0 (and e es) (length (now (text .entry))) → depthAll (and e es) ≤ 59
-        → r .number ≡ 0 → length (now (tape .entry)) ≡ 32768 → now (tape .exit) ≡ taped (now (tape .entry)) 0 4294967295 (regroup e es)) ⌝ }
+    ensures { λ r. ⌜ ((e : Expr) (es : Exprs) → RunStands (now (text .entry)) 0 (and e es) (length (now (text .entry))) → depthAll (and e es) ≤ imperativeLevels
+        → r .number ≡ 0 → length (now (tape .entry)) ≡ tapeWords → now (tape .exit) ≡ taped (now (tape .entry)) 0 missing (regroup e es)) ⌝ }
 {
     let seen = look(text, 0);
     let place = seen.place;
-    if seen.sort == 0 {
-        return refusal(7, text.len());
+    if seen.sort == THE_END {
+        return refusal(NOT_ONE_EXPRESSION, text.len());
     }
-    if seen.class != 1 {
-        return refusal(8, place);
+    if seen.class != DOCUMENT {
+        return refusal(NOT_ALLOWED, place);
     }
     let next = seen.next;
     // not where expressions stand
     if next < 1 {
-        return refusal(8, place);
+        return refusal(NOT_ALLOWED, place);
     }
-    enter(tape, 0, place, 1, 4294967295, 0);
-    let w = block(text, place, next, 1, 1, 0, 0, tape);
+    enter(tape, 0, place, DOCUMENT, MISSING, 0);
+    let w = block(text, place, next, DOCUMENT, 1, 0, 0, tape);
     leave(tape, 0, w);
     if w.number != 0 {
         return w;

@@ -1,14 +1,22 @@
 // Judging a nested text that was scanned: first 7, for no expression or a second one, then 8 to 12 of the one there is.
+use super::tape::MISSING;
+use super::tape::TAPE_WORDS;
 use super::tape::enter;
+use super::walk::DOCUMENT;
+use super::walk::NOT_ALLOWED;
+use super::walk::NOT_ONE_EXPRESSION;
 use super::walk::Walked;
 use super::walk::inline;
 use super::walk::leave;
 use super::walk::past_bracket;
 use super::walk::refusal;
+use lexer::A_LIST;
+use lexer::THE_END;
 use lexer::look;
 ghost use mathlib.Core.Path.{_≡_};
 ghost use Prim.Native.Nat.{ℕ, _≤_};
 ghost use lib.ListN.{length};
+ghost use Rattle.base.specs.rules.Limits.{mostBytes, missing};
 ghost use Rattle.syntax.specs.rules.Expression.{Expr, Exprs, none, and};
 ghost use Rattle.document.specs.rules.Spelling.{nested};
 ghost use Rattle.document.specs.reference.Outcome.{oneExpression};
@@ -16,6 +24,7 @@ ghost use Rattle.reader.specs.internal.RunStands.{RunStands};
 ghost use Rattle.reader.specs.internal.FirstExpressions.{firstPlace, secondPlace, FirstJudged};
 ghost use Rattle.reader.specs.internal.WalkAnswer.{readWalked};
 ghost use Rattle.reader.specs.internal.Tape.{taped};
+ghost use Rattle.reader.specs.internal.TapeWord.{tapeWords};
 
 // Where the run of expressions from a place on ends, whatever its lists hold.
 fn run_end(text: &[u8], from: usize) -> usize
@@ -27,7 +36,7 @@ fn run_end(text: &[u8], from: usize) -> usize
         let seen = look(text, i);
         let place = seen.place;
         let next = seen.next;
-        if seen.sort == 0 {
+        if seen.sort == THE_END {
             if depth == 0 {
                 return place;
             }
@@ -43,7 +52,7 @@ fn run_end(text: &[u8], from: usize) -> usize
         if next <= i {
             return i;
         }
-        if seen.sort == 3 {
+        if seen.sort == A_LIST {
             depth += 1;
             i = place + 1;
             continue;
@@ -59,7 +68,7 @@ fn past_first(text: &[u8], from: usize) -> usize
     ensures { λ r. ⌜ ((x : Expr) (es : Exprs) (e : ℕ) → RunStands (now (text .entry)) from (and x es) e → RunStands (now (text .entry)) r es e) ⌝ }
 {
     let seen = look(text, from);
-    if seen.sort != 3 {
+    if seen.sort != A_LIST {
         return seen.next;
     }
     // a list that is cut off or not closed: not where expressions stand
@@ -79,7 +88,7 @@ fn first_place(text: &[u8], from: usize) -> usize
     ensures { λ r. ⌜ ((es : Exprs) → RunStands (now (text .entry)) from es (length (now (text .entry))) → r ≡ firstPlace (length (now (text .entry))) es) ⌝ }
 {
     let seen = look(text, from);
-    if seen.sort == 0 {
+    if seen.sort == THE_END {
         return text.len();
     }
     seen.place
@@ -90,7 +99,7 @@ fn second(text: &[u8]) -> usize
     ensures { λ r. ⌜ ((es : Exprs) → RunStands (now (text .entry)) 0 es (length (now (text .entry))) → r ≡ secondPlace (length (now (text .entry))) es) ⌝ }
 {
     let first = look(text, 0);
-    if first.sort == 0 {
+    if first.sort == THE_END {
         return text.len();
     }
     first_place(text, past_first(text, 0))
@@ -108,43 +117,43 @@ fn second_after(text: &[u8], w: Walked) -> usize
 }
 
 // 7 for no expression, or 8 to 12 of the first one, whatever follows it. The root counts as one node.
-fn judge_first(text: &[u8], tape: &mut [u32; 32768]) -> Walked
-    requires { ⌜ length (now text) ≤ 65536 ⌝ }
+fn judge_first(text: &[u8], tape: &mut [u32; TAPE_WORDS]) -> Walked
+    requires { ⌜ length (now text) ≤ mostBytes ⌝ }
     ensures { λ r. ⌜ ((es : Exprs) → RunStands (now (text .entry)) 0 es (length (now (text .entry))) → FirstJudged (now (text .entry)) es r) ⌝ }
     ensures { λ r. ⌜ ((e : Expr) (es : Exprs) → RunStands (now (text .entry)) 0 (and e es) (length (now (text .entry))) → r .number ≡ 0
-        → length (now (tape .entry)) ≡ 32768 → now (tape .exit) ≡ taped (now (tape .entry)) 0 4294967295 e) ⌝ }
+        → length (now (tape .entry)) ≡ tapeWords → now (tape .exit) ≡ taped (now (tape .entry)) 0 missing e) ⌝ }
 {
     let root = look(text, 0);
-    if root.sort == 0 {
-        return refusal(7, text.len());
+    if root.sort == THE_END {
+        return refusal(NOT_ONE_EXPRESSION, text.len());
     }
     let place = root.place;
     let next = root.next;
-    if root.class != 1 {
-        return refusal(8, place);
+    if root.class != DOCUMENT {
+        return refusal(NOT_ALLOWED, place);
     }
     // not where expressions stand, but on any bytes the walk is to start within the text
     if next == 0 {
-        return refusal(8, place);
+        return refusal(NOT_ALLOWED, place);
     }
-    enter(tape, 0, place, 1, 4294967295, 0);
-    let w = inline(text, place, next, 1, 1, 0, 0, tape);
+    enter(tape, 0, place, DOCUMENT, MISSING, 0);
+    let w = inline(text, place, next, DOCUMENT, 1, 0, 0, tape);
     leave(tape, 0, w);
     past_bracket(text, w)
 }
 
 // 7 to 12, or the counts of the document. 7 comes before 8 to 12; but the walk over the root comes first, since it finds the root's end.
-pub fn judge_nested(text: &[u8], tape: &mut [u32; 32768]) -> Walked
-    requires { ⌜ length (now text) ≤ 65536 ⌝ }
+pub fn judge_nested(text: &[u8], tape: &mut [u32; TAPE_WORDS]) -> Walked
+    requires { ⌜ length (now text) ≤ mostBytes ⌝ }
     ensures { λ r. ⌜ ((es : Exprs) → RunStands (now (text .entry)) 0 es (length (now (text .entry)))
         → r ≡ readWalked (oneExpression nested (length (now (text .entry))) es)) ⌝ }
     ensures { λ r. ⌜ ((e : Expr) → RunStands (now (text .entry)) 0 (and e none) (length (now (text .entry))) → r .number ≡ 0
-        → length (now (tape .entry)) ≡ 32768 → now (tape .exit) ≡ taped (now (tape .entry)) 0 4294967295 e) ⌝ }
+        → length (now (tape .entry)) ≡ tapeWords → now (tape .exit) ≡ taped (now (tape .entry)) 0 missing e) ⌝ }
 {
     let w = judge_first(text, tape);
     let other = second_after(text, w);
     if other < text.len() {
-        return refusal(7, other);
+        return refusal(NOT_ONE_EXPRESSION, other);
     }
     Walked {
         number: w.number,

@@ -1,8 +1,19 @@
 // The value of a parameter: of an id, a target or a type one text or symbol, of a size two numbers. What is malformed is refused by 10.
+use super::tape::HEIGHT;
+use super::tape::KEY;
+use super::tape::TAPE_WORDS;
+use super::tape::TYPE;
+use super::tape::WIDTH;
 use super::tape::note;
+use super::walk::MALFORMED;
 use super::walk::Walked;
 use super::walk::closes;
 use super::walk::refusal;
+use kind::Keyword;
+use kind::Kind;
+use lexer::A_STRING;
+use lexer::A_SYMBOL;
+use lexer::THE_END;
 use lexer::atom_fits;
 use lexer::look;
 ghost use mathlib.Core.Path.{_≡_};
@@ -10,6 +21,7 @@ ghost use mathlib.Core.Bool.{cond, _&&_};
 ghost use Prim.Native.Nat.{ℕ, _+_, _≤_};
 ghost use lib.Dec.{eqb};
 ghost use lib.ListN.{length, take, drop};
+ghost use Rattle.base.specs.rules.Limits.{mostBytes};
 ghost use Rattle.elements.specs.rules.Class as Class;
 ghost use Rattle.syntax.specs.rules.Expression.{Exprs, Expr};
 ghost use Rattle.lexer.specs.Token.{atomValue};
@@ -17,8 +29,37 @@ ghost use Rattle.document.specs.rules.Value.{nonEmpty, isValue, namesBlock};
 ghost use Rattle.document.specs.reference.Meaning.{judgeValue, valueTree, sizeTree, numberOf};
 ghost use Rattle.reader.specs.internal.RunStands.{RunStands};
 ghost use Rattle.reader.specs.internal.Counts.{valueSize};
+ghost use Rattle.reader.specs.internal.TapeWord as TapeWord;
 ghost use Rattle.reader.specs.internal.WalkAnswer.{walkedTo, Bounded};
 ghost use Rattle.reader.specs.internal.ParameterValue.{HoldsOne, ReadsNumber, Notes, holdsSort};
+
+// Parameters by their numbers.
+const ID: u8 = Keyword::ID.number;
+
+const TYPE_NAME: u8 = Keyword::TYPE.number;
+
+const TARGET: u8 = Keyword::TARGET.number;
+
+const SIZE: u8 = Keyword::SIZE.number;
+
+// The elements whose target names a block.
+const LINK: u8 = Kind::LINK.number;
+
+const FOOTNOTE_REF: u8 = Kind::FOOTNOTE_REF.number;
+
+// The sorts of characters that `atom_fits` knows: of a type, of an id, of a URI.
+const TYPE_CHARACTERS: u8 = 0;
+
+const ID_CHARACTERS: u8 = 1;
+
+const URI_CHARACTERS: u8 = 2;
+
+// The largest width or height, how many digits one has at most, and what stands for no such number.
+const MOST_NUMBER: usize = 65535;
+
+const MOST_DIGITS: usize = 5;
+
+const NO_NUMBER: usize = MOST_NUMBER + 1;
 
 // The one text or symbol of a run: its place, the length of what it stands for, and the place where the run ends.
 pub struct One {
@@ -68,7 +109,7 @@ fn only(text: &[u8], from: usize, class: u8) -> One
     }
     let last = look(text, next);
     One {
-        good: last.sort == 0,
+        good: last.sort == THE_END,
         place: first.place,
         length: first.length,
         end: last.place,
@@ -79,13 +120,13 @@ fn only(text: &[u8], from: usize, class: u8) -> One
 fn is_held(class: u8, sort: u8) -> bool
     ensures { λ r. ⌜ r ≡ holdsSort class sort ⌝ }
 {
-    if sort == 1 {
+    if sort == A_SYMBOL {
         return true;
     }
-    if class == 27 {
+    if class == TYPE_NAME {
         return false;
     }
-    sort == 2
+    sort == A_STRING
 }
 
 // The symbol or string at `place` has the characters of a value of a class in an element of a kind.
@@ -93,9 +134,9 @@ fn is_value(text: &[u8], place: usize, kind: u8, class: u8) -> bool
     ensures { λ r. ⌜ nonEmpty (atomValue (drop place (now (text .entry)))) && r ≡ isValue kind class (atomValue (drop place (now (text .entry)))) ⌝ }
 {
     match class {
-        26 => atom_fits(text, place, 1),
-        27 => atom_fits(text, place, 0),
-        28 => atom_fits(text, place, target_sort(kind)),
+        ID => atom_fits(text, place, ID_CHARACTERS),
+        TYPE_NAME => atom_fits(text, place, TYPE_CHARACTERS),
+        TARGET => atom_fits(text, place, target_sort(kind)),
         _ => false,
     }
 }
@@ -104,13 +145,13 @@ fn is_value(text: &[u8], place: usize, kind: u8, class: u8) -> bool
 fn target_sort(kind: u8) -> u8
     ensures { λ r. ⌜ r ≡ cond (namesBlock kind) 1 2 ⌝ }
 {
-    if kind == 13 {
-        return 1;
+    if kind == LINK {
+        return ID_CHARACTERS;
     }
-    if kind == 15 {
-        return 1;
+    if kind == FOOTNOTE_REF {
+        return ID_CHARACTERS;
     }
-    2
+    URI_CHARACTERS
 }
 
 // The number that `length` bytes from `place` on write, or 65,536 where they are not one to five decimal digits.
@@ -119,23 +160,23 @@ fn decimal(text: &[u8], place: usize, length: usize) -> usize
     ensures { λ r. ⌜ r ≡ numberOf (Expr.symbol place (take length (drop place (now (text .entry))))) ⌝ }
 {
     if length == 0 {
-        return 65536;
+        return NO_NUMBER;
     }
-    if 5 < length {
-        return 65536;
+    if MOST_DIGITS < length {
+        return NO_NUMBER;
     }
     let end = place + length;
     let mut number: usize = 0;
     let mut i = place;
     while i < end {
         let b = text[i];
-        if b < 48 {
-            return 65536;
+        if b < b'0' {
+            return NO_NUMBER;
         }
-        if 57 < b {
-            return 65536;
+        if b'9' < b {
+            return NO_NUMBER;
         }
-        number = number * 10 + (b - 48) as usize;
+        number = number * 10 + (b - b'0') as usize;
         i += 1;
     }
     number
@@ -148,16 +189,16 @@ fn number_at(text: &[u8], from: usize) -> Number
 {
     let seen = look(text, from);
     let next = seen.next;
-    if seen.sort != 1 {
+    if seen.sort != A_SYMBOL {
         return Number {
-            number: 65536,
+            number: NO_NUMBER,
             next: from,
         };
     }
     // Not where expressions stand.
     if next <= from {
         return Number {
-            number: 65536,
+            number: NO_NUMBER,
             next: from,
         };
     }
@@ -176,7 +217,7 @@ fn size(
     nodes: usize,
     pool: usize,
     node: usize,
-    tape: &mut [u32; 32768],
+    tape: &mut [u32; TAPE_WORDS],
 ) -> Walked
     requires { ⌜ (from ≤ length (now text)) × (nodes ≤ from) × (pool ≤ from) ⌝ }
     ensures { λ r. ⌜ Bounded (now (text .entry)) from r ⌝ }
@@ -185,19 +226,19 @@ fn size(
     ensures { λ r. ⌜ Notes (now (text .entry)) from Class.size node (now (tape .entry)) r (now (tape .exit)) ⌝ }
 {
     let width = number_at(text, from);
-    if 65535 < width.number {
-        return refusal(10, at);
+    if MOST_NUMBER < width.number {
+        return refusal(MALFORMED, at);
     }
     let height = number_at(text, width.next);
-    if 65535 < height.number {
-        return refusal(10, at);
+    if MOST_NUMBER < height.number {
+        return refusal(MALFORMED, at);
     }
     let last = look(text, height.next);
-    if last.sort != 0 {
-        return refusal(10, at);
+    if last.sort != THE_END {
+        return refusal(MALFORMED, at);
     }
-    note(tape, node, 6, width.number);
-    note(tape, node, 7, height.number);
+    note(tape, node, WIDTH, width.number);
+    note(tape, node, HEIGHT, height.number);
     Walked {
         number: 0,
         place: 0,
@@ -209,12 +250,12 @@ fn size(
 
 // The word of a node for the place of what a parameter of a class holds.
 fn word_of(class: u8) -> usize
-    ensures { λ r. ⌜ r ≡ cond (eqb class Class.type) 5 4 ⌝ }
+    ensures { λ r. ⌜ r ≡ cond (eqb class Class.type) TapeWord.type TapeWord.key ⌝ }
 {
-    if class == 27 {
-        return 5;
+    if class == TYPE_NAME {
+        return TYPE;
     }
-    4
+    KEY
 }
 
 // A list at `at` led by a parameter's name of a class, in an element of a kind with number `node`; what follows the name starts at `from`.
@@ -227,23 +268,23 @@ pub fn value(
     nodes: usize,
     pool: usize,
     node: usize,
-    tape: &mut [u32; 32768],
+    tape: &mut [u32; TAPE_WORDS],
 ) -> Walked
-    requires { ⌜ (from ≤ length (now text)) × (length (now text) ≤ 65536) × (nodes ≤ from) × (pool ≤ from) ⌝ }
+    requires { ⌜ (from ≤ length (now text)) × (length (now text) ≤ mostBytes) × (nodes ≤ from) × (pool ≤ from) ⌝ }
     ensures { λ r. ⌜ Bounded (now (text .entry)) from r ⌝ }
     ensures { λ r. ⌜ ((es : Exprs) (m : ℕ) → RunStands (now (text .entry)) from es m
         → r ≡ walkedTo m nodes (pool + valueSize class es) (judgeValue kind at (valueTree class es))) ⌝ }
     ensures { λ r. ⌜ Notes (now (text .entry)) from class node (now (tape .entry)) r (now (tape .exit)) ⌝ }
 {
-    if class == 29 {
+    if class == SIZE {
         return size(text, at, from, kind, nodes, pool, node, tape);
     }
     let one = only(text, from, class);
     if !one.good {
-        return refusal(10, at);
+        return refusal(MALFORMED, at);
     }
     if !is_value(text, one.place, kind, class) {
-        return refusal(10, at);
+        return refusal(MALFORMED, at);
     }
     note(tape, node, word_of(class), one.place);
     Walked {

@@ -2,12 +2,18 @@
 // "An item holds inline content, and inline content holds lists of items": the walk over inline content
 // calls the list and item walks, which call it back, and the bytes left fall.
 // Only the walk over inline content takes its turns by `next_turn`, so that the compiler puts that into its loop.
+use super::tape::END;
+use super::tape::TAPE_WORDS;
 use super::tape::enter;
 use super::tape::note;
 use super::value::value;
+use base::number;
+use kind::Kind;
 use kind::may_end;
 use kind::step;
+use lexer::A_LIST;
 use lexer::ROUND_END;
+use lexer::THE_END;
 use lexer::byte_class;
 use lexer::look;
 ghost use mathlib.Core.Path.{_≡_};
@@ -16,6 +22,9 @@ ghost use mathlib.Core.Bool.{cond, true};
 ghost use Prim.Native.Nat.{_≤_, _<_};
 ghost use lib.Dec.{eqb};
 ghost use lib.ListN.{length, drop};
+ghost use Rattle.base.specs.rules.Limits.{mostBytes};
+ghost use Rattle.base.specs.rules.Numbers as Number;
+ghost use Rattle.elements.specs.rules.Class as Class;
 ghost use Rattle.elements.specs.rules.Class.{isElement};
 ghost use Rattle.elements.specs.rules.Inside.{ended};
 ghost use Rattle.kind.specs.Machine.{stateOf};
@@ -23,7 +32,30 @@ ghost use Rattle.lexer.specs.Token.{seen, the-end};
 ghost use Rattle.document.specs.reference.Meaning.{Verdict};
 ghost use Rattle.reader.specs.internal.WalkAnswer.{walkedTo, Bounded};
 ghost use Rattle.reader.specs.internal.Tape.{left};
+ghost use Rattle.reader.specs.internal.TapeWord.{tapeWords, mostWord};
 ghost use Rattle.reader.specs.internal.Walk.{AnswersFrom, Finishes, JudgesList, TurnFrom, TurnWithin, pastBracket};
+
+// The numbers answered by a walk. A step of `kind` tells its faults as bytes, so a walk takes them so.
+pub const NOT_ONE_EXPRESSION: u8 = number::NOT_ONE_EXPRESSION as u8;
+
+pub const NOT_ALLOWED: u8 = number::NOT_ALLOWED as u8;
+
+pub const ABSENT: u8 = number::ABSENT as u8;
+
+pub const MALFORMED: u8 = number::MALFORMED as u8;
+
+// Kinds by their numbers.
+pub const DOCUMENT: u8 = Kind::DOCUMENT.number;
+
+pub const TEXT: u8 = Kind::TEXT.number;
+
+const ITEM: u8 = Kind::ITEM.number;
+
+const CELL: u8 = Kind::CELL.number;
+
+const LIST_ORDERED: u8 = Kind::LIST_ORDERED.number;
+
+const LIST_UNORDERED: u8 = Kind::LIST_UNORDERED.number;
 
 pub struct Walked {
     pub number: u32,
@@ -57,9 +89,9 @@ pub fn refusal(number: u8, place: usize) -> Walked
 
 // 9 is placed at the element's bracket, the others at the expression itself.
 pub fn fault_at(number: u8, at: usize, place: usize) -> Walked
-    ensures { λ r. ⌜ r ≡ walkedTo 0 0 0 (Verdict.fault number (cond (eqb number 9) at place)) ⌝ }
+    ensures { λ r. ⌜ r ≡ walkedTo 0 0 0 (Verdict.fault number (cond (eqb number Number.absent) at place)) ⌝ }
 {
-    if number == 9 {
+    if number == ABSENT {
         return refusal(number, at);
     }
     refusal(number, place)
@@ -67,7 +99,7 @@ pub fn fault_at(number: u8, at: usize, place: usize) -> Walked
 
 // At the end of a run, at `place`.
 pub fn at_end(at: usize, kind: u8, state: u8, place: usize, nodes: usize, pool: usize) -> Walked
-    ensures { λ r. ⌜ r ≡ walkedTo place nodes pool (cond (ended kind (stateOf kind state)) Verdict.fine (Verdict.fault 9 at)) ⌝ }
+    ensures { λ r. ⌜ r ≡ walkedTo place nodes pool (cond (ended kind (stateOf kind state)) Verdict.fine (Verdict.fault Number.absent at)) ⌝ }
 {
     if may_end(kind, state) {
         return Walked {
@@ -78,7 +110,7 @@ pub fn at_end(at: usize, kind: u8, state: u8, place: usize, nodes: usize, pool: 
             pool,
         };
     }
-    refusal(9, at)
+    refusal(ABSENT, at)
 }
 
 // A run of expressions ends at this very place, as most do: a closing bracket stands there.
@@ -101,9 +133,9 @@ fn next_turn(
     nodes: usize,
     pool: usize,
     node: usize,
-    tape: &mut [u32; 32768],
+    tape: &mut [u32; TAPE_WORDS],
 ) -> Turn
-    requires { ⌜ (i ≤ length (now text)) × (nodes ≤ i) × (pool ≤ i) × (length (now text) ≤ 65536) × (node ≤ 4294967295) ⌝ }
+    requires { ⌜ (i ≤ length (now text)) × (nodes ≤ i) × (pool ≤ i) × (length (now text) ≤ mostBytes) × (node ≤ mostWord) ⌝ }
     ensures { λ r. ⌜ TurnWithin (now (text .entry)) i r ⌝ }
     ensures { λ r. ⌜ TurnFrom (now (text .entry)) at kind i state nodes pool node (now (tape .entry)) (now (tape .exit)) r ⌝ }
 {
@@ -112,7 +144,7 @@ fn next_turn(
     }
     let seen = look(text, i);
     let place = seen.place;
-    if seen.sort == 0 {
+    if seen.sort == THE_END {
         return Turn::Done(at_end(at, kind, state, place, nodes, pool));
     }
     let class = seen.class;
@@ -123,12 +155,12 @@ fn next_turn(
     }
     // Not where expressions stand; but the walk is to end on any bytes.
     if next <= i {
-        return Turn::Done(refusal(8, place));
+        return Turn::Done(refusal(NOT_ALLOWED, place));
     }
-    if seen.sort == 3 {
+    if seen.sort == A_LIST {
         return Turn::List(place, class, next, taken.state);
     }
-    enter(tape, nodes, place, 9, node, nodes + 1);
+    enter(tape, nodes, place, TEXT, node, nodes + 1);
     Turn::Atom(next, nodes + 1, pool + seen.length, taken.state)
 }
 
@@ -141,7 +173,7 @@ pub fn past_bracket(text: &[u8], w: Walked) -> Walked
     }
     let end = w.next;
     if text.len() <= end {
-        return refusal(8, end);
+        return refusal(NOT_ALLOWED, end);
     }
     Walked {
         number: 0,
@@ -156,22 +188,22 @@ pub fn past_bracket(text: &[u8], w: Walked) -> Walked
 pub fn is_element(class: u8) -> bool
     ensures { λ r. ⌜ r ≡ isElement class ⌝ }
 {
-    if class < 1 {
+    if class < DOCUMENT {
         return false;
     }
-    if 25 < class {
+    if CELL < class {
         return false;
     }
-    class != 9
+    class != TEXT
 }
 
 // An element whose walk answered w is left: the number after that of its last descendant is noted, unless it was refused.
-pub fn leave(tape: &mut [u32; 32768], node: usize, w: Walked)
-    requires { ⌜ (w .number ≡ 0 → w .nodes ≤ 4294967295) ⌝ }
-    ensures { λ _. ⌜ (w .number ≡ 0 → length (now (tape .entry)) ≡ 32768 → now (tape .exit) ≡ left (now (tape .entry)) node (w .nodes)) ⌝ }
+pub fn leave(tape: &mut [u32; TAPE_WORDS], node: usize, w: Walked)
+    requires { ⌜ (w .number ≡ 0 → w .nodes ≤ mostWord) ⌝ }
+    ensures { λ _. ⌜ (w .number ≡ 0 → length (now (tape .entry)) ≡ tapeWords → now (tape .exit) ≡ left (now (tape .entry)) node (w .nodes)) ⌝ }
 {
     if w.number == 0 {
-        note(tape, node, 3, w.nodes);
+        note(tape, node, END, w.nodes);
     }
 }
 
@@ -185,9 +217,9 @@ pub fn inside(
     nodes: usize,
     pool: usize,
     node: usize,
-    tape: &mut [u32; 32768],
+    tape: &mut [u32; TAPE_WORDS],
 ) -> Walked
-    requires { ⌜ (from ≤ length (now text)) × (nodes < from) × (pool ≤ from) × (length (now text) ≤ 65536) × (node ≤ 4294967295)
+    requires { ⌜ (from ≤ length (now text)) × (nodes < from) × (pool ≤ from) × (length (now text) ≤ mostBytes) × (node ≤ mostWord)
         × (at ≤ length (now text)) ⌝ }
     ensures { λ r. ⌜ Bounded (now (text .entry)) from r ⌝ }
     ensures { λ r. ⌜ JudgesList (now (text .entry)) at from parent class nodes pool node (now (tape .entry)) (now (tape .exit)) r ⌝ }
@@ -210,14 +242,14 @@ fn content_of(
     nodes: usize,
     pool: usize,
     node: usize,
-    tape: &mut [u32; 32768],
+    tape: &mut [u32; TAPE_WORDS],
 ) -> Walked
-    requires { ⌜ (from ≤ length (now text)) × (nodes ≤ from) × (pool ≤ from) × (length (now text) ≤ 65536) × (node ≤ 4294967295) ⌝ }
+    requires { ⌜ (from ≤ length (now text)) × (nodes ≤ from) × (pool ≤ from) × (length (now text) ≤ mostBytes) × (node ≤ mostWord) ⌝ }
     ensures { λ r. ⌜ Bounded (now (text .entry)) from r ⌝ }
     ensures { λ r. ⌜ Finishes (now (text .entry)) at kind from nodes pool node (now (tape .entry)) (now (tape .exit)) r ⌝ }
 {
     match kind {
-        16 | 17 => list(text, at, from, kind, nodes, pool, node, tape),
+        LIST_ORDERED | LIST_UNORDERED => list(text, at, from, kind, nodes, pool, node, tape),
         _ => inline(text, at, from, kind, nodes, pool, node, tape),
     }
 }
@@ -231,9 +263,9 @@ pub fn inline(
     nodes: usize,
     pool: usize,
     node: usize,
-    tape: &mut [u32; 32768],
+    tape: &mut [u32; TAPE_WORDS],
 ) -> Walked
-    requires { ⌜ (from ≤ length (now text)) × (nodes ≤ from) × (pool ≤ from) × (length (now text) ≤ 65536) × (node ≤ 4294967295) ⌝ }
+    requires { ⌜ (from ≤ length (now text)) × (nodes ≤ from) × (pool ≤ from) × (length (now text) ≤ mostBytes) × (node ≤ mostWord) ⌝ }
     ensures { λ r. ⌜ Bounded (now (text .entry)) from r ⌝ }
     ensures { λ r. ⌜ AnswersFrom (now (text .entry)) at kind from 0 nodes pool node (now (tape .entry)) (now (tape .exit)) r ⌝ }
 {
@@ -256,7 +288,7 @@ pub fn inline(
             }
             Turn::List(place, class, next, s) => {
                 let child = match class {
-                    16 | 17 => {
+                    LIST_ORDERED | LIST_UNORDERED => {
                         enter(tape, n, place, class, node, 0);
                         let items = list(text, place, next, class, n + 1, p, n, tape);
                         leave(tape, n, items);
@@ -287,10 +319,10 @@ fn list(
     nodes: usize,
     pool: usize,
     node: usize,
-    tape: &mut [u32; 32768],
+    tape: &mut [u32; TAPE_WORDS],
 ) -> Walked
-    requires { ⌜ (from ≤ length (now text)) × (nodes ≤ from) × (pool ≤ from) × (length (now text) ≤ 65536) × (node ≤ 4294967295)
-        × ((kind ≡ 16) ⊎ (kind ≡ 17)) ⌝ }
+    requires { ⌜ (from ≤ length (now text)) × (nodes ≤ from) × (pool ≤ from) × (length (now text) ≤ mostBytes) × (node ≤ mostWord)
+        × ((kind ≡ Class.list-ordered) ⊎ (kind ≡ Class.list-unordered)) ⌝ }
     ensures { λ r. ⌜ Bounded (now (text .entry)) from r ⌝ }
     ensures { λ r. ⌜ AnswersFrom (now (text .entry)) at kind from 0 nodes pool node (now (tape .entry)) (now (tape .exit)) r ⌝ }
 {
@@ -302,7 +334,7 @@ fn list(
         let seen = look(text, i);
         let place = seen.place;
         let next = seen.next;
-        if seen.sort == 0 {
+        if seen.sort == THE_END {
             return at_end(at, kind, state, place, n, p);
         }
         let taken = step(kind, state, seen.class);
@@ -311,10 +343,10 @@ fn list(
         }
         // Not where expressions stand.
         if next <= i {
-            return refusal(8, place);
+            return refusal(NOT_ALLOWED, place);
         }
         // An item: the step takes nothing else.
-        enter(tape, n, place, 18, node, 0);
+        enter(tape, n, place, ITEM, node, 0);
         let child = item(text, place, next, n + 1, p, n, tape);
         leave(tape, n, child);
         let w = past_bracket(text, child);
@@ -336,11 +368,11 @@ fn item(
     nodes: usize,
     pool: usize,
     node: usize,
-    tape: &mut [u32; 32768],
+    tape: &mut [u32; TAPE_WORDS],
 ) -> Walked
-    requires { ⌜ (from ≤ length (now text)) × (nodes ≤ from) × (pool ≤ from) × (length (now text) ≤ 65536) × (node ≤ 4294967295) ⌝ }
+    requires { ⌜ (from ≤ length (now text)) × (nodes ≤ from) × (pool ≤ from) × (length (now text) ≤ mostBytes) × (node ≤ mostWord) ⌝ }
     ensures { λ r. ⌜ Bounded (now (text .entry)) from r ⌝ }
-    ensures { λ r. ⌜ AnswersFrom (now (text .entry)) at 18 from 0 nodes pool node (now (tape .entry)) (now (tape .exit)) r ⌝ }
+    ensures { λ r. ⌜ AnswersFrom (now (text .entry)) at Class.item from 0 nodes pool node (now (tape .entry)) (now (tape .exit)) r ⌝ }
 {
-    inline(text, at, from, 18, nodes, pool, node, tape)
+    inline(text, at, from, ITEM, nodes, pool, node, tape)
 }
