@@ -3,6 +3,7 @@
 use crate::element::{element, titled, Element};
 use crate::manual::Manual;
 use crate::words::Words;
+use oracle::names::MOST_BYTES;
 use structural::Kind;
 
 /// Paragraphs that have an id and a link, in a manual of 64 KiB.
@@ -14,7 +15,7 @@ const SECTION: usize = 50;
 pub fn manual(size: usize) -> Manual {
     let mut words = Words::new(3);
     let mut manual = Manual::new(size);
-    let count = PARAGRAPHS * size / 65_536;
+    let count = PARAGRAPHS * size / MOST_BYTES;
     manual.add([titled(Kind::Document, "Index of marks")]);
     for number in 0..count {
         if number % SECTION == 0 {
@@ -39,11 +40,12 @@ fn name(number: usize) -> String {
 mod tests {
     use crate::sort::Sort;
     use crate::spell::spell;
+    use oracle::names::MOST_BYTES;
     use structural::Spelling;
 
     #[test]
     fn ids_and_links_at_64_kib() {
-        let text = spell(&Sort::Links.manual(65_536), Spelling::Nested);
+        let text = spell(&Sort::Links.manual(MOST_BYTES), Spelling::Nested);
         assert_eq!((text.matches("[id ").count(), text.matches("[link ").count()), (1_500, 1_470));
     }
 }

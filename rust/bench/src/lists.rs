@@ -47,11 +47,12 @@ fn list(depth: usize, words: &mut Words) -> Element {
 mod tests {
     use crate::sort::Sort;
     use crate::spell::spell;
+    use oracle::names::{IMPERATIVE_LEVELS, MOST_BYTES, NESTED_LEVELS};
     use structural::Spelling;
 
     /// The most brackets open at once; no text of these manuals has one in it.
     fn levels(spelling: Spelling) -> i32 {
-        let text = spell(&Sort::Lists.manual(65_536), spelling);
+        let text = spell(&Sort::Lists.manual(MOST_BYTES), spelling);
         let open = text.bytes().scan(0, |open, byte| {
             *open += i32::from(byte == b'[') - i32::from(byte == b']');
             Some(*open)
@@ -61,6 +62,9 @@ mod tests {
 
     #[test]
     fn both_limits_on_nesting_are_reached() {
-        assert_eq!((levels(Spelling::Nested), levels(Spelling::Imperative)), (64, 59));
+        assert_eq!(
+            (levels(Spelling::Nested), levels(Spelling::Imperative)),
+            (NESTED_LEVELS as i32, IMPERATIVE_LEVELS as i32)
+        );
     }
 }

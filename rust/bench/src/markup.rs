@@ -102,6 +102,7 @@ fn row(number: usize, words: &mut Words) -> Element {
 mod tests {
     use super::*;
     use crate::sort::Sort;
+    use oracle::names::{MOST_BYTES, MOST_NODES};
     use std::collections::BTreeMap;
 
     fn count(element: &Element, kinds: &mut BTreeMap<Kind, usize>) {
@@ -112,8 +113,8 @@ mod tests {
     #[test]
     fn all_kinds_and_about_4000_nodes() {
         let mut kinds = BTreeMap::new();
-        Sort::Markup.manual(65_536).blocks().iter().for_each(|block| count(block, &mut kinds));
+        Sort::Markup.manual(MOST_BYTES).blocks().iter().for_each(|block| count(block, &mut kinds));
         assert_eq!(kinds.len(), Kind::ALL.len());
-        assert!((3_900..=4_096).contains(&kinds.values().sum::<usize>()));
+        assert!((3_900..=MOST_NODES).contains(&kinds.values().sum::<usize>()));
     }
 }

@@ -39,11 +39,12 @@ fn paragraph(count: usize, words: &mut Words) -> Element {
 mod tests {
     use crate::sort::Sort;
     use crate::spell::spell;
+    use oracle::names::MOST_BYTES;
     use structural::Spelling;
 
     #[test]
     fn an_escape_in_about_2000_bytes() {
-        let text = spell(&Sort::Prose.manual(65_536), Spelling::Nested);
+        let text = spell(&Sort::Prose.manual(MOST_BYTES), Spelling::Nested);
         assert!((27..=38).contains(&text.matches('\\').count()));
         assert!(!text.is_ascii());
     }

@@ -2,10 +2,11 @@
 
 use crate::case::{Action, Case, Side};
 use crate::sort::spelling_name;
+use oracle::names::{MOST_BYTES, MOST_NODES, RECORD_LENGTH};
 use structural::{lent, Spelling};
 
 /// Six bytes are the most that a byte of the pool is spelled in, and an element's brackets, name and quotes fit in 64.
-const OUT: usize = 6 * oracle::MAX_POOL + 64 * oracle::MAX_NODES;
+const OUT: usize = 6 * MOST_BYTES + 64 * MOST_NODES;
 
 /// A manual that has been read, and the memory for reading and printing it.
 pub struct Work {
@@ -43,9 +44,9 @@ impl Work {
             text: case.text().into_bytes(),
             spelling: case.spelling,
             action: case.action,
-            nodes: vec![0; oracle::MAX_NODES * oracle::WORDS],
-            places: vec![0; oracle::MAX_NODES],
-            pool: vec![0; oracle::MAX_POOL],
+            nodes: vec![0; MOST_NODES * RECORD_LENGTH],
+            places: vec![0; MOST_NODES],
+            pool: vec![0; MOST_BYTES],
             out: vec![0; OUT],
             node_count: 0,
             pool_count: 0,
@@ -67,7 +68,7 @@ impl Work {
 
     /// The node words, the pool and the canonical spelling.
     pub fn results(&self) -> (Vec<u32>, Vec<u8>, Vec<u8>) {
-        let nodes = &self.nodes[..self.node_count as usize * oracle::WORDS];
+        let nodes = &self.nodes[..self.node_count as usize * RECORD_LENGTH];
         (nodes.to_vec(), self.pool[..self.pool_count as usize].to_vec(), self.out[..self.printed].to_vec())
     }
 

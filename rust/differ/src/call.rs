@@ -1,10 +1,11 @@
 //! A call of one of the archive's functions, and the lengths that its case leaves open.
 
 use crate::lent::Lent;
+use oracle::names::MISSING;
 use oracle::random::Random;
 
 /// Returned where the slice for the answer is too short.
-pub const NO_ANSWER: u32 = 4_294_967_295;
+pub const NO_ANSWER: u32 = MISSING;
 
 /// A call before it is made; afterwards, what it left of the memory that it lent.
 pub trait Call: Clone {

@@ -2,17 +2,17 @@
 
 use crate::ids::Ids;
 use crate::kind::Kind;
-use crate::number::{LINK, REFERENCE, ROW, TWICE};
-use crate::table::{Table, NAME};
+use crate::names::{KEY_OFFSET, REPEATED_ID, ROW_LENGTH, UNKNOWN_FOOTNOTE, UNKNOWN_TARGET};
+use crate::table::Table;
 
 /// The first of 15 to 18 that applies, and the node it is found at.
 pub fn first_fault(table: Table) -> Option<(u32, usize)> {
     if let Some(row) = first_bad_row(table) {
-        return Some((ROW, row));
+        return Some((ROW_LENGTH, row));
     }
     let mut ids = Ids::new(table);
     if let Some(block) = first_repeated_id(table, &mut ids) {
-        return Some((TWICE, block));
+        return Some((REPEATED_ID, block));
     }
     first_loose_target(table, &ids)
 }
@@ -35,7 +35,7 @@ fn first_bad_row_of(table: Table, node: usize) -> Option<usize> {
 
 /// 16: the first block whose id is on an earlier one. Notes all ids if there is none.
 fn first_repeated_id(table: Table, ids: &mut Ids) -> Option<usize> {
-    let has_id = |&node: &usize| table.kind(node).is_block() && !table.string(node, NAME).is_empty();
+    let has_id = |&node: &usize| table.kind(node).is_block() && !table.string(node, KEY_OFFSET).is_empty();
     (0..table.count()).filter(has_id).find(|&block| !ids.insert(block))
 }
 
@@ -44,11 +44,11 @@ fn first_loose_target(table: Table, ids: &Ids) -> Option<(u32, usize)> {
     let mut reference = None;
     for node in 0..table.count() {
         match table.kind(node) {
-            Kind::Link if ids.find(table.string(node, NAME)).is_none() => return Some((LINK, node)),
+            Kind::Link if ids.find(table.string(node, KEY_OFFSET)).is_none() => return Some((UNKNOWN_TARGET, node)),
             Kind::FootnoteRef if reference.is_none() => {
-                let block = ids.find(table.string(node, NAME));
+                let block = ids.find(table.string(node, KEY_OFFSET));
                 let footnote = block.is_some_and(|block| table.kind(block) == Kind::Footnote);
-                reference = (!footnote).then_some((REFERENCE, node));
+                reference = (!footnote).then_some((UNKNOWN_FOOTNOTE, node));
             }
             _ => {}
         }

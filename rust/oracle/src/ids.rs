@@ -1,8 +1,9 @@
 //! Ids of blocks, hashed: open addressing over node numbers, on the stack.
 
-use crate::table::{Table, MAX_NODES, NAME};
+use crate::names::{KEY_OFFSET, MOST_NODES};
+use crate::table::Table;
 
-const SLOTS: usize = 2 * MAX_NODES;
+const SLOTS: usize = 2 * MOST_NODES;
 
 pub struct Ids<'t> {
     table: Table<'t>,
@@ -20,7 +21,7 @@ impl<'t> Ids<'t> {
 
     /// Notes the block's id, unless an earlier block has it.
     pub fn insert(&mut self, block: usize) -> bool {
-        match self.probe(self.table.string(block, NAME)) {
+        match self.probe(self.table.string(block, KEY_OFFSET)) {
             Ok(_) => false,
             Err(free) => {
                 self.slots[free] = block as u16 + 1;
@@ -39,7 +40,7 @@ impl<'t> Ids<'t> {
         let mut at = hash(id) as usize & self.mask;
         while self.slots[at] != 0 {
             let block = self.slots[at] as usize - 1;
-            if self.table.string(block, NAME) == id {
+            if self.table.string(block, KEY_OFFSET) == id {
                 return Ok(block);
             }
             at = (at + 1) & self.mask;

@@ -1,9 +1,10 @@
 //! Imperative text: a run of commands and loose content ("Imperative").
 
+use crate::fault::{fault, Fault};
 use crate::head::Form;
 use crate::kind::Kind;
 use crate::lead::Lead;
-use crate::number::{fault, NOT_HERE};
+use crate::names::NOT_ALLOWED;
 use crate::sink::Sink;
 use crate::walk::{Open, Walked, Walker, OUTSIDE};
 
@@ -28,7 +29,7 @@ impl<S: Sink> Walker<'_, S> {
     /// The first expression must be a document command, else 8.
     pub fn imperative(&mut self) -> Walked {
         if !self.is_ahead(Lead::Element(Kind::Document)) {
-            return self.here(NOT_HERE);
+            return self.here(NOT_ALLOWED);
         }
         let root = self.command(Kind::Document, &OUTSIDE)?;
         let mut blocks = Blocks { open: [root; 5], count: 1 };
@@ -47,7 +48,7 @@ impl<S: Sink> Walker<'_, S> {
     /// A command ends each open block of lesser or equal significance and opens a child of the innermost one left.
     fn block(&mut self, kind: Kind, blocks: &mut Blocks) -> Walked {
         if kind == Kind::Document {
-            return self.here(NOT_HERE);
+            return self.here(NOT_ALLOWED);
         }
         while blocks.innermost().kind.significance() <= kind.significance() {
             self.end_innermost(blocks);
@@ -59,11 +60,11 @@ impl<S: Sink> Walker<'_, S> {
     }
 
     /// A command holds its parameters only; anything more in it is 8 there.
-    fn command(&mut self, kind: Kind, parent: &Open) -> Result<Open, crate::number::Fault> {
+    fn command(&mut self, kind: Kind, parent: &Open) -> Result<Open, Fault> {
         let block = self.open(kind, parent);
         self.parameters(&block)?;
         if self.ahead.form != Form::End {
-            return fault(NOT_HERE, self.ahead.place);
+            return fault(NOT_ALLOWED, self.ahead.place);
         }
         self.step();
         Ok(block)

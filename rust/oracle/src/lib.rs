@@ -4,6 +4,7 @@
 //! cases for both. Reading allocates nothing: a first walk judges and counts, a second one fills the lent memory.
 
 mod bytes;
+mod fault;
 mod faults;
 mod find;
 mod head;
@@ -11,7 +12,7 @@ mod ids;
 mod imperative;
 mod kind;
 mod lead;
-mod number;
+pub mod names;
 mod place;
 mod print;
 pub mod random;
@@ -27,4 +28,3 @@ mod walk;
 pub use kind::Kind;
 pub use print::{print, Printed};
 pub use read::{read, Answer};
-pub use table::{MAX_NODES, MAX_POOL, MAX_TEXT, NONE, WORDS};

@@ -1,6 +1,6 @@
 //! Printing: 20, then 21, else the canonical spelling.
 
-use crate::number::{FINE, NO_TABLE, OUTPUT_SHORT};
+use crate::names::{NOT_A_TABLE, OK, OUTPUT_SHORT};
 use crate::spelling::{Buffer, Length, Speller};
 use crate::table::Table;
 use crate::verify::verify;
@@ -15,13 +15,13 @@ pub struct Printed {
 /// Spells a table canonically. Under 20 and 21 the output is left as it was; later bytes always are.
 pub fn print(nodes: &[u32], node_count: u32, pool: &[u8], pool_count: u32, out: &mut [u8]) -> Printed {
     let Some(table) = verify(nodes, node_count, pool, pool_count) else {
-        return Printed { number: NO_TABLE, length: 0 };
+        return Printed { number: NOT_A_TABLE, length: 0 };
     };
     let length = spelled_length(table);
     let number = match out.get_mut(..length) {
         Some(rest) => {
             Speller { table, out: Buffer { rest } }.node(0);
-            FINE
+            OK
         }
         None => OUTPUT_SHORT,
     };

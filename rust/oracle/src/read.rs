@@ -1,11 +1,15 @@
 //! Reading: the groups of numbers in the order in which they are judged.
 
+use crate::fault::{fault, Fault};
 use crate::faults::first_fault;
-use crate::number::{fault, Fault, FINE, ILL_FORMED, NESTED_TOO_DEEP, NODES_SHORT, POOL_SHORT, TOO_LONG};
+use crate::names::{
+    MOST_BYTES, MOST_NODES, NESTED_LEVELS, NESTED_TOO_DEEP, NODES_SHORT, NOT_UTF8, OK, POOL_SHORT, RECORD_LENGTH,
+    TEXT_TOO_LONG,
+};
 use crate::place::line_and_column;
-use crate::scan::{scan, NESTED_LEVELS};
+use crate::scan::scan;
 use crate::sink::{gather, Count, Fill, Sink};
-use crate::table::{Table, MAX_NODES, MAX_TEXT, WORDS};
+use crate::table::Table;
 use crate::walk::{Walked, Walker};
 
 /// What a read returns.
@@ -26,27 +30,27 @@ pub fn read(text: &[u8], imperative: bool, nodes: &mut [u32], places: &mut [u32]
         Ok(count) => count,
         Err(Fault { number, place }) => return answer(text, number, place, Count::default()),
     };
-    if count.nodes as usize > MAX_NODES.min(nodes.len() / WORDS).min(places.len()) {
+    if count.nodes as usize > MOST_NODES.min(nodes.len() / RECORD_LENGTH).min(places.len()) {
         return answer(text, NODES_SHORT, 0, count);
     }
     if count.pool as usize > pool.len() {
         return answer(text, POOL_SHORT, 0, count);
     }
-    let words = &mut nodes[..count.nodes as usize * WORDS];
+    let words = &mut nodes[..count.nodes as usize * RECORD_LENGTH];
     fill(text, imperative, words, places, pool);
     match first_fault(Table { words, pool }) {
         Some((number, node)) => answer(text, number, places[node] as usize, count),
-        None => answer(text, FINE, 0, count),
+        None => answer(text, OK, 0, count),
     }
 }
 
 /// Numbers 1 to 12 and 19; else the counts needed.
 fn judge(text: &[u8], imperative: bool) -> Result<Count, Fault> {
-    if text.len() > MAX_TEXT {
-        return fault(TOO_LONG, MAX_TEXT);
+    if text.len() > MOST_BYTES {
+        return fault(TEXT_TOO_LONG, MOST_BYTES);
     }
     if let Err(error) = std::str::from_utf8(text) {
-        return fault(ILL_FORMED, error.valid_up_to());
+        return fault(NOT_UTF8, error.valid_up_to());
     }
     scan(text, imperative)?;
     let mut walker = Walker::new(text, Count::default());

@@ -1,12 +1,11 @@
 //! Numbers 3 to 6 by one scan from left to right, and 7 after it.
 
 use crate::bytes::{class, partner, symbol_end, Class};
+use crate::fault::{fault, Fault};
 use crate::find::quote_or_backslash;
-use crate::number::{fault, Fault, BAD_STRING, FORBIDDEN, NOT_ONE, TOO_DEEP, UNPAIRED};
-
-/// Levels of brackets allowed in nested and in imperative text (6).
-pub const NESTED_LEVELS: usize = 64;
-pub const IMPERATIVE_LEVELS: usize = 59;
+use crate::names::{
+    BAD_STRING, FORBIDDEN_CHARACTER, IMPERATIVE_LEVELS, NESTED_LEVELS, NOT_ONE_EXPRESSION, TOO_DEEP, UNPAIRED_BRACKET,
+};
 
 /// Accepts a text whose strings and brackets are sound and that has the right number of expressions.
 pub fn scan(text: &[u8], imperative: bool) -> Result<(), Fault> {
@@ -14,10 +13,10 @@ pub fn scan(text: &[u8], imperative: bool) -> Result<(), Fault> {
     let mut scan = Scan { text, limit, open: [0; NESTED_LEVELS], level: 0, count: 0, second: 0 };
     scan.run()?;
     match scan.count {
-        0 => fault(NOT_ONE, text.len()),
+        0 => fault(NOT_ONE_EXPRESSION, text.len()),
         1 => Ok(()),
         _ if imperative => Ok(()),
-        _ => fault(NOT_ONE, scan.second),
+        _ => fault(NOT_ONE_EXPRESSION, scan.second),
     }
 }
 
@@ -39,7 +38,7 @@ impl Scan<'_> {
             at = match class(byte) {
                 Class::Blank => at + 1,
                 Class::Return => self.line_end(at)?,
-                Class::Forbidden => return fault(FORBIDDEN, at),
+                Class::Forbidden => return fault(FORBIDDEN_CHARACTER, at),
                 Class::Close => self.close(at, byte)?,
                 Class::Open => self.open(at)?,
                 Class::Quote => self.string(at)?,
@@ -48,7 +47,7 @@ impl Scan<'_> {
         }
         match self.level {
             0 => Ok(()),
-            level => fault(UNPAIRED, self.open[level - 1]),
+            level => fault(UNPAIRED_BRACKET, self.open[level - 1]),
         }
     }
 
@@ -56,7 +55,7 @@ impl Scan<'_> {
     fn line_end(&self, at: usize) -> Result<usize, Fault> {
         match self.text.get(at + 1) {
             Some(b'\n') => Ok(at + 2),
-            _ => fault(FORBIDDEN, at),
+            _ => fault(FORBIDDEN_CHARACTER, at),
         }
     }
 
@@ -72,7 +71,7 @@ impl Scan<'_> {
 
     fn close(&mut self, at: usize, byte: u8) -> Result<usize, Fault> {
         if self.level == 0 || partner(self.text[self.open[self.level - 1]]) != byte {
-            return fault(UNPAIRED, at);
+            return fault(UNPAIRED_BRACKET, at);
         }
         self.level -= 1;
         Ok(at + 1)

@@ -1,7 +1,8 @@
 //! What a walk does with the nodes it meets: count them, or fill the lent memory.
 
 use crate::kind::Kind;
-use crate::table::{bare_record, HEIGHT, STRINGS, WIDTH, WORDS};
+use crate::names::{END, HEIGHT, RECORD_LENGTH, WIDTH};
+use crate::table::{bare_record, STRINGS};
 use crate::value::{decode, decoded_length};
 
 /// A symbol or string in the text, quotes included.
@@ -52,7 +53,7 @@ pub struct Fill<'l> {
 
 impl Fill<'_> {
     fn record(&mut self, node: u32) -> &mut [u32] {
-        &mut self.words[node as usize * WORDS..][..WORDS]
+        &mut self.words[node as usize * RECORD_LENGTH..][..RECORD_LENGTH]
     }
 }
 
@@ -67,7 +68,7 @@ impl Sink for Fill<'_> {
 
     fn close(&mut self, node: u32) {
         let end = self.count;
-        self.record(node)[2] = end;
+        self.record(node)[END] = end;
     }
 
     fn string(&mut self, node: u32, word: usize, value: Spelled) {
@@ -84,7 +85,7 @@ impl Sink for Fill<'_> {
 /// Decodes the strings into the pool, node by node, and turns places in the text into offsets in the pool.
 pub fn gather(text: &[u8], words: &mut [u32], pool: &mut [u8]) {
     let mut used = 0;
-    for record in words.chunks_exact_mut(WORDS) {
+    for record in words.chunks_exact_mut(RECORD_LENGTH) {
         for word in STRINGS {
             if record[word + 1] != 0 {
                 let spelled = &text[record[word] as usize..][..record[word + 1] as usize];

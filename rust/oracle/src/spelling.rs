@@ -2,7 +2,8 @@
 
 use crate::find::escaped;
 use crate::kind::{Kind, Naming};
-use crate::table::{Table, HEIGHT, NAME, NONE, TEXT, TYPE, WIDTH};
+use crate::names::{HEIGHT, KEY_OFFSET, MISSING, TEXT_OFFSET, TYPE_OFFSET, WIDTH};
+use crate::table::Table;
 
 /// Where a spelling goes.
 pub trait Out {
@@ -42,7 +43,7 @@ impl<O: Out> Speller<'_, O> {
     pub fn node(&mut self, node: usize) {
         let kind = self.table.kind(node);
         if kind == Kind::Text {
-            return self.quoted(self.table.string(node, TEXT));
+            return self.quoted(self.table.string(node, TEXT_OFFSET));
         }
         self.out.put(b"[");
         self.out.put(kind.name().as_bytes());
@@ -67,16 +68,16 @@ impl<O: Out> Speller<'_, O> {
 
     /// Id or target, size, type.
     fn parameters(&mut self, kind: Kind, node: usize) {
-        let name = self.table.string(node, NAME);
+        let name = self.table.string(node, KEY_OFFSET);
         match kind.naming() {
             Naming::HasTarget | Naming::HasUri => self.target(name),
             _ => self.symbol(b" [id ", name),
         }
         let record = self.table.record(node);
-        if record[WIDTH] != NONE {
+        if record[WIDTH] != MISSING {
             self.size(record[WIDTH], record[HEIGHT]);
         }
-        self.symbol(b" [type ", self.table.string(node, TYPE));
+        self.symbol(b" [type ", self.table.string(node, TYPE_OFFSET));
     }
 
     fn symbol(&mut self, before: &[u8], value: &[u8]) {

@@ -1,28 +1,14 @@
-//! The node table: eleven words a node ("The table").
+//! The node table ("The table").
 
 use crate::kind::Kind;
-
-/// Words of a node's record.
-pub const WORDS: usize = 11;
-/// The root's parent, and a missing width or height.
-pub const NONE: u32 = u32::MAX;
-pub const MAX_NODES: usize = 4_096;
-pub const MAX_TEXT: usize = 65_536;
-pub const MAX_POOL: usize = 65_536;
-
-/// Where a record keeps the offset of each string; the length follows it.
-pub const NAME: usize = 3;
-pub const TYPE: usize = 5;
-pub const TEXT: usize = 7;
-pub const WIDTH: usize = 9;
-pub const HEIGHT: usize = 10;
+use crate::names::{END, KEY_OFFSET, KIND, MISSING, RECORD_LENGTH, TEXT_OFFSET, TYPE_OFFSET};
 
 /// The strings of a node in the order of the pool: id or target, then type, then text.
-pub const STRINGS: [usize; 3] = [NAME, TYPE, TEXT];
+pub const STRINGS: [usize; 3] = [KEY_OFFSET, TYPE_OFFSET, TEXT_OFFSET];
 
 /// The record of a node without strings, size or descendants.
-pub fn bare_record(kind: Kind, parent: u32, node: u32) -> [u32; WORDS] {
-    [kind.number(), parent, node + 1, 0, 0, 0, 0, 0, 0, NONE, NONE]
+pub fn bare_record(kind: Kind, parent: u32, node: u32) -> [u32; RECORD_LENGTH] {
+    [kind.number(), parent, node + 1, 0, 0, 0, 0, 0, 0, MISSING, MISSING]
 }
 
 /// A table to look at. Accessors are for tables whose kinds, ends and strings are known to be sound.
@@ -34,19 +20,19 @@ pub struct Table<'t> {
 
 impl<'t> Table<'t> {
     pub fn count(&self) -> usize {
-        self.words.len() / WORDS
+        self.words.len() / RECORD_LENGTH
     }
 
     pub fn record(&self, node: usize) -> &'t [u32] {
-        &self.words[node * WORDS..][..WORDS]
+        &self.words[node * RECORD_LENGTH..][..RECORD_LENGTH]
     }
 
     pub fn kind(&self, node: usize) -> Kind {
-        Kind::from_number(self.words[node * WORDS]).expect("a kind of 1 to 25")
+        Kind::from_number(self.words[node * RECORD_LENGTH + KIND]).expect("a kind of 1 to 25")
     }
 
     pub fn end(&self, node: usize) -> usize {
-        self.words[node * WORDS + 2] as usize
+        self.words[node * RECORD_LENGTH + END] as usize
     }
 
     /// The string whose offset is the record's word `at`; empty if it is missing.

@@ -3,16 +3,19 @@
 use crate::bytes::{of_id, of_type, of_uri};
 use crate::faults::first_fault;
 use crate::kind::{Kind, Naming};
-use crate::scan::NESTED_LEVELS;
-use crate::table::{Table, HEIGHT, MAX_NODES, MAX_POOL, NAME, NONE, TEXT, TYPE, WIDTH, WORDS};
+use crate::names::{
+    HEIGHT, KEY_LENGTH, KEY_OFFSET, KIND, MISSING, MOST_BYTES, MOST_NODES, NESTED_LEVELS, PARENT, RECORD_LENGTH,
+    TEXT_OFFSET, TYPE_LENGTH, TYPE_OFFSET, WIDTH,
+};
+use crate::table::Table;
 
 /// The part of the lent memory that the counts name, if it is such a table. What lies past it is not looked at.
 pub fn verify<'t>(nodes: &'t [u32], node_count: u32, pool: &'t [u8], pool_count: u32) -> Option<Table<'t>> {
     let (node_count, pool_count) = (node_count as usize, pool_count as usize);
-    if node_count > MAX_NODES || pool_count > MAX_POOL {
+    if node_count > MOST_NODES || pool_count > MOST_BYTES {
         return None;
     }
-    let table = Table { words: nodes.get(..node_count * WORDS)?, pool: pool.get(..pool_count)? };
+    let table = Table { words: nodes.get(..node_count * RECORD_LENGTH)?, pool: pool.get(..pool_count)? };
     let sound = shape_is_sound(table) && strings_are_sound(table);
     (sound && first_fault(table).is_none()).then_some(table)
 }
@@ -81,7 +84,7 @@ impl Stack {
     fn admit(&mut self, kind: Kind, parent: u32, end: usize, count: usize) -> bool {
         match self.frames.last_mut() {
             // Only the root stands outside all elements, as it ends with the table.
-            None => kind == Kind::Document && parent == NONE && end == count,
+            None => kind == Kind::Document && parent == MISSING && end == count,
             Some(frame) => parent as usize == frame.node && end <= frame.end && frame.take(kind),
         }
     }
@@ -101,8 +104,8 @@ fn shape_is_sound(table: Table) -> bool {
 
 fn node_is_sound(table: Table, node: usize, count: usize, stack: &mut Stack) -> bool {
     let (record, end) = (table.record(node), table.end(node));
-    let Some(kind) = Kind::from_number(record[0]) else { return false };
-    if end <= node || !stack.admit(kind, record[1], end, count) {
+    let Some(kind) = Kind::from_number(record[KIND]) else { return false };
+    if end <= node || !stack.admit(kind, record[PARENT], end, count) {
         return false;
     }
     if kind == Kind::Text {
@@ -114,7 +117,7 @@ fn node_is_sound(table: Table, node: usize, count: usize, stack: &mut Stack) -> 
 
 /// Brackets of an id, target, type or size count as a level of the spelling.
 fn has_parameter_brackets(record: &[u32]) -> bool {
-    record[NAME + 1] != 0 || record[TYPE + 1] != 0 || record[WIDTH] != NONE
+    record[KEY_LENGTH] != 0 || record[TYPE_LENGTH] != 0 || record[WIDTH] != MISSING
 }
 
 /// Strings in the order of the pool without gap, of the right characters, and sizes.
@@ -135,16 +138,16 @@ struct Pool<'t> {
 impl<'t> Pool<'t> {
     fn takes_strings(&mut self, kind: Kind, record: &[u32]) -> bool {
         self.takes_name(kind.naming(), record)
-            && self.takes(record, TYPE, false, kind.may_have_type(), |bytes| all(bytes, of_type))
-            && self.takes(record, TEXT, kind == Kind::Text, kind == Kind::Text, is_text)
+            && self.takes(record, TYPE_OFFSET, false, kind.may_have_type(), |bytes| all(bytes, of_type))
+            && self.takes(record, TEXT_OFFSET, kind == Kind::Text, kind == Kind::Text, is_text)
     }
 
     fn takes_name(&mut self, naming: Naming, record: &[u32]) -> bool {
         match naming {
-            Naming::Nothing => self.takes(record, NAME, false, false, is_text),
-            Naming::MayHaveId => self.takes(record, NAME, false, true, |bytes| all(bytes, of_id)),
-            Naming::HasId | Naming::HasTarget => self.takes(record, NAME, true, true, |bytes| all(bytes, of_id)),
-            Naming::HasUri => self.takes(record, NAME, true, true, |bytes| all(bytes, of_uri)),
+            Naming::Nothing => self.takes(record, KEY_OFFSET, false, false, is_text),
+            Naming::MayHaveId => self.takes(record, KEY_OFFSET, false, true, |bytes| all(bytes, of_id)),
+            Naming::HasId | Naming::HasTarget => self.takes(record, KEY_OFFSET, true, true, |bytes| all(bytes, of_id)),
+            Naming::HasUri => self.takes(record, KEY_OFFSET, true, true, |bytes| all(bytes, of_uri)),
         }
     }
 
@@ -172,6 +175,6 @@ fn is_text(bytes: &[u8]) -> bool {
 
 /// An image has both width and height, at most 65,535, or neither; other kinds have neither.
 fn size_is_sound(kind: Kind, width: u32, height: u32) -> bool {
-    let missing = width == NONE && height == NONE;
+    let missing = width == MISSING && height == MISSING;
     missing || (kind == Kind::Image && width <= 65_535 && height <= 65_535)
 }

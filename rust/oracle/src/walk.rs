@@ -1,12 +1,14 @@
 //! Numbers 8 to 12 by a walk in text order: at a child 12, 8, 11, then its parameters, then its content.
 
 use crate::bytes::{of_id, of_type, of_uri};
+use crate::fault::{fault, Fault};
 use crate::head::{head, Form, Head};
 use crate::kind::Kind;
 use crate::lead::Lead;
-use crate::number::{fault, Fault, ABSENT, INCLUDE, MALFORMED, NOT_HERE, OTHER_SORT};
+use crate::names::{
+    ABSENT, INCLUDE, KEY_OFFSET, MALFORMED, MISSING, NOT_ALLOWED, OTHER_SORT, TEXT_OFFSET, TYPE_OFFSET,
+};
 use crate::sink::{Sink, Spelled};
-use crate::table::{NAME, NONE, TEXT, TYPE};
 use crate::value::{consists_of, measure};
 
 pub type Walked = Result<(), Fault>;
@@ -33,7 +35,7 @@ pub struct Walker<'t, S> {
 }
 
 /// Above the root: its place in the tree, and level 0.
-pub const OUTSIDE: Open = Open { kind: Kind::Document, node: NONE, place: 0, level: 0, first: None };
+pub const OUTSIDE: Open = Open { kind: Kind::Document, node: MISSING, place: 0, level: 0, first: None };
 
 impl<'t, S: Sink> Walker<'t, S> {
     pub fn new(text: &'t [u8], sink: S) -> Self {
@@ -44,7 +46,7 @@ impl<'t, S: Sink> Walker<'t, S> {
     pub fn nested(&mut self) -> Walked {
         match self.ahead.form {
             Form::List(Lead::Element(Kind::Document)) => self.element(Kind::Document, &OUTSIDE),
-            _ => self.here(NOT_HERE),
+            _ => self.here(NOT_ALLOWED),
         }
     }
 
@@ -76,12 +78,12 @@ impl<'t, S: Sink> Walker<'t, S> {
             Form::List(Lead::Include) => return fault(INCLUDE, self.ahead.place),
             Form::List(Lead::Element(kind)) => kind,
             Form::Symbol | Form::Quoted => Kind::Text,
-            Form::List(_) | Form::End => return fault(NOT_HERE, self.ahead.place),
+            Form::List(_) | Form::End => return fault(NOT_ALLOWED, self.ahead.place),
         };
         // A verbatim holds exactly one text.
         let full = parent.kind == Kind::Verbatim && parent.first.is_some();
         if full || !parent.kind.may_hold(kind) {
-            return fault(NOT_HERE, self.ahead.place);
+            return fault(NOT_ALLOWED, self.ahead.place);
         }
         if parent.kind.sorts_apart(*parent.first.get_or_insert(kind), kind) {
             return fault(OTHER_SORT, self.ahead.place);
@@ -92,7 +94,7 @@ impl<'t, S: Sink> Walker<'t, S> {
     fn text(&mut self, parent: &Open) -> Walked {
         let node = self.sink.open(Kind::Text, parent.node, self.ahead.place);
         let value = self.spelled();
-        self.sink.string(node, TEXT, value);
+        self.sink.string(node, TEXT_OFFSET, value);
         self.step();
         Ok(())
     }
@@ -178,7 +180,7 @@ impl<'t, S: Sink> Walker<'t, S> {
     /// An id or target that has to stand: one text of those characters.
     fn name(&mut self, lead: Lead, sort: fn(u8) -> bool, open: &Open) -> Walked {
         match self.is_ahead(lead) {
-            true => self.value(NAME, sort, true, open),
+            true => self.value(KEY_OFFSET, sort, true, open),
             false => fault(ABSENT, open.place),
         }
     }
@@ -187,7 +189,7 @@ impl<'t, S: Sink> Walker<'t, S> {
     fn optional_type(&mut self, open: &Open) -> Result<bool, Fault> {
         let stands = self.is_ahead(Lead::Type);
         if stands {
-            self.value(TYPE, of_type, false, open)?;
+            self.value(TYPE_OFFSET, of_type, false, open)?;
         }
         Ok(stands)
     }

@@ -2,16 +2,10 @@
 
 mod common;
 
-use std::path::{Path, PathBuf};
-
-use common::{printed, read_amply};
-
-fn folder() -> PathBuf {
-    Path::new(env!("CARGO_MANIFEST_DIR")).join("../../examples")
-}
+use common::{bytes, file, printed, read_amply};
 
 fn text(name: &str) -> Vec<u8> {
-    std::fs::read(folder().join(name)).unwrap_or_else(|error| panic!("{name}: {error}"))
+    bytes(&format!("examples/{name}"))
 }
 
 #[test]
@@ -23,7 +17,7 @@ fn duplicate_id_is_refused_at_line_7() {
 #[test]
 fn pairs_have_equal_tables() {
     let mut pairs = 0;
-    for entry in std::fs::read_dir(folder()).unwrap() {
+    for entry in std::fs::read_dir(file("examples")).unwrap() {
         let name = entry.unwrap().file_name().into_string().unwrap();
         let Some(stem) = name.strip_suffix(".sdi") else { continue };
         let nested = read_amply(&text(&format!("{stem}.sd")), false);

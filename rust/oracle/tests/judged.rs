@@ -3,7 +3,8 @@
 mod common;
 
 use common::{at, imperative, listing, nested, read_amply};
-use oracle::{print, read, Printed, NONE};
+use oracle::names::MISSING;
+use oracle::{print, read, Printed};
 
 #[test]
 fn starred_examples() {
@@ -26,9 +27,9 @@ fn starred_examples_with_tables() {
     let symbols = read_amply(b"(document (title A))", false);
     assert_eq!((&quoted.nodes, &quoted.pool), (&symbols.nodes, &symbols.pool));
     assert_eq!(quoted.places, [0, 10, 17]);
-    let mut words = vec![1, NONE, 3, 0, 0, 0, 0, 0, 0, NONE, NONE];
-    words.extend([8, 0, 3, 0, 0, 0, 0, 0, 0, NONE, NONE]);
-    words.extend([9, 1, 3, 0, 0, 0, 0, 0, 1, NONE, NONE]);
+    let mut words = vec![1, MISSING, 3, 0, 0, 0, 0, 0, 0, MISSING, MISSING];
+    words.extend([8, 0, 3, 0, 0, 0, 0, 0, 0, MISSING, MISSING]);
+    words.extend([9, 1, 3, 0, 0, 0, 0, 0, 1, MISSING, MISSING]);
     assert_eq!(quoted.nodes, words);
 
     let untitled = nested("[document [title]]");
@@ -173,7 +174,7 @@ fn printing_answers() {
     assert_eq!(run(&read.nodes, 3, &read.pool, 1, length), answer(0, length));
     assert_eq!(run(&read.nodes, 3, &read.pool, 1, length - 1), answer(21, length));
     assert_eq!(run(&read.nodes, 3, &read.pool, 1, 0), answer(21, length));
-    for (nodes, pool) in [(0, 1), (2, 1), (4, 1), (3, 0), (3, 2), (NONE, 1), (3, NONE)] {
+    for (nodes, pool) in [(0, 1), (2, 1), (4, 1), (3, 0), (3, 2), (MISSING, 1), (3, MISSING)] {
         assert_eq!(run(&read.nodes, nodes, &read.pool, pool, 30), answer(20, 0));
     }
 }

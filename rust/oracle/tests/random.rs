@@ -5,8 +5,9 @@ mod common;
 use std::collections::HashMap;
 
 use common::{printed, read_amply};
+use oracle::names::{MOST_BYTES, RECORD_LENGTH};
 use oracle::random::{grow, render, spell, tally, Element, PrintCase, Random, ReadCase, Wanted};
-use oracle::{Kind, WORDS};
+use oracle::Kind;
 
 fn cases() -> u64 {
     std::env::var("ORACLE_CASES").ok().and_then(|count| count.parse().ok()).unwrap_or(4_000)
@@ -112,7 +113,7 @@ fn refusals_keep_lent_memory_and_fills_keep_the_rest() {
             true => (after.answer.nodes as usize, after.answer.pool as usize),
             false => (0, 0),
         };
-        assert_eq!(after.nodes[nodes * WORDS..], before.nodes[nodes * WORDS..], "seed {seed}");
+        assert_eq!(after.nodes[nodes * RECORD_LENGTH..], before.nodes[nodes * RECORD_LENGTH..], "seed {seed}");
         assert_eq!(after.places[nodes..], before.places[nodes..], "seed {seed}");
         assert_eq!(after.pool[pool..], before.pool[pool..], "seed {seed}");
         assert!(filled || after == before, "seed {seed}");
@@ -132,10 +133,10 @@ fn printed_tables_are_those_of_their_spelling() {
         let outcome = case.run();
         assert_ne!(outcome.printed.number, 21, "seed {seed}");
         let text = &outcome.out[..outcome.printed.length as usize];
-        if outcome.printed.number == 0 && text.len() <= 65_536 {
+        if outcome.printed.number == 0 && text.len() <= MOST_BYTES {
             let again = read_amply(text, false);
             assert_eq!((again.answer.number, again.answer.nodes), (0, case.node_count), "seed {seed}");
-            assert_eq!(again.nodes, case.nodes[..case.node_count as usize * WORDS], "seed {seed}");
+            assert_eq!(again.nodes, case.nodes[..case.node_count as usize * RECORD_LENGTH], "seed {seed}");
             assert_eq!(again.pool, case.pool[..case.pool_count as usize], "seed {seed}");
         }
     }

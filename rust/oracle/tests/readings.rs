@@ -3,7 +3,8 @@
 mod common;
 
 use common::{at, imperative, in_paragraph, listing, nested, paragraph, printed, read_amply};
-use oracle::{print, read, WORDS};
+use oracle::names::{KIND, RECORD_LENGTH, TEXT_OFFSET, TYPE_LENGTH, TYPE_OFFSET};
+use oracle::{print, read};
 
 #[test]
 fn b1_to_b3_listings() {
@@ -102,11 +103,11 @@ fn b24_canonical_nesting() {
     printed(&typed);
     // The same term with a type, one pair of list and item deeper, as a table.
     let mut deep = plain;
-    let term = deep.nodes.len() / WORDS - 2;
-    assert_eq!(deep.nodes[term * WORDS], 10);
-    deep.nodes[term * WORDS + 5] = 2;
-    deep.nodes[term * WORDS + 6] = 1;
-    deep.nodes[(term + 1) * WORDS + 7] = 3;
+    let term = deep.nodes.len() / RECORD_LENGTH - 2;
+    assert_eq!(deep.nodes[term * RECORD_LENGTH + KIND], 10);
+    deep.nodes[term * RECORD_LENGTH + TYPE_OFFSET] = 2;
+    deep.nodes[term * RECORD_LENGTH + TYPE_LENGTH] = 1;
+    deep.nodes[(term + 1) * RECORD_LENGTH + TEXT_OFFSET] = 3;
     deep.pool.push(b't');
     assert_eq!(print(&deep.nodes, deep.answer.nodes, &deep.pool, 4, &mut [0; 4_096]).number, 20);
 }

@@ -4,8 +4,11 @@
 mod common;
 
 use common::read_amply;
+use oracle::names::{
+    END, HEIGHT, KEY_OFFSET, KIND, MISSING, MOST_BYTES, RECORD_LENGTH, TEXT_OFFSET, TYPE_OFFSET, WIDTH,
+};
 use oracle::random::{Element, PrintCase};
-use oracle::{Kind, NONE, WORDS};
+use oracle::Kind;
 
 fn cases() -> u64 {
     std::env::var("ORACLE_CASES").ok().and_then(|count| count.parse().ok()).unwrap_or(4_000)
@@ -13,7 +16,7 @@ fn cases() -> u64 {
 
 /// The tree that kinds, ends and strings speak of, if they speak of one.
 fn rebuild(nodes: &[u32], pool: &[u8], node: usize) -> Option<Element> {
-    let record = &nodes[node * WORDS..][..WORDS];
+    let record = &nodes[node * RECORD_LENGTH..][..RECORD_LENGTH];
     let string = |at: usize| {
         let bytes = match record[at + 1] as usize {
             0 => &[],
@@ -21,14 +24,14 @@ fn rebuild(nodes: &[u32], pool: &[u8], node: usize) -> Option<Element> {
         };
         String::from_utf8(bytes.to_vec()).ok()
     };
-    let mut element = Element::new(Kind::from_number(record[0])?);
-    (element.name, element.class, element.text) = (string(3)?, string(5)?, string(7)?);
-    if (record[9], record[10]) != (NONE, NONE) {
-        element.size = Some((record[9].try_into().ok()?, record[10].try_into().ok()?));
+    let mut element = Element::new(Kind::from_number(record[KIND])?);
+    (element.name, element.class, element.text) = (string(KEY_OFFSET)?, string(TYPE_OFFSET)?, string(TEXT_OFFSET)?);
+    if (record[WIDTH], record[HEIGHT]) != (MISSING, MISSING) {
+        element.size = Some((record[WIDTH].try_into().ok()?, record[HEIGHT].try_into().ok()?));
     }
-    let (mut child, end) = (node + 1, record[2] as usize);
+    let (mut child, end) = (node + 1, record[END] as usize);
     while child < end {
-        let next = *nodes.get(child * WORDS + 2)? as usize;
+        let next = *nodes.get(child * RECORD_LENGTH + END)? as usize;
         if next <= child || next > end {
             return None;
         }
@@ -77,7 +80,7 @@ fn spelled(element: &Element) -> String {
 
 /// The canonical spelling, if the case has a table to print and its text is not too long to be read.
 fn plain_print(case: &PrintCase) -> Option<String> {
-    let nodes = case.nodes.get(..(case.node_count as usize).checked_mul(WORDS)?)?;
+    let nodes = case.nodes.get(..(case.node_count as usize).checked_mul(RECORD_LENGTH)?)?;
     let pool = case.pool.get(..case.pool_count as usize)?;
     if nodes.is_empty() {
         return None;
@@ -95,7 +98,7 @@ fn the_printer_answers_as_the_plain_way_does() {
         case.out = 1 << 20;
         let outcome = case.run();
         let out = &outcome.out[..outcome.printed.length as usize];
-        if out.len() > 65_536 {
+        if out.len() > MOST_BYTES {
             continue;
         }
         match plain_print(&case) {

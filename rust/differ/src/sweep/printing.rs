@@ -6,11 +6,8 @@ use crate::call::{Call, Lengths};
 use crate::compare::{compare, Compared};
 use crate::print::{Print, WORDS};
 use crate::read::{self, Read};
+use oracle::names::{NOT_A_TABLE, OK, OUTPUT_SHORT};
 use oracle::random::PrintCase;
-
-/// Numbers of printing.
-const NO_TABLE: u32 = 20;
-const OUTPUT_SHORT: u32 = 21;
 
 /// Bytes lent for the output where there is no spelling, so that one that is begun is noticed.
 const SOME: usize = 40;
@@ -68,8 +65,8 @@ pub fn filled(turn: u64, number: u32, read: &Read) -> Compared {
     let (nodes, pool) = (read.nodes.slice().to_vec(), read.pool.slice().to_vec());
     let case = PrintCase { nodes, node_count, pool, pool_count, out: 0 };
     let needed = spelled_length(&case).unwrap_or(SOME);
-    let (out, fits) = [(needed, 0), (needed - 1, OUTPUT_SHORT), (needed + 1, 0), (needed + 9, 0)][slowly(turn) % 4];
-    let number = if number == 0 { fits } else { NO_TABLE };
+    let (out, fits) = [(needed, OK), (needed - 1, OUTPUT_SHORT), (needed + 1, OK), (needed + 9, OK)][slowly(turn) % 4];
+    let number = if number == OK { fits } else { NOT_A_TABLE };
     let print = Print::of(&PrintCase { out, ..case }, Lengths::by_turns(turn, WORDS));
     stated(Some(number), compare(&print).0, &print)
 }
@@ -77,5 +74,5 @@ pub fn filled(turn: u64, number: u32, read: &Read) -> Compared {
 /// The length of the spelling, if there is one.
 fn spelled_length(case: &PrintCase) -> Option<usize> {
     let printed = oracle::print(&case.nodes, case.node_count, &case.pool, case.pool_count, &mut []);
-    (printed.number != NO_TABLE).then_some(printed.length as usize)
+    (printed.number != NOT_A_TABLE).then_some(printed.length as usize)
 }

@@ -7,6 +7,7 @@ use super::sweeper::{slowly, stated, Sweeper};
 use crate::call::Lengths;
 use crate::compare::compare;
 use crate::read::{Read, WORDS};
+use oracle::names::RECORD_LENGTH;
 use oracle::random::ReadCase;
 
 /// Takes the texts of a group.
@@ -63,6 +64,6 @@ fn with_room(turn: u64, imperative: bool, text: &[u8]) -> ReadCase {
     let needed = oracle::read(text, imperative, &mut [], &mut [], &mut []);
     let (nodes, pool) = (needed.nodes.max(3) as usize, needed.pool.max(9) as usize);
     let more = slowly(turn);
-    let words = nodes * oracle::WORDS + more % oracle::WORDS;
+    let words = nodes * RECORD_LENGTH + more % RECORD_LENGTH;
     ReadCase { text: text.to_vec(), imperative, words, places: nodes + more % 2, pool: pool + more % 3 }
 }

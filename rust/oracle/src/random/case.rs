@@ -6,7 +6,8 @@ use super::grow::{crowded, deep, grow, mix_sorts, Wanted};
 use super::rng::Random;
 use super::spell::spell;
 use super::tree::{Element, FlatTable};
-use crate::{Answer, Printed, MAX_NODES, MAX_TEXT, NONE, WORDS};
+use crate::names::{MISSING, MOST_BYTES, MOST_NODES, RECORD_LENGTH};
+use crate::{Answer, Printed};
 
 /// A text and the lengths of the memory lent for it.
 #[derive(Clone, Debug)]
@@ -103,7 +104,7 @@ fn deep_or_crowded(random: &mut Random) -> Element {
         let levels = random.between(60, 68);
         return deep(random, levels);
     }
-    let nodes = random.pick(&[MAX_NODES - 1, MAX_NODES, MAX_NODES + 1, 2 * MAX_NODES]);
+    let nodes = random.pick(&[MOST_NODES - 1, MOST_NODES, MOST_NODES + 1, 2 * MOST_NODES]);
     crowded(random, nodes)
 }
 
@@ -126,7 +127,7 @@ fn long_text(random: &mut Random, imperative: bool) -> Vec<u8> {
     let document = grown(random, 10);
     let mut text = damaged_text(random, &document, imperative);
     let over = random.below(3_000);
-    let length = random.pick(&[MAX_TEXT, MAX_TEXT + 1, MAX_TEXT + 1, MAX_TEXT + over]);
+    let length = random.pick(&[MOST_BYTES, MOST_BYTES + 1, MOST_BYTES + 1, MOST_BYTES + over]);
     let padding = random.pick(&[&b" "[..], b"\n", b"\r\n", "\u{e9}".as_bytes(), b"x \n", b"\xff"]);
     let missing = length.saturating_sub(text.len());
     let at = random.pick(&[0, text.len()]);
@@ -136,13 +137,13 @@ fn long_text(random: &mut Random, imperative: bool) -> Vec<u8> {
 
 /// Words, places and pool bytes lent: often exactly enough, one short, none, or ample.
 fn room(random: &mut Random, nodes: usize, pool: usize) -> [usize; 3] {
-    let mut room = [enough(random, nodes) * WORDS, enough(random, nodes), enough(random, pool)];
-    if room[0] == nodes * WORDS && random.chance(30) {
+    let mut room = [enough(random, nodes) * RECORD_LENGTH, enough(random, nodes), enough(random, pool)];
+    if room[0] == nodes * RECORD_LENGTH && random.chance(30) {
         // Not enough for one more node.
-        room[0] += random.below(WORDS);
+        room[0] += random.below(RECORD_LENGTH);
     }
     match random.below(10) {
-        0 => room[0] = short(random, nodes * WORDS),
+        0 => room[0] = short(random, nodes * RECORD_LENGTH),
         1 => room[1] = short(random, nodes),
         2 => room[2] = short(random, pool),
         _ => {}
@@ -242,14 +243,14 @@ impl PrintCase {
 
     /// Two words change places, a node gets another kind, or a word gets another value.
     fn damage_word(&mut self, random: &mut Random) {
-        let used = self.nodes.len().min(self.node_count as usize * WORDS);
+        let used = self.nodes.len().min(self.node_count as usize * RECORD_LENGTH);
         if used == 0 {
             return;
         }
         let (at, other) = (random.below(used), random.below(used));
         match random.below(10) {
             0 => self.nodes.swap(at, other),
-            1 | 2 => self.nodes[at - at % WORDS] = random.between(1, 25) as u32,
+            1 | 2 => self.nodes[at - at % RECORD_LENGTH] = random.between(1, 25) as u32,
             _ => self.nodes[at] = random.pick(&other_values(self.nodes[at], self.nodes[other], at)),
         }
     }
@@ -271,12 +272,12 @@ impl PrintCase {
             1 => count.wrapping_add(1),
             2 => 0,
             3 => count.wrapping_add(20),
-            _ => random.pick(&[NONE, 0x8000_0000, 0x1745_D175, 4_097, 65_537]),
+            _ => random.pick(&[MISSING, 0x8000_0000, 0x1745_D175, MOST_NODES as u32 + 1, MOST_BYTES as u32 + 1]),
         };
     }
 }
 
 fn other_values(value: u32, other: u32, at: usize) -> [u32; 8] {
-    let node = (at / WORDS) as u32;
-    [value.wrapping_add(1), value.wrapping_sub(1), value ^ 0x8000_0000, 0, NONE, other, node, 65_536]
+    let node = (at / RECORD_LENGTH) as u32;
+    [value.wrapping_add(1), value.wrapping_sub(1), value ^ 0x8000_0000, 0, MISSING, other, node, 65_536]
 }

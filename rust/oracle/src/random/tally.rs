@@ -1,6 +1,7 @@
 //! How often each number comes up.
 
 use super::case::{PrintCase, ReadCase};
+use crate::names::{NOT_A_TABLE, OUTPUT_SHORT};
 
 /// Counts by number: 0 to 19 of reads, and 0, 20, 21 of prints.
 #[derive(Clone, Debug, Default, PartialEq, Eq)]
@@ -17,8 +18,8 @@ pub fn tally(seed: u64, cases: u64) -> Tally {
     for seed in seed..seed + cases {
         tally.read[ReadCase::new(seed).run().answer.number as usize] += 1;
         match PrintCase::new(seed).run().printed.number {
-            crate::number::NO_TABLE => tally.no_table += 1,
-            crate::number::OUTPUT_SHORT => tally.output_short += 1,
+            NOT_A_TABLE => tally.no_table += 1,
+            OUTPUT_SHORT => tally.output_short += 1,
             _ => tally.printed += 1,
         }
     }

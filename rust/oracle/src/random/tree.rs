@@ -1,6 +1,7 @@
 //! A document as a tree, and its table by the plainest way there is ("The table").
 
-use crate::table::{bare_record, HEIGHT, NAME, NONE, TEXT, TYPE, WIDTH};
+use crate::names::{END, HEIGHT, KEY_OFFSET, MISSING, RECORD_LENGTH, TEXT_OFFSET, TYPE_OFFSET, WIDTH};
+use crate::table::bare_record;
 use crate::Kind;
 
 /// A node: its values, empty where missing, and its children in document order.
@@ -45,7 +46,7 @@ impl Element {
 
     pub fn table(&self) -> FlatTable {
         let mut table = FlatTable::default();
-        table.add(self, NONE);
+        table.add(self, MISSING);
         table
     }
 }
@@ -59,13 +60,14 @@ pub struct FlatTable {
 
 impl FlatTable {
     pub fn count(&self) -> usize {
-        self.nodes.len() / crate::WORDS
+        self.nodes.len() / RECORD_LENGTH
     }
 
     fn add(&mut self, element: &Element, parent: u32) {
         let (start, node) = (self.nodes.len(), self.count() as u32);
         let mut record = bare_record(element.kind, parent, node);
-        for (word, value) in [(NAME, &element.name), (TYPE, &element.class), (TEXT, &element.text)] {
+        for (word, value) in [(KEY_OFFSET, &element.name), (TYPE_OFFSET, &element.class), (TEXT_OFFSET, &element.text)]
+        {
             if !value.is_empty() {
                 record[word] = self.pool.len() as u32;
                 record[word + 1] = value.len() as u32;
@@ -77,6 +79,6 @@ impl FlatTable {
         }
         self.nodes.extend(record);
         element.children.iter().for_each(|child| self.add(child, node));
-        self.nodes[start + 2] = self.count() as u32;
+        self.nodes[start + END] = self.count() as u32;
     }
 }

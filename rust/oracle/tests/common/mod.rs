@@ -1,7 +1,15 @@
 //! What several tests use.
-#![allow(dead_code)]
+#![allow(dead_code, unused_imports)]
 
-use oracle::{print, read, Answer, WORDS};
+#[path = "../../../structural/tests/common/definitions.rs"]
+pub mod definitions;
+#[path = "../../../structural/tests/common/repository.rs"]
+mod repository;
+
+pub use repository::{bytes, file};
+
+use oracle::names::{END, KIND, MOST_BYTES, MOST_NODES, PARENT, RECORD_LENGTH};
+use oracle::{print, read, Answer};
 
 /// An answer with the used part of the lent memory.
 #[derive(Debug, PartialEq, Eq)]
@@ -14,11 +22,12 @@ pub struct Read {
 
 /// Reads with room for every document there is.
 pub fn read_amply(text: &[u8], imperative: bool) -> Read {
-    let (mut nodes, mut places, mut pool) = (vec![0; 4_096 * WORDS], vec![0; 4_096], vec![0; 65_536]);
+    let (mut nodes, mut places, mut pool) =
+        (vec![0; MOST_NODES * RECORD_LENGTH], vec![0; MOST_NODES], vec![0; MOST_BYTES]);
     let answer = read(text, imperative, &mut nodes, &mut places, &mut pool);
     let filled = matches!(answer.number, 0 | 15..=18);
     let (count, length) = if filled { (answer.nodes as usize, answer.pool as usize) } else { (0, 0) };
-    nodes.truncate(count * WORDS);
+    nodes.truncate(count * RECORD_LENGTH);
     places.truncate(count);
     pool.truncate(length);
     Read { answer, nodes, places, pool }
@@ -65,15 +74,15 @@ pub fn listing(text: &[u8], imperative: bool) -> String {
     if text.len() > 32_768 {
         return "too long\n".into();
     }
-    let (mut nodes, mut places, mut pool) = (vec![0; 1_024 * WORDS], vec![0; 1_024], vec![0; 32_768]);
+    let (mut nodes, mut places, mut pool) = (vec![0; 1_024 * RECORD_LENGTH], vec![0; 1_024], vec![0; 32_768]);
     let answer = read(text, imperative, &mut nodes, &mut places, &mut pool);
     if answer.number != 0 {
         return format!("refused {} {}:{}\n", answer.number, answer.line, answer.column);
     }
     let mut lines = format!("nodes {} pool {}\n", answer.nodes, answer.pool);
-    for (node, record) in nodes.chunks(WORDS).take(answer.nodes as usize).enumerate() {
-        let parent = if node == 0 { "-".into() } else { record[1].to_string() };
-        lines += &format!("{node} {} {parent} {}\n", record[0], record[2]);
+    for (node, record) in nodes.chunks(RECORD_LENGTH).take(answer.nodes as usize).enumerate() {
+        let parent = if node == 0 { "-".into() } else { record[PARENT].to_string() };
+        lines += &format!("{node} {} {parent} {}\n", record[KIND], record[END]);
     }
     lines
 }

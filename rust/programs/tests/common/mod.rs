@@ -1,24 +1,19 @@
 //! Running the programs.
-#![allow(dead_code)]
+#![allow(dead_code, unused_imports)]
 
-use std::fs;
+#[path = "../../../structural/tests/common/repository.rs"]
+mod repository;
+
+pub use repository::bytes;
+
+use repository::file;
 use std::io::Write;
-use std::path::{Path, PathBuf};
 use std::process::{Command, Stdio};
 use std::thread::sleep;
 use std::time::Duration;
 
 /// All three read standard input alike, and answer alike what they do not accept.
 pub const ALL: [&str; 3] = ["list_nested", "list_imperative", "print_canonical"];
-
-/// A file of the repository.
-fn file(name: &str) -> PathBuf {
-    Path::new(env!("CARGO_MANIFEST_DIR")).join("../..").join(name)
-}
-
-pub fn bytes(name: &str) -> Vec<u8> {
-    fs::read(file(name)).unwrap_or_else(|error| panic!("{name}: {error}"))
-}
 
 /// What a program prints where standard input holds these pieces, with a pause after each but the last.
 pub fn run_on_pieces(program: &str, pieces: &[&[u8]]) -> String {

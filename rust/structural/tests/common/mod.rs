@@ -1,25 +1,14 @@
 //! What several tests use: the repository's files, and memory with guards around it.
-#![allow(dead_code)]
+#![allow(dead_code, unused_imports)]
 
+pub mod definitions;
+mod repository;
 pub mod written;
 
-use std::fs;
-use std::path::{Path, PathBuf};
+pub use repository::{bytes, file, string};
+
 use structural::lent::{self, Answer, Printed, NODE_WORDS};
 use structural::{position, Spelling};
-
-/// A file of the repository.
-pub fn file(name: &str) -> PathBuf {
-    Path::new(env!("CARGO_MANIFEST_DIR")).join("../..").join(name)
-}
-
-pub fn bytes(name: &str) -> Vec<u8> {
-    fs::read(file(name)).unwrap_or_else(|error| panic!("{name}: {error}"))
-}
-
-pub fn string(name: &str) -> String {
-    String::from_utf8(bytes(name)).unwrap()
-}
 
 /// The examples that have both spellings, `.sd` and `.sdi`.
 pub const PAIRS: [&str; 4] = ["anchoring", "crew-manual", "man-overboard", "wave-limits"];

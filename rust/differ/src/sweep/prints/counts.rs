@@ -4,8 +4,13 @@ use super::table_of;
 use crate::sweep::manual;
 use crate::sweep::must::Must;
 use crate::sweep::sweeper::Sweeper;
+use oracle::names::{MISSING, MOST_BYTES, MOST_NODES, RECORD_LENGTH};
 use oracle::random::{Element, PrintCase};
-use oracle::{Kind, NONE, WORDS};
+use oracle::Kind;
+
+const RECORD: i32 = RECORD_LENGTH as i32;
+const NODES: u32 = MOST_NODES as u32;
+const BYTES: u32 = MOST_BYTES as u32;
 
 pub fn sweep(sweeper: &mut Sweeper) {
     around(sweeper);
@@ -20,7 +25,8 @@ fn around(sweeper: &mut Sweeper) {
     let must = Must::meet(3 * 3 * 5 * 3, 4 * 2, &[0, 20]);
     sweeper.prints("counts around those of a table", must, |prints| {
         let table = table_of(manual::NESTED);
-        let lengths = [-1, 0, 1, 10, 11].into_iter().flat_map(|words| [-1, 0, 1].map(|bytes| (words, bytes)));
+        let lengths =
+            [-1, 0, 1, RECORD - 1, RECORD].into_iter().flat_map(|words| [-1, 0, 1].map(|bytes| (words, bytes)));
         for ((words, bytes), nodes) in lengths.flat_map(|lent| [-1, 0, 1].map(|nodes| (lent, nodes))) {
             for pool in [-1, 0, 1] {
                 let fits = words >= 0 && bytes >= 0 && nodes == 0 && pool == 0;
@@ -42,15 +48,29 @@ fn lent(table: &PrintCase, [words, bytes, nodes, pool]: [i32; 4]) -> PrintCase {
 }
 
 /// Counts far off; eleven times the fourth to the sixth is about 4,294,967,296.
-const WILD: [u32; 14] =
-    [0, 1, 2, 0x1745_D174, 0x1745_D175, 0x1745_D176, 4_095, 4_096, 4_097, 65_535, 65_536, 65_537, 0x8000_0000, NONE];
+const WILD: [u32; 14] = [
+    0,
+    1,
+    2,
+    0x1745_D174,
+    0x1745_D175,
+    0x1745_D176,
+    NODES - 1,
+    NODES,
+    NODES + 1,
+    BYTES - 1,
+    BYTES,
+    BYTES + 1,
+    0x8000_0000,
+    MISSING,
+];
 
 fn wild(sweeper: &mut Sweeper) {
     let must = Must::meet(14 * 2, 0, &[20]);
     sweeper.prints("counts far off", must, |prints| {
         let mut table = table_of(manual::NESTED);
-        table.nodes.resize(4_100 * WORDS, 0);
-        table.pool.resize(65_600, b'a');
+        table.nodes.resize((MOST_NODES + 4) * RECORD_LENGTH, 0);
+        table.pool.resize(MOST_BYTES + 64, b'a');
         for count in WILD {
             prints.expect(20, &PrintCase { node_count: count, ..table.clone() });
             prints.expect(20, &PrintCase { pool_count: count, ..table.clone() });
@@ -68,18 +88,29 @@ fn title(texts: impl Iterator<Item = String>) -> Element {
 fn nodes(sweeper: &mut Sweeper) {
     let must = Must::meet(6, 2, &[0, 20]);
     sweeper.prints("nodes of a table", must, |prints| {
-        for nodes in [4_095, 4_096, 4_097, 4_098, 8_192, 30_002] {
+        for nodes in [MOST_NODES - 1, MOST_NODES, MOST_NODES + 1, MOST_NODES + 2, 2 * MOST_NODES, 30_002] {
             let document = title((2..nodes).map(|_| "a".into()));
-            prints.expect(if nodes > 4_096 { 20 } else { 0 }, &PrintCase::of(document.table()));
+            prints.expect(if nodes > MOST_NODES { 20 } else { 0 }, &PrintCase::of(document.table()));
         }
     });
 }
+
+/// Two that are not too long, and five that are.
+const LENGTHS: [usize; 7] = [
+    MOST_BYTES - 1,
+    MOST_BYTES,
+    MOST_BYTES + 1,
+    MOST_BYTES + 2,
+    2 * MOST_BYTES - 1,
+    2 * MOST_BYTES,
+    2 * MOST_BYTES + 1,
+];
 
 /// Up to 65,536 bytes: in one text, in one whose characters are all spelled by number, in many, in an id, and in a type.
 fn pools(sweeper: &mut Sweeper) {
     let must = Must::meet(7 * 5, 2 * 5, &[0, 20]);
     sweeper.prints("pool of a table", must, |prints| {
-        for length in [65_535, 65_536, 65_537, 65_538, 131_071, 131_072, 131_073] {
+        for length in LENGTHS {
             let one = |length| "a".repeat(length);
             let long = title([one(length)].into_iter());
             let escaped = title(["\u{1}".repeat(length)].into_iter());
@@ -87,19 +118,22 @@ fn pools(sweeper: &mut Sweeper) {
             let id = Element { name: one(length), ..title([].into_iter()) };
             let class = Element { class: one(length), ..title([].into_iter()) };
             for document in [long, escaped, many, id, class] {
-                prints.expect(if length > 65_536 { 20 } else { 0 }, &PrintCase::of(document.table()));
+                prints.expect(if length > MOST_BYTES { 20 } else { 0 }, &PrintCase::of(document.table()));
             }
         }
     });
 }
 
-/// As many blocks with ids as there can be: 4,096 nodes but document, section and their titles. They are told apart, and
-/// so are those of which the last has the id of the first, or of one in the middle.
+/// The last of as many paragraphs as there can be, counted from 0: 4,096 nodes but document, section and their titles.
+const LAST: usize = MOST_NODES - 5;
+
+/// As many blocks with ids as there can be. They are told apart, and so are those of which the last has the id of the
+/// first, or of one in the middle.
 fn ids(sweeper: &mut Sweeper) {
     let must = Must::meet(3, 1, &[0, 20]);
     sweeper.prints("ids of a table", must, |prints| {
-        for (last, number) in [(4_091, 0), (0, 20), (2_000, 20)] {
-            let names = (0..4_091).chain([last]).map(|id| format!("i{id}"));
+        for (last, number) in [(LAST, 0), (0, 20), (2_000, 20)] {
+            let names = (0..LAST).chain([last]).map(|id| format!("i{id}"));
             let paragraphs = names.map(|name| Element { name, ..Element::new(Kind::Paragraph) });
             let titled =
                 |kind, rest: Vec<Element>| Element::holding(kind, [vec![Element::new(Kind::Title)], rest].concat());

@@ -3,10 +3,9 @@
 use super::least::{document, least};
 use crate::sweep::must::Must;
 use crate::sweep::sweeper::Sweeper;
+use oracle::names::NESTED_LEVELS;
 use oracle::random::{Element, PrintCase};
 use oracle::Kind;
-
-const MOST: usize = 64;
 
 /// Document, section and paragraph.
 const BLOCKS: usize = 3;
@@ -22,9 +21,9 @@ pub fn sweep(sweeper: &mut Sweeper) {
         for (element, own) in innermost() {
             for pairs in 0..40 {
                 let sum = BLOCKS + 2 * pairs + own;
-                if (60..=67).contains(&sum) {
+                if (NESTED_LEVELS - 4..=NESTED_LEVELS + 3).contains(&sum) {
                     let table = PrintCase::of(document(in_lists(element.clone(), pairs)).table());
-                    prints.expect(if sum > MOST { 20 } else { 0 }, &table);
+                    prints.expect(if sum > NESTED_LEVELS { 20 } else { 0 }, &table);
                 }
             }
         }

@@ -4,8 +4,9 @@ use super::least::{document, kinds, least};
 use crate::sweep::must::Must;
 use crate::sweep::printing::Prints;
 use crate::sweep::sweeper::Sweeper;
+use oracle::names::{KIND, MISSING, RECORD_LENGTH, WIDTH};
 use oracle::random::{Element, PrintCase};
-use oracle::{Kind, NONE, WORDS};
+use oracle::Kind;
 
 pub fn sweep(sweeper: &mut Sweeper) {
     choices(sweeper);
@@ -19,7 +20,7 @@ const NAMES: [&str; 4] = ["", "r", "u/", " "];
 const TYPES: [&str; 3] = ["", "t", "t-"];
 const TEXTS: [&str; 2] = ["", "x"];
 /// None, two sizes, and two that are none.
-const SIZES: [[u32; 2]; 5] = [[NONE, NONE], [0, 0], [65_535, 65_535], [0, 65_536], [NONE, 0]];
+const SIZES: [[u32; 2]; 5] = [[MISSING, MISSING], [0, 0], [65_535, 65_535], [0, 65_536], [MISSING, 0]];
 
 /// How many choices fit a kind, by number. Document to subsection have an id or none and a type or none. Paragraph,
 /// formal item and footnote stand beside a footnote with that id, so that the first two have none, and the third cannot
@@ -41,13 +42,13 @@ fn choice(prints: &mut Prints, kind: Kind, [name, class, text]: [&str; 3], size:
     let values = Element { name: name.into(), class: class.into(), text: text.into(), ..least(kind, 0) };
     let mut case = PrintCase::of(document(values).table());
     let node = node_of(&case, kind);
-    case.nodes[node * WORDS + 9..][..2].copy_from_slice(&size);
+    case.nodes[node * RECORD_LENGTH + WIDTH..][..2].copy_from_slice(&size);
     prints.table(&case);
 }
 
 /// The last node of that kind: the swept one stands behind those that are put around it.
 fn node_of(case: &PrintCase, kind: Kind) -> usize {
-    case.nodes.iter().step_by(WORDS).rposition(|&number| number == kind.number()).expect("it is in the document")
+    case.nodes.chunks(RECORD_LENGTH).rposition(|record| record[KIND] == kind.number()).expect("it is in the document")
 }
 
 /// Every character up to U+0FFF, and some beyond.

@@ -5,10 +5,8 @@ use crate::read;
 use crate::sweep::must::Must;
 use crate::sweep::reading::Reads;
 use crate::sweep::sweeper::Sweeper;
+use oracle::names::{MOST_BYTES, MOST_NODES, RECORD_LENGTH};
 use oracle::random::ReadCase;
-use oracle::WORDS;
-
-const MOST_NODES: usize = 4_096;
 
 pub fn sweep(sweeper: &mut Sweeper) {
     nodes(sweeper);
@@ -16,10 +14,28 @@ pub fn sweep(sweeper: &mut Sweeper) {
     pools(sweeper);
 }
 
-/// Nodes up to the most that a text of 65,536 bytes can have: 18 bytes of document and title, and two a text.
+/// The most nodes that a text of 65,536 bytes can have: 18 bytes of document and title, and two a text.
+const MOST: usize = 2 + (MOST_BYTES - 18) / 2;
+
 const NODES: [usize; 18] = [
-    2, 4_095, 4_096, 4_097, 4_098, 8_191, 8_192, 9_999, 16_384, 24_999, 25_000, 25_001, 25_002, 30_002, 32_000, 32_759,
-    32_760, 32_761,
+    2,
+    MOST_NODES - 1,
+    MOST_NODES,
+    MOST_NODES + 1,
+    MOST_NODES + 2,
+    2 * MOST_NODES - 1,
+    2 * MOST_NODES,
+    9_999,
+    4 * MOST_NODES,
+    24_999,
+    25_000,
+    25_001,
+    25_002,
+    30_002,
+    32_000,
+    MOST - 2,
+    MOST - 1,
+    MOST,
 ];
 
 /// With room for all of them, with room for 4,096 and with none.
@@ -30,8 +46,13 @@ fn nodes(sweeper: &mut Sweeper) {
             let text = format!("[document [title{}]]", " a".repeat(nodes - 2));
             let number = if nodes > MOST_NODES { 13 } else { 0 };
             reads.expect(number, imperative, text.as_bytes());
-            let case =
-                ReadCase { text: text.into(), imperative, words: MOST_NODES * WORDS, places: MOST_NODES, pool: nodes };
+            let case = ReadCase {
+                text: text.into(),
+                imperative,
+                words: MOST_NODES * RECORD_LENGTH,
+                places: MOST_NODES,
+                pool: nodes,
+            };
             reads.lent(number, &case, read::WORDS);
             reads.lent(13, &ReadCase { words: 0, places: 0, pool: 0, ..case }, read::WORDS);
         }
@@ -93,7 +114,7 @@ fn kinds(sweeper: &mut Sweeper) {
 
 /// Bytes of a title's text, up to the most that a text of 65,536 bytes can have.
 const POOLS: [usize; 16] =
-    [1, 2, 255, 256, 257, 4_095, 4_096, 4_097, 24_999, 25_000, 25_001, 32_767, 32_768, 32_769, 40_000, 65_517];
+    [1, 2, 255, 256, 257, 4_095, 4_096, 4_097, 24_999, 25_000, 25_001, 32_767, 32_768, 32_769, 40_000, MOST_BYTES - 19];
 
 /// With the pool that is needed, one short, and none; and as many bytes out of escapes of three bytes and of one.
 fn pools(sweeper: &mut Sweeper) {
@@ -113,7 +134,8 @@ fn pool(reads: &mut Reads, spelled: &str, length: usize) {
     let text = format!("[document [title {spelled}]]");
     for (lent, number) in [(length, 0), (length - 1, 14), (0, 14)] {
         for imperative in SPELLINGS {
-            let case = ReadCase { text: text.clone().into(), imperative, words: 3 * WORDS, places: 3, pool: lent };
+            let case =
+                ReadCase { text: text.clone().into(), imperative, words: 3 * RECORD_LENGTH, places: 3, pool: lent };
             reads.lent(number, &case, read::WORDS);
         }
     }

@@ -3,8 +3,7 @@
 use super::frame::SPELLINGS;
 use crate::sweep::must::Must;
 use crate::sweep::sweeper::Sweeper;
-
-const MOST: usize = 65_536;
+use oracle::names::MOST_BYTES as MOST;
 
 /// Two that are not too long, and five that are.
 const LENGTHS: [usize; 7] = [MOST - 1, MOST, MOST + 1, MOST + 2, 2 * MOST - 1, 2 * MOST, 2 * MOST + 1];

@@ -3,12 +3,13 @@
 use super::frame::SPELLINGS;
 use crate::sweep::must::Must;
 use crate::sweep::sweeper::Sweeper;
+use oracle::names::{IMPERATIVE_LEVELS, NESTED_LEVELS};
 
 fn most(imperative: bool) -> usize {
     if imperative {
-        59
+        IMPERATIVE_LEVELS
     } else {
-        64
+        NESTED_LEVELS
     }
 }
 

@@ -8,8 +8,10 @@ use crate::sweep::manual;
 use crate::sweep::must::{goes_well, Must};
 use crate::sweep::reading::Reads;
 use crate::sweep::sweeper::Sweeper;
+use oracle::names::RECORD_LENGTH;
 use oracle::random::ReadCase;
-use oracle::WORDS;
+
+const RECORD: isize = RECORD_LENGTH as isize;
 
 pub fn sweep(sweeper: &mut Sweeper) {
     around(sweeper);
@@ -18,7 +20,7 @@ pub fn sweep(sweeper: &mut Sweeper) {
 }
 
 /// More or fewer words, places and pool bytes than needed. Up to 10 words more hold no further node.
-const MORE_WORDS: [isize; 6] = [-11, -1, 0, 1, 10, 11];
+const MORE_WORDS: [isize; 6] = [-RECORD, -1, 0, 1, RECORD - 1, RECORD];
 const MORE_PLACES: [isize; 3] = [-1, 0, 1];
 const MORE_POOL: [isize; 3] = [-1, 0, 1];
 
@@ -55,7 +57,7 @@ fn exactly(sample: &Sample, imperative: bool) -> ReadCase {
     let text = sample.texts[usize::from(imperative)].clone();
     let needed = oracle::read(&text, imperative, &mut [], &mut [], &mut []);
     let (nodes, pool) = (needed.nodes as usize, needed.pool as usize);
-    ReadCase { text, imperative, words: nodes * WORDS, places: nodes, pool }
+    ReadCase { text, imperative, words: nodes * RECORD_LENGTH, places: nodes, pool }
 }
 
 /// Every sample with no words, no places, no pool, with none of them, and with words for a record but one. A text that
@@ -72,7 +74,13 @@ fn none(sweeper: &mut Sweeper) {
 fn none_for_one(reads: &mut Reads, imperative: bool, sample: &Sample) {
     let needed = exactly(sample, imperative);
     let ReadCase { words, places, pool, .. } = needed;
-    let short = [(0, places, pool, 13), (words, 0, pool, 13), (words, places, 0, 14), (0, 0, 0, 13), (10, 9, 9, 13)];
+    let short = [
+        (0, places, pool, 13),
+        (words, 0, pool, 13),
+        (words, places, 0, 14),
+        (0, 0, 0, 13),
+        (RECORD_LENGTH - 1, 9, 9, 13),
+    ];
     for (words, places, pool, number) in short {
         let number = if goes_well(sample.number) { number } else { sample.number };
         reads.lent(number, &ReadCase { words, places, pool, ..needed.clone() }, read::WORDS);

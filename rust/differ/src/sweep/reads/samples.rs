@@ -1,5 +1,7 @@
 //! A text for every number that a text alone decides; no text is answered by 19.
 
+use oracle::names::{MOST_BYTES, NESTED_LEVELS};
+
 /// A number, and a text in each spelling that is answered by it.
 pub struct Sample {
     pub number: u32,
@@ -11,7 +13,9 @@ pub const COUNT: u64 = 17;
 
 pub fn samples() -> Vec<Sample> {
     let by_text = NUMBERED.iter().map(|&(number, texts)| Sample { number, texts: texts.map(Vec::from) });
-    by_text.chain([alike(1, vec![b' '; 65_537]), alike(2, vec![0xFF]), alike(6, vec![b'['; 65])]).collect()
+    by_text
+        .chain([alike(1, vec![b' '; MOST_BYTES + 1]), alike(2, vec![0xFF]), alike(6, vec![b'['; NESTED_LEVELS + 1])])
+        .collect()
 }
 
 fn alike(number: u32, text: Vec<u8>) -> Sample {
