@@ -65,7 +65,8 @@ pub fn filled(turn: u64, number: u32, read: &Read) -> Compared {
     let (nodes, pool) = (read.nodes.slice().to_vec(), read.pool.slice().to_vec());
     let case = PrintCase { nodes, node_count, pool, pool_count, out: 0 };
     let needed = spelled_length(&case).unwrap_or(SOME);
-    let (out, fits) = [(needed, OK), (needed - 1, OUTPUT_SHORT), (needed + 1, OK), (needed + 9, OK)][slowly(turn) % 4];
+    let (out, fits) =
+        [(needed, OK), (needed.saturating_sub(1), OUTPUT_SHORT), (needed + 1, OK), (needed + 9, OK)][slowly(turn) % 4];
     let number = if number == OK { fits } else { NOT_A_TABLE };
     let print = Print::of(&PrintCase { out, ..case }, Lengths::by_turns(turn, WORDS));
     stated(Some(number), compare(&print).0, &print)

@@ -23,13 +23,31 @@ pub fn sweep(sweeper: &mut Sweeper) {
     outputs::sweep(sweeper);
 }
 
-/// The table of a nested text, and no output.
+/// The table of a nested text, and no output. Where the rules refuse the text the table is empty, so that the groups of
+/// that table differ from what they state, or miss what they must meet, and the sweep goes on.
 fn table_of(text: &str) -> PrintCase {
     let (mut nodes, mut places, mut pool) =
         (vec![0; MOST_NODES * RECORD_LENGTH], vec![0; MOST_NODES], vec![0; MOST_BYTES]);
     let answer = oracle::read(text.as_bytes(), false, &mut nodes, &mut places, &mut pool);
-    assert_eq!(answer.number, 0, "{text}");
     nodes.truncate(answer.nodes as usize * RECORD_LENGTH);
     pool.truncate(answer.pool as usize);
     PrintCase { nodes, node_count: answer.nodes, pool, pool_count: answer.pool, out: 0 }
+}
+
+#[cfg(test)]
+mod tests {
+    use super::*;
+    use crate::sweep::must::Must;
+
+    /// A group whose table the rules refuse is reported, and does not end the sweep.
+    #[test]
+    fn a_text_that_is_refused_has_an_empty_table() {
+        let table = table_of("[document [title A] [link [target x]]]");
+        assert_eq!((table.nodes.len(), table.node_count, table.pool.len(), table.pool_count), (0, 0, 0, 0));
+        let mut sweeper = Sweeper::new(0, 1);
+        sweeper.prints("refused", Must::meet(1, 1, &[0]), |prints| prints.expect(0, &table));
+        let mut missed = String::new();
+        sweeper.groups[0].missed(&mut missed);
+        assert_eq!((sweeper.groups[0].differ(), missed.is_empty()), (1, false));
+    }
 }

@@ -56,7 +56,7 @@ fn answers(sweeper: &mut Sweeper) {
         let table = table_of(CANONICAL[1]);
         let out = CANONICAL[1].len();
         let short = PrintCase { out: out - 1, ..table.clone() };
-        let other = PrintCase { node_count: table.node_count - 1, out, ..table.clone() };
+        let other = PrintCase { node_count: table.node_count.wrapping_sub(1), out, ..table.clone() };
         for (case, number) in [(PrintCase { out, ..table }, 0), (short, 21), (other, 20)] {
             for words in 0..6 {
                 prints.lent(if words < print::WORDS { NO_ANSWER } else { number }, &case, words);
