@@ -314,7 +314,7 @@ fn help_and_version() {
         assert_eq!((run.err.as_str(), run.status), ("", 0));
         assert!(run.out.contains("structural check FILE.."));
     }
-    assert_eq!(run(&["--version"]), accepted(concat!("structural ", env!("CARGO_PKG_VERSION"), "\n")));
+    assert_eq!(run(&["--version"]), accepted("structural 0.1.0 (language 3.0.0)\n"));
 }
 
 #[test]

@@ -1,11 +1,12 @@
-//! Judged texts with their whole answers: those of `judged.txt`, those that the definitions are proved to answer, and
-//! the limits.
+//! Judged texts with their whole answers.
 //!
-//! | here | in the program `judged` | cases |
-//! |---|---|---|
-//! | [`stored_cases`] over `judged.txt` | `cases::all` over its standard input, `judge::small` | 55 |
+//! | test | cases |
+//! |---|---|
+//! | [`stored_cases`] | the 55 of `judged.txt`: answer, node words, places and pool, worked out by hand |
+//! | [`examples_of_the_definitions`] | the texts of the definitions, whose answers are proved |
+//! | [`lengths`], [`levels`], [`counts`] | the limits |
 //!
-//! The 12 other cases of the program are in `judged_built.rs`.
+//! 12 more cases, with texts that are too long to be written out, are in `judged_built.rs`.
 
 mod common;
 

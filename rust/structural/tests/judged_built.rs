@@ -1,13 +1,14 @@
-//! Judged texts that are too long to be written out, with their whole answers, node words, places and pools.
+//! Judged texts that are too long to be written out, with their whole answers, node words, places and pools, worked out
+//! by hand. Each test has both spellings.
 //!
-//! | here | in the program `judged` | cases |
-//! |---|---|---|
-//! | [`longest`], [`too_long`] | `longest::longest`, `longest::too_long` | 2 and 2 |
-//! | [`deepest`], [`too_deep`] | `deep::deepest`, `deep::too_deep`, from `deep::nested`, `deep::imperative` | 2 and 2 |
-//! | [`most`], [`too_many`] | `wide::most`, `wide::too_many` | 2 and 2 |
+//! | test | cases |
+//! |---|---|
+//! | [`longest`], [`too_long`] | texts of 65,536 and 65,537 bytes: 2 and 2 |
+//! | [`deepest`], [`too_deep`] | 64 and 65 levels of brackets, imperative 59 and 60: 2 and 2 |
+//! | [`most`], [`too_many`] | 4,096 and 4,097 nodes: 2 and 2 |
 //!
-//! What the program does in `build`, `compare`, `judge`, `numbers` and `shape` is done by [`common::written`] and by
-//! [`padded`], [`levels`], [`deep_table`], [`title`] and [`wide_table`]. The 55 other cases are in `judged.rs`.
+//! The texts and tables are built by [`padded`], [`levels`], [`deep_table`], [`title`] and [`wide_table`], and compared
+//! by [`common::written`]. 55 other cases are in `judged.rs`.
 
 mod common;
 

@@ -1,12 +1,5 @@
-//! Every manual of `examples/` in both spellings, printed, read back and printed again: the table is the same, and so
-//! is the spelling.
-//!
-//! | here | in the program `reprint` | cases |
-//! |---|---|---|
-//! | [`manuals`], [`every_manual_comes_back`] | `all`, `report`, `manual`, over the same files | 8 |
-//! | [`Memory::read`] | `nested`, `imperative` | |
-//! | [`Memory::printed`] | `prints`, and the first print in `back` | |
-//! | [`comes_back`] | `back`, `reads_back`, `same_words`, `same_answer` | |
+//! Every manual of `examples/` that has both spellings, printed, read back and printed again: the table is the same,
+//! and so is the spelling. Those are 8 cases ([`manuals`]).
 
 mod common;
 

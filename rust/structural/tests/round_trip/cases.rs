@@ -1,7 +1,4 @@
-//! A text, and the canonical spelling of what it says.
-//!
-//! [`nested`] and [`imperative`] have the memory of the program's `ways::small`, [`Case::large`] that of `ways::large`;
-//! [`documents`] are those of `documents` in its `main`.
+//! A text, and the canonical spelling of what it says. [`documents`] has all of them.
 
 use crate::memory::{Room, Table};
 use crate::{escapes, forms, many};

@@ -1,13 +1,11 @@
 //! One document with one word, one pool byte or one count changed: refused, but where what is left is the table of
 //! another document.
 //!
-//! | here | in the program's `damage` | cases |
-//! |---|---|---|
-//! | [`words_changed`], with [`changes`], [`still`] | `words`, with `each`, `changes`, `changed`, `still` | 532 |
-//! | [`pool_bytes_refused`], [`pool_bytes_kept`] | `bytes`, with `refused`, `poked` | 14 and 5 |
-//! | [`counts_changed`] | `counts`, with `counted` | 14 |
-//!
-//! [`document`] is its `fill`.
+//! | test | cases |
+//! |---|---|
+//! | [`words_changed`], with [`changes`], [`still`] | 532 |
+//! | [`pool_bytes_refused`], [`pool_bytes_kept`] | 14 and 5 |
+//! | [`counts_changed`] | 14 |
 
 use crate::memory::{Room, Table};
 use structural::{number, Spelling};

@@ -1,13 +1,11 @@
 //! Documents with one word of their table changed: other documents, or none.
 //!
-//! | here | in the program's `damage` | cases |
-//! |---|---|---|
-//! | [`sizes`] | `sizes`, `sized` | 7 |
-//! | [`blocks`] | `blocks` | 7 |
-//! | [`inline`] | `inline` | 4 |
-//! | [`targets`] | `targets` | 5 |
-//!
-//! [`edited`] is its `edited`, and all of them its `kept`.
+//! | test | cases |
+//! |---|---|
+//! | [`sizes`] | 7 |
+//! | [`blocks`] | 7 |
+//! | [`inline`] | 4 |
+//! | [`targets`] | 5 |
 
 use crate::memory::{Room, Table};
 use structural::lent::NONE;

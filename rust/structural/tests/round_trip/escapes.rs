@@ -1,7 +1,4 @@
-//! Every escape, and what is spelled raw.
-//!
-//! The functions are those of the program's `escapes`, under the same names, and stand for the same documents:
-//! [`named`] 2, [`controls`] 2, [`wide`] 2, [`plain`] 1.
+//! Every escape, and what is spelled raw, in seven documents: [`named`] 2, [`controls`] 2, [`wide`] 2, [`plain`] 1.
 
 use crate::cases::{nested, Case};
 

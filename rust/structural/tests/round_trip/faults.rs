@@ -1,11 +1,5 @@
 //! Documents that are read with a fault 15 to 18, and so fill a table: none is well-formed, and none is printed.
-//!
-//! | here | in the program's `faults` | cases |
-//! |---|---|---|
-//! | [`nested`] | `nested` | 6 |
-//! | [`imperative`] | the others of `faults` | 4 |
-//!
-//! [`faulty`] is its `faulty`.
+//! [`nested`] has 6 cases and [`imperative`] 4.
 
 use crate::memory::{Room, Table};
 use structural::Spelling;

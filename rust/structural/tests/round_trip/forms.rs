@@ -1,6 +1,4 @@
-//! Documents of every form, each with its canonical spelling.
-//!
-//! The functions are those of the program's `forms`, under the same names, and stand for the same documents:
+//! Documents of every form, each with its canonical spelling, 14 of them:
 //! [`titles`] 4, [`blocks`] 2, [`images`] 2, [`links`] 1, [`lists`] 1, [`tables`] 2, [`commands`] 2.
 
 use crate::cases::{imperative, nested, Case};

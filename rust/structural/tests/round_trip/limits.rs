@@ -1,13 +1,11 @@
 //! "Within the limits (at most 4,096 nodes, canonical nesting at most 64, pool at most 65,536)": tables at a limit, and
 //! one past it that no text gives.
 //!
-//! | here | in the program's `limits` | cases |
-//! |---|---|---|
-//! | [`deep`], with [`deeper`], [`levels`] | `deep`, with `deeper`, `levels`, `openings`, `opening` | 6 |
-//! | [`wide`] | `wide` | 2 |
-//! | [`pools`] | `pools` | 2 |
-//!
-//! [`Added::to`] is its `grown`, with `raises` and `raise` in [`raise`], `row`, `set` and `store` in [`Added::row`].
+//! | test | cases |
+//! |---|---|
+//! | [`deep`], with [`deeper`], [`levels`] | 6 |
+//! | [`wide`] | 2 |
+//! | [`pools`] | 2 |
 
 use crate::common::padded;
 use crate::many::titled;

@@ -1,15 +1,15 @@
 //! Tables that were read are printed; answers and memory are those of document 01. The expected values were worked out
 //! by hand.
 //!
-//! | module | in the program `round_trip` | cases |
-//! |---|---|---|
-//! | [`ways`], with [`cases`], [`forms`], [`escapes`], [`many`] | `documents`, `past`, `ways` | 24, 24, 96 and 72 |
-//! | [`damage`] | `damage::words`, `damage::bytes`, `damage::counts` | 532, 19 and 14 |
-//! | [`edited`] | `damage::kept` | 23 |
-//! | [`faults`] | `faults` | 10 |
-//! | [`limits`] | `limits` | 10 |
+//! | module | cases |
+//! |---|---|
+//! | [`ways`], with [`cases`], [`forms`], [`escapes`], [`many`] | 24, 24, 96 and 72, of 24 documents |
+//! | [`damage`] | 532 with a word changed, 19 with a byte of the pool, 14 with a count |
+//! | [`edited`] | 23 |
+//! | [`faults`] | 10 |
+//! | [`limits`] | 10 |
 //!
-//! Those are 824 cases, as many as the program's output says.
+//! Those are 824 cases.
 
 mod cases; // a text and its canonical spelling
 #[path = "../common/mod.rs"]

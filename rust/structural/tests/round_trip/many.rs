@@ -1,11 +1,5 @@
-//! Documents that are built: 200 paragraphs with ids, links, images and lists, nested and imperative, and the most
-//! nodes.
-//!
-//! | here | in the program's `many` | documents |
-//! |---|---|---|
-//! | [`long`], [`paragraphs`] | `long`, `whole`, `paragraphs` | 2 |
-//! | [`nested`], [`imperative`], [`canonical`], [`linked`] | `paragraph`, `opened`, `linked`, `canonical` | |
-//! | [`most`], with [`titled`] | `most`, with `titled`, `letters`, `letter` | 1 |
+//! Documents that are built: 200 paragraphs with ids, links, images and lists, nested and imperative ([`long`]), and
+//! the most nodes ([`most`]).
 
 use crate::cases::Case;
 use crate::common::padded;

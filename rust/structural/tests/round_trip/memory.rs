@@ -1,11 +1,4 @@
 //! Marked memory: what reads and prints are lent, and what is left in it.
-//!
-//! | here | in the program's `memory` and `ways` |
-//! |---|---|
-//! | [`Table::read`] | `read`, with the memory that its callers lend |
-//! | [`Table::prints`] | `lend`, `prints_in`, `prints`, `holds` |
-//! | [`Table::spells`], [`Table::refuses`], [`Table::answers`] | `spells`, `refuses`, `answered` |
-//! | [`Table::comes_back`] | `back`, `reread`, `same_answer`, `same_words` |
 
 use structural::lent;
 use structural::{number, Spelling};

@@ -1,11 +1,11 @@
 //! What is tried with each of the 24 documents.
 //!
-//! | here | in the program | cases |
-//! |---|---|---|
-//! | [`spelled`] | `spelled`: `Way::Spelled` | 24 |
-//! | [`read_back`] | `read back`: `Way::Back`, `ways::back` | 24 |
-//! | [`output_lengths`] | `output lengths`: `Way::Lengths`, `ways::lengths` | 96 |
-//! | [`past_the_counts`] | `past the counts`: `Way::Exact`, `Way::Zeros`, `Way::Ones`, `ways::exact` | 72 |
+//! | test | cases |
+//! |---|---|
+//! | [`spelled`] | 24 |
+//! | [`read_back`] | 24 |
+//! | [`output_lengths`] | 96 |
+//! | [`past_the_counts`] | 72 |
 
 use crate::cases::{documents, Case};
 use crate::memory::Table;

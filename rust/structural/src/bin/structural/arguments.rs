@@ -24,6 +24,9 @@ FILE is - for standard input.
 Exit status: 0 all files are well-formed; 1 one is refused or cannot be read; 2 wrong usage.
 ";
 
+/// What `--version` prints: the version of this package, and that of the language.
+pub const VERSION: &str = concat!("structural ", env!("CARGO_PKG_VERSION"), " (language 3.0.0)\n");
+
 /// What stands below a message about a wrong call.
 pub const HINT: &str = "\
 usage: structural [--imperative] check FILE.. | list FILE | fmt FILE

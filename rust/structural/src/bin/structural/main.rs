@@ -40,7 +40,7 @@ fn status(well: bool) -> ExitCode {
 fn answer(request: Request) -> bool {
     match request {
         Request::Help => output::say(arguments::HELP),
-        Request::Version => output::say(concat!("structural ", env!("CARGO_PKG_VERSION"), "\n")),
+        Request::Version => output::say(arguments::VERSION),
         Request::Check(words, choice) => check::all(&words, choice),
         Request::One(task, word, choice) => one(task, &Input::named(&word, choice)),
     }
