@@ -77,8 +77,9 @@ fn escaped(rest: &mut std::str::Chars) -> char {
 fn examples_of_the_definitions() {
     let file = string("crates/document/specs/examples/Judged.antt");
     let (full, short) = file.split_once("pub record Lent").unwrap();
-    let examples: Vec<_> =
-        full.lines().filter(|line| !line.trim_start().starts_with("--")).filter_map(definition).collect();
+    let further = string("crates/examples/specs/Faults.antt");
+    let lines = full.lines().chain(further.lines());
+    let examples: Vec<_> = lines.filter(|line| !line.trim_start().starts_with("--")).filter_map(definition).collect();
     assert!(examples.len() > 100, "{}", examples.len());
     for (spelling, text, wanted) in examples {
         let mut room = Room::new(704, 64, 64);
