@@ -25,7 +25,7 @@ lentNodes = 1024
 abbrev pub lentPool : ℕ
 lentPool = 32768
 
--- The memory that a program lends to the read: the words of so many nodes, a place for each of them (docs/DECISIONS.md, B3) and the pool, all zero.
+-- The memory that a program lends to the read: the words of so many nodes, a place for each of them (docs/decisions/readings.md, B3) and the pool, all zero.
 unfoldable pub lentMemory : Memory
 lentMemory = record { nodes = replicate (lentNodes * recordLength) 0; places = replicate lentNodes 0; pool = replicate lentPool 0 }
 
@@ -43,7 +43,7 @@ decimal n = decimalWithin n n
 abbrev pub space : ℕ
 space = 0x20
 
--- Every line ends with U+000A, the last too (docs/DECISIONS.md, B1).
+-- Every line ends with U+000A, the last too (docs/decisions/readings.md, B1).
 abbrev pub newline : ℕ
 newline = 0x0A
 

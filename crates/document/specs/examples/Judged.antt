@@ -1,5 +1,5 @@
 -- The judged examples of document 01 that are marked * and its printed listing, each with the whole outcome of the read;
--- and with their answers alone its settlements, the open points of docs/DECISIONS.md, and texts for the numbers 2 to 18, each as one list.
+-- and with their answers alone its settlements, the open points of docs/decisions/readings.md, and texts for the numbers 2 to 18, each as one list.
 -- That each text has what is beside it is proved in `proofs/Judged.antt`.
 use Prim.Native.Nat.{ℕ}
 use Prim.Native.String.{String}
@@ -126,7 +126,7 @@ settlements =
     ∷ example nested "[document [title A] [section [title B] [paragraph [link-ext [target \"http://a/?b=c\"]]]]]" 0 0 1 1 8 15
     ∷ []
 
--- The open points, by their number in docs/DECISIONS.md.
+-- The open points, by their number in docs/decisions/readings.md.
 unfoldable pub open-points : List Example
 open-points =
     -- B4
