@@ -34,7 +34,7 @@ ghost use Rattle.document.specs.reference.Outcome.{oneExpression};
 ghost use Rattle.reader.specs.internal.Tape.{taped};
 ghost use Rattle.reader.specs.internal.TapeWord.{tapeWords, mostWord};
 ghost use Rattle.reader.specs.internal.RunStands.{RunStands};
-ghost use Rattle.reader.specs.internal.WalkAnswer.{Bounded, readWalked};
+ghost use Rattle.reader.specs.internal.WalkAnswer.{PoolBound, MayStart, MayEnter, Bounded, readWalked};
 ghost use Rattle.reader.specs.internal.BlockWalk.{commandClass, looseClass, leadsCommand, endsAt, TurnAs, InCommand, InContent, Belongs, JudgesChild};
 
 // The parameters of blocks, and the first and the last of the kinds of commands.
@@ -122,7 +122,7 @@ fn turn_as(
     node: usize,
     tape: &mut [u32; TAPE_WORDS],
 ) -> Turn
-    requires { ⌜ (nodes ≤ i) × (i < seen .next → pool + seen .length ≤ seen .next) × (i ≤ mostBytes) × (seen .place ≤ mostBytes) × (node ≤ mostWord) ⌝ }
+    requires { ⌜ (nodes ≤ i) × (i < seen .next → PoolBound (pool + seen .length) (seen .next)) × (i ≤ mostBytes) × (seen .place ≤ mostBytes) × (node ≤ mostWord) ⌝ }
     ensures { λ r. ⌜ TurnAs at i (seen .sort) (seen .place) (seen .next) (seen .length) class kind state nodes pool node
         (now (tape .entry)) (now (tape .exit)) r ⌝ }
 {
@@ -154,7 +154,7 @@ fn block(
     node: usize,
     tape: &mut [u32; TAPE_WORDS],
 ) -> Walked
-    requires { ⌜ (from ≤ length (now text)) × (nodes ≤ from) × (pool ≤ from) × (length (now text) ≤ mostBytes) × (node ≤ mostWord) ⌝ }
+    requires { ⌜ MayStart (now text) from nodes pool node ⌝ }
     ensures { λ r. ⌜ Bounded (now (text .entry)) from r ⌝ }
     ensures { λ r. ⌜ InCommand (now (text .entry)) at kind node from 0 nodes pool (now (tape .entry)) (now (tape .exit)) r ⌝ }
 {
@@ -225,7 +225,7 @@ fn content(
     node: usize,
     tape: &mut [u32; TAPE_WORDS],
 ) -> Walked
-    requires { ⌜ (from ≤ length (now text)) × (nodes ≤ from) × (pool ≤ from) × (length (now text) ≤ mostBytes) × (node ≤ mostWord) ⌝ }
+    requires { ⌜ MayStart (now text) from nodes pool node ⌝ }
     ensures { λ r. ⌜ Bounded (now (text .entry)) from r ⌝ }
     ensures { λ r. ⌜ InContent (now (text .entry)) at kind node from read nodes pool (now (tape .entry)) (now (tape .exit)) r ⌝ }
 {
@@ -288,8 +288,7 @@ fn child(
     node: usize,
     tape: &mut [u32; TAPE_WORDS],
 ) -> Walked
-    requires { ⌜ (from ≤ length (now text)) × (nodes < from) × (pool ≤ from) × (length (now text) ≤ mostBytes) × (node ≤ mostWord)
-        × (at ≤ length (now text)) × Belongs parent class ⌝ }
+    requires { ⌜ MayEnter (now text) at from nodes pool node × Belongs parent class ⌝ }
     ensures { λ r. ⌜ Bounded (now (text .entry)) from r ⌝ }
     ensures { λ r. ⌜ JudgesChild (now (text .entry)) at from parent class nodes pool node (now (tape .entry)) (now (tape .exit)) r ⌝ }
 {

@@ -21,7 +21,6 @@ ghost use mathlib.Core.Bool.{cond, _&&_};
 ghost use Prim.Native.Nat.{ℕ, _+_, _≤_};
 ghost use lib.Dec.{eqb};
 ghost use lib.ListN.{length, take, drop};
-ghost use Rattle.base.specs.rules.Limits.{mostBytes};
 ghost use Rattle.elements.specs.rules.Class as Class;
 ghost use Rattle.syntax.specs.rules.Expression.{Exprs, Expr};
 ghost use Rattle.lexer.specs.Token.{atomValue};
@@ -30,7 +29,7 @@ ghost use Rattle.document.specs.reference.Meaning.{judgeValue, valueTree, sizeT
 ghost use Rattle.reader.specs.internal.RunStands.{RunStands};
 ghost use Rattle.reader.specs.internal.Counts.{valueSize};
 ghost use Rattle.reader.specs.internal.TapeWord as TapeWord;
-ghost use Rattle.reader.specs.internal.WalkAnswer.{walkedTo, Bounded};
+ghost use Rattle.reader.specs.internal.WalkAnswer.{walkedTo, MayStart, Bounded};
 ghost use Rattle.reader.specs.internal.ParameterValue.{HoldsOne, ReadsNumber, Notes, holdsSort};
 
 // Parameters by their numbers.
@@ -219,7 +218,7 @@ fn size(
     node: usize,
     tape: &mut [u32; TAPE_WORDS],
 ) -> Walked
-    requires { ⌜ (from ≤ length (now text)) × (nodes ≤ from) × (pool ≤ from) ⌝ }
+    requires { ⌜ MayStart (now text) from nodes pool node ⌝ }
     ensures { λ r. ⌜ Bounded (now (text .entry)) from r ⌝ }
     ensures { λ r. ⌜ ((es : Exprs) (m : ℕ) → RunStands (now (text .entry)) from es m
         → r ≡ walkedTo m nodes pool (judgeValue kind at (sizeTree es))) ⌝ }
@@ -270,7 +269,7 @@ pub fn value(
     node: usize,
     tape: &mut [u32; TAPE_WORDS],
 ) -> Walked
-    requires { ⌜ (from ≤ length (now text)) × (length (now text) ≤ mostBytes) × (nodes ≤ from) × (pool ≤ from) ⌝ }
+    requires { ⌜ MayStart (now text) from nodes pool node ⌝ }
     ensures { λ r. ⌜ Bounded (now (text .entry)) from r ⌝ }
     ensures { λ r. ⌜ ((es : Exprs) (m : ℕ) → RunStands (now (text .entry)) from es m
         → r ≡ walkedTo m nodes (pool + valueSize class es) (judgeValue kind at (valueTree class es))) ⌝ }

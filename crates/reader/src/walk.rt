@@ -19,10 +19,9 @@ use lexer::look;
 ghost use mathlib.Core.Path.{_≡_};
 ghost use mathlib.Core.Logic.{_⊎_};
 ghost use mathlib.Core.Bool.{cond, true};
-ghost use Prim.Native.Nat.{_≤_, _<_};
+ghost use Prim.Native.Nat.{_≤_};
 ghost use lib.Dec.{eqb};
 ghost use lib.ListN.{length, drop};
-ghost use Rattle.base.specs.rules.Limits.{mostBytes};
 ghost use Rattle.base.specs.rules.Numbers as Number;
 ghost use Rattle.elements.specs.rules.Class as Class;
 ghost use Rattle.elements.specs.rules.Class.{isElement};
@@ -30,7 +29,7 @@ ghost use Rattle.elements.specs.rules.Inside.{ended};
 ghost use Rattle.kind.specs.Machine.{stateOf};
 ghost use Rattle.lexer.specs.Token.{seen, the-end};
 ghost use Rattle.document.specs.reference.Meaning.{Verdict};
-ghost use Rattle.reader.specs.internal.WalkAnswer.{walkedTo, Bounded};
+ghost use Rattle.reader.specs.internal.WalkAnswer.{walkedTo, MayStart, MayEnter, Bounded};
 ghost use Rattle.reader.specs.internal.Tape.{left};
 ghost use Rattle.reader.specs.internal.TapeWord.{tapeWords, mostWord};
 ghost use Rattle.reader.specs.internal.Walk.{AnswersFrom, Finishes, JudgesList, TurnFrom, TurnWithin, pastBracket};
@@ -135,7 +134,7 @@ fn next_turn(
     node: usize,
     tape: &mut [u32; TAPE_WORDS],
 ) -> Turn
-    requires { ⌜ (i ≤ length (now text)) × (nodes ≤ i) × (pool ≤ i) × (length (now text) ≤ mostBytes) × (node ≤ mostWord) ⌝ }
+    requires { ⌜ MayStart (now text) i nodes pool node ⌝ }
     ensures { λ r. ⌜ TurnWithin (now (text .entry)) i r ⌝ }
     ensures { λ r. ⌜ TurnFrom (now (text .entry)) at kind i state nodes pool node (now (tape .entry)) (now (tape .exit)) r ⌝ }
 {
@@ -219,8 +218,7 @@ pub fn inside(
     node: usize,
     tape: &mut [u32; TAPE_WORDS],
 ) -> Walked
-    requires { ⌜ (from ≤ length (now text)) × (nodes < from) × (pool ≤ from) × (length (now text) ≤ mostBytes) × (node ≤ mostWord)
-        × (at ≤ length (now text)) ⌝ }
+    requires { ⌜ MayEnter (now text) at from nodes pool node ⌝ }
     ensures { λ r. ⌜ Bounded (now (text .entry)) from r ⌝ }
     ensures { λ r. ⌜ JudgesList (now (text .entry)) at from parent class nodes pool node (now (tape .entry)) (now (tape .exit)) r ⌝ }
 {
@@ -244,7 +242,7 @@ fn content_of(
     node: usize,
     tape: &mut [u32; TAPE_WORDS],
 ) -> Walked
-    requires { ⌜ (from ≤ length (now text)) × (nodes ≤ from) × (pool ≤ from) × (length (now text) ≤ mostBytes) × (node ≤ mostWord) ⌝ }
+    requires { ⌜ MayStart (now text) from nodes pool node ⌝ }
     ensures { λ r. ⌜ Bounded (now (text .entry)) from r ⌝ }
     ensures { λ r. ⌜ Finishes (now (text .entry)) at kind from nodes pool node (now (tape .entry)) (now (tape .exit)) r ⌝ }
 {
@@ -265,7 +263,7 @@ pub fn inline(
     node: usize,
     tape: &mut [u32; TAPE_WORDS],
 ) -> Walked
-    requires { ⌜ (from ≤ length (now text)) × (nodes ≤ from) × (pool ≤ from) × (length (now text) ≤ mostBytes) × (node ≤ mostWord) ⌝ }
+    requires { ⌜ MayStart (now text) from nodes pool node ⌝ }
     ensures { λ r. ⌜ Bounded (now (text .entry)) from r ⌝ }
     ensures { λ r. ⌜ AnswersFrom (now (text .entry)) at kind from 0 nodes pool node (now (tape .entry)) (now (tape .exit)) r ⌝ }
 {
@@ -321,8 +319,7 @@ fn list(
     node: usize,
     tape: &mut [u32; TAPE_WORDS],
 ) -> Walked
-    requires { ⌜ (from ≤ length (now text)) × (nodes ≤ from) × (pool ≤ from) × (length (now text) ≤ mostBytes) × (node ≤ mostWord)
-        × ((kind ≡ Class.list-ordered) ⊎ (kind ≡ Class.list-unordered)) ⌝ }
+    requires { ⌜ MayStart (now text) from nodes pool node × ((kind ≡ Class.list-ordered) ⊎ (kind ≡ Class.list-unordered)) ⌝ }
     ensures { λ r. ⌜ Bounded (now (text .entry)) from r ⌝ }
     ensures { λ r. ⌜ AnswersFrom (now (text .entry)) at kind from 0 nodes pool node (now (tape .entry)) (now (tape .exit)) r ⌝ }
 {
@@ -370,7 +367,7 @@ fn item(
     node: usize,
     tape: &mut [u32; TAPE_WORDS],
 ) -> Walked
-    requires { ⌜ (from ≤ length (now text)) × (nodes ≤ from) × (pool ≤ from) × (length (now text) ≤ mostBytes) × (node ≤ mostWord) ⌝ }
+    requires { ⌜ MayStart (now text) from nodes pool node ⌝ }
     ensures { λ r. ⌜ Bounded (now (text .entry)) from r ⌝ }
     ensures { λ r. ⌜ AnswersFrom (now (text .entry)) at Class.item from 0 nodes pool node (now (tape .entry)) (now (tape .exit)) r ⌝ }
 {

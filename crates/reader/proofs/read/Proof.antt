@@ -1,4 +1,4 @@
--- `reader::read` meets its contract: each way passes what the parts ensure to its lemma of `Answered`.
+-- `reader::read` meets its contract: each way passes what the parts ensure to its lemma of `Promises`.
 use mathlib.Core.Path.{sym, _∙_}
 use native.Mathlib.Omega.{arith}
 use denote.Ref.{now}

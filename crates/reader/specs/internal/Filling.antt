@@ -13,6 +13,9 @@ use Rattle.base.specs.rules.Limits.{missing}
 use Rattle.document.specs.rules.Document.{Nodes, sayAll}
 use Rattle.document.specs.reference.Meaning.{treesOf}
 use Rattle.document.specs.rules.Table.{poolAll, offset}
+use Rattle.document.specs.rules.Record.{recordLength}
+use Rattle.reader.specs.internal.TapeWord as Word
+use Rattle.reader.specs.internal.TapeWord.{nodeWords, mostWord}
 use Rattle.reader.specs.declared.fill.Entry.{Entry}
 
 -- How far a fill has got: the numbers of the next node and the next pool byte, and the lent memory.
@@ -29,7 +32,7 @@ saidBy es = sayAll (treesOf es)
 
 -- Pool places that fit a word.
 unfoldable pub Fits32 : ℕ → Exprs → Type 0
-Fits32 bytes es = bytes + length (poolAll (saidBy es)) ≤ 4294967295
+Fits32 bytes es = bytes + length (poolAll (saidBy es)) ≤ mostWord
 
 -- The bytes of the symbol or string that a word of the tape says the place of; none where it says none.
 unfoldable pub heldAt : List ℕ → ℕ → List ℕ
@@ -40,7 +43,7 @@ unfoldable pub withRow : ℕ → ℕ → ℕ → ℕ → ℕ → ℕ → List �
 withRow at kind parent end width height key type text a = record {
   node = a .node + 1;
   bytes = a .bytes + length key + length type + length text;
-  words = sets (a .words) (11 * a .node) (
+  words = sets (a .words) (recordLength * a .node) (
       kind
       ∷ parent
       ∷ end
@@ -60,14 +63,14 @@ withRow at kind parent end width height key type text a = record {
 -- The entry of node n on the tape t.
 unfoldable pub entryAt : List ℕ → ℕ → Entry
 entryAt t n = record {
-  place = getD t (8 * n) 0;
-  class = getD t (8 * n + 1) 0;
-  parent = getD t (8 * n + 2) 0;
-  end = getD t (8 * n + 3) 0;
-  key = getD t (8 * n + 4) 0;
-  typename = getD t (8 * n + 5) 0;
-  width = getD t (8 * n + 6) 0;
-  height = getD t (8 * n + 7) 0;
+  place = getD t (nodeWords * n) 0;
+  class = getD t (nodeWords * n + Word.class) 0;
+  parent = getD t (nodeWords * n + Word.parent) 0;
+  end = getD t (nodeWords * n + Word.end) 0;
+  key = getD t (nodeWords * n + Word.key) 0;
+  typename = getD t (nodeWords * n + Word.type) 0;
+  width = getD t (nodeWords * n + Word.width) 0;
+  height = getD t (nodeWords * n + Word.height) 0;
 }
 
 -- The row of the next node of the text s from its entry: of a text, of an element, of either.
@@ -83,4 +86,4 @@ nextRow s e a = cond (eqb (e .class) Class.text) (textRow s e a) (elementRow s e
 
 -- From a to z a row was written, where the pool places fit a word.
 pub record Rowed (row : Filling → Filling) (a z : Filling) : Type 0 where
-  pub same : row a .bytes ≤ 4294967295 → z ≡ row a
+  pub same : row a .bytes ≤ mostWord → z ≡ row a

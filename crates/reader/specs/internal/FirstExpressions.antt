@@ -3,6 +3,7 @@ use Prim.Native.Nat.{ℕ}
 use mathlib.Core.Path.{_≡_}
 use mathlib.Core.List.{List}
 use lib.ListN.{length}
+use Rattle.base.specs.rules.Numbers as Number
 use Rattle.syntax.specs.rules.Expression.{Exprs, none, and, place}
 use Rattle.document.specs.reference.Meaning.{fault, judgeRoot}
 use Rattle.reader.specs.internal.RunStands.{RunStands}
@@ -22,5 +23,5 @@ secondPlace n (and x es) = firstPlace n es
 
 -- w is the answer of the first expression of a text, whatever follows it: from w's next place on, where it has no fault.
 abbrev pub FirstJudged : List ℕ → Exprs → Walked → Type 0
-FirstJudged s none w = w ≡ walkedTo 0 0 0 (fault 7 (length s))
+FirstJudged s none w = w ≡ walkedTo 0 0 0 (fault Number.not-one-expression (length s))
 FirstJudged s (and x es) w = (w ≡ walkedTo (w .next) (nodeCount x) (poolBytes x) (judgeRoot x)) × (w .number ≡ 0 → RunStands s (w .next) es (length s))

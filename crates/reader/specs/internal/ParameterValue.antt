@@ -11,6 +11,7 @@ use Rattle.lexer.specs.Token.{a-symbol, a-string, atomValue}
 use Rattle.document.specs.reference.Meaning.{onlyOne, textBytes, symbolBytes, numberOf}
 use Rattle.reader.specs.internal.RunStands.{RunStands}
 use Rattle.reader.specs.internal.Tape.{valuePlace, noted}
+use Rattle.reader.specs.internal.TapeWord.{tapeWords}
 use Rattle.reader.specs.declared.walk.Walked.{Walked}
 use Rattle.reader.specs.declared.value.One.{One}
 use Rattle.reader.specs.declared.value.Number.{Number}
@@ -45,17 +46,21 @@ pub record BeginsWithNumber (s : List ℕ) (es : Exprs) (m n j : ℕ) : Type 0 w
   pub is : numberOf first ≡ n
   pub stands : RunStands s j others m
 
+-- The largest width or height that a size may have.
+abbrev pub mostNumber : ℕ
+mostNumber = 65535
+
 -- What stands first, if anything, is no number of a size.
 abbrev pub Unfit : Exprs → Type 0
 Unfit none = Unit {0}
-Unfit (and e es) = 65535 < numberOf e
+Unfit (and e es) = mostNumber < numberOf e
 
 -- A number of a size stands at place i, or none that a size may have.
 pub record ReadsNumber (s : List ℕ) (i : ℕ) (r : Number) : Type 0 where
-  pub within : r .number ≤ 65535 → (i ≤ r .next) × (r .next ≤ length s)
-  pub begins : r .number ≤ 65535 → (es : Exprs) (m : ℕ) → RunStands s i es m → BeginsWithNumber s es m (r .number) (r .next)
-  pub unfit : 65535 < r .number → (es : Exprs) (m : ℕ) → RunStands s i es m → Unfit es
+  pub within : r .number ≤ mostNumber → (i ≤ r .next) × (r .next ≤ length s)
+  pub begins : r .number ≤ mostNumber → (es : Exprs) (m : ℕ) → RunStands s i es m → BeginsWithNumber s es m (r .number) (r .next)
+  pub unfit : mostNumber < r .number → (es : Exprs) (m : ℕ) → RunStands s i es m → Unfit es
 
--- Where what stands from place i on is the value of a parameter of class c, z is the tape t with that value noted of a node. A tape has 32,768 words.
+-- Where what stands from place i on is the value of a parameter of class c, z is the tape t with that value noted of a node. A tape has `tapeWords` words.
 pub record Notes (s : List ℕ) (i c node : ℕ) (t : List ℕ) (r : Walked) (z : List ℕ) : Type 0 where
-  pub notes : (es : Exprs) (m : ℕ) → RunStands s i es m → r .number ≡ 0 → length t ≡ 32768 → z ≡ noted t node c es
+  pub notes : (es : Exprs) (m : ℕ) → RunStands s i es m → r .number ≡ 0 → length t ≡ tapeWords → z ≡ noted t node c es

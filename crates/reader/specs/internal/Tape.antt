@@ -1,5 +1,5 @@
--- What the judging walk notes of each node, for the fill: eight words a node, in the order of the nodes. It serves the contracts of private functions.
--- The words: place, class, parent, end, the places of what its id or target and its type hold (0 where there is none), width, height.
+-- What the judging walk notes of each node, for the fill: `nodeWords` words a node (TapeWord.antt), in the order of the nodes.
+-- It serves the contracts of private functions.
 use Prim.Native.Nat.{ℕ, _+_, _*_, _<_}
 use mathlib.Core.Path.{_≡_}
 use mathlib.Core.Bool.{cond}
@@ -14,16 +14,19 @@ use Rattle.base.specs.rules.Limits.{missing}
 use Rattle.document.specs.rules.Document.{widthOr, heightOr}
 use Rattle.document.specs.rules.Lead.{leadClass}
 use Rattle.document.specs.reference.Meaning.{sizeTree}
+use Rattle.reader.specs.internal.TapeWord as Word
+use Rattle.reader.specs.internal.TapeWord.{nodeWords}
 use Rattle.reader.specs.internal.Counts.{nodeCount, nodeCountIn}
 
 -- Node n is entered: it stands at `at`, and none of its values is known yet.
 unfoldable pub entered : List ℕ → ℕ → ℕ → ℕ → ℕ → ℕ → List ℕ
-entered t n at c parent end = sets t (8 * n) (at ∷ c ∷ parent ∷ end ∷ 0 ∷ 0 ∷ missing ∷ missing ∷ [])
+entered t n at c parent end = sets t (nodeWords * n) (at ∷ c ∷ parent ∷ end ∷ 0 ∷ 0 ∷ missing ∷ missing ∷ [])
 
 -- Node n is left: its last descendant is the one before `end`.
 unfoldable pub left : List ℕ → ℕ → ℕ → List ℕ
-left t n end = set t (8 * n + 3) end
+left t n end = set t (nodeWords * n + Word.end) end
 
+-- The place of what a parameter holds, which is the first of these; 0 where it holds nothing.
 unfoldable pub valuePlace : Exprs → ℕ
 valuePlace none = 0
 valuePlace (and e es) = place e
@@ -31,8 +34,8 @@ valuePlace (and e es) = place e
 -- A list of class c, which holds es after its name, is a value of node n.
 unfoldable pub noted : List ℕ → ℕ → ℕ → Exprs → List ℕ
 noted t n c es =
-    cond (eqb c Class.size) (sets t (8 * n + 6) (widthOr 0 (sizeTree es) ∷ heightOr 0 (sizeTree es) ∷ []))
-    (set t (8 * n + cond (eqb c Class.type) 5 4) (valuePlace es))
+    cond (eqb c Class.size) (sets t (nodeWords * n + Word.width) (widthOr 0 (sizeTree es) ∷ heightOr 0 (sizeTree es) ∷ []))
+    (set t (nodeWords * n + cond (eqb c Class.type) Word.type Word.key) (valuePlace es))
 
 -- The tape after an expression, or a run of them, in the element with number `parent`, where n is the number of the next node.
 unfoldable mutual

@@ -67,7 +67,22 @@ abbrev content-below : ℕ → In 2 content-kinds.ps
 content-below t = and 2 content-kinds.ps (falls 2 content-kinds.ps _<_ μ-content t) content.Pre
 
 abbrev block-claims : ℕ → block-lts.Claims
-block-claims t = (look-reads.Asked, look-reads.Learnt, refusal-reads.Asked, refusal-reads.Learnt, content-below t, content.Post, in-command-reads.Asked, in-command-reads.Learnt, turn-as-reads.Asked, turn-as-reads.Learnt, inside-reads.Asked, inside-reads.Learnt, past-bracket-reads.Asked, past-bracket-reads.Learnt)
+block-claims t = (
+  look-reads.Asked,
+  look-reads.Learnt,
+  refusal-reads.Asked,
+  refusal-reads.Learnt,
+  content-below t,
+  content.Post,
+  in-command-reads.Asked,
+  in-command-reads.Learnt,
+  turn-as-reads.Asked,
+  turn-as-reads.Learnt,
+  inside-reads.Asked,
+  inside-reads.Learnt,
+  past-bracket-reads.Asked,
+  past-bracket-reads.Learnt,
+)
 
 abbrev block-Inv-loop : block-lts.InvT-loop
 block-Inv-loop text at from kind nodes pool node tape₀ i₀ state₀ n₀ p₀ tape i state n p = Gone (InCommand text at kind node)
@@ -232,20 +247,20 @@ child-claims t = (
 )
 
 child-enter-requires : (t : ℕ) → child-lts.Need-enter-requires (child-claims t) (child-at t) child.Post
-child-enter-requires t c κs = (omega (arith, c .before .before .before .before .pre .1), c .before .before .before .before .pre .1 .4, omega arith)
+child-enter-requires t c κs = (omega (arith, c .before .before .before .before .pre .1 .0), c .before .before .before .before .pre .1 .0 .4, omega arith)
 
 child-add-block : (t : ℕ) → child-lts.Need-add-block (child-claims t) (child-at t) child.Post
-child-add-block t c = omega (arith, c .before .before .before .before .before .pre .1, c .before .before .before .before .before .good)
+child-add-block t c = omega (arith, c .before .before .before .before .before .pre .1 .0, c .before .before .before .before .before .good)
 
 child-block-requires : (t : ℕ) → child-lts.Need-block-requires (child-claims t) (child-at t) child.Post
 child-block-requires t c κs = (
   omega (arith, c .before .before .before .before .before .before .pre .0),
   (
-    c .before .before .before .before .before .before .pre .1 .0,
-    omega (arith, c .before .before .before .before .before .before .pre .1),
-    c .before .before .before .before .before .before .pre .1 .2,
-    c .before .before .before .before .before .before .pre .1 .3,
-    omega (arith, c .before .before .before .before .before .before .pre .1),
+    c .before .before .before .before .before .before .pre .1 .0 .0,
+    omega (arith, c .before .before .before .before .before .before .pre .1 .0),
+    c .before .before .before .before .before .before .pre .1 .0 .2,
+    c .before .before .before .before .before .before .pre .1 .0 .3,
+    omega (arith, c .before .before .before .before .before .before .pre .1 .0),
   ),
 )
 
@@ -253,7 +268,7 @@ child-leave-requires : (t : ℕ) → child-lts.Need-leave-requires (child-claims
 child-leave-requires t c κs = λ y. omega (
   arith,
   c .before .block .ensures .0 .bounds y,
-  c .before .before .before .before .before .before .before .before .pre .1,
+  c .before .before .before .before .before .before .before .before .pre .1 .0,
 )
 
 child-returns : (t : ℕ) → child-lts.Need-returns (child-claims t) (child-at t) child.Post
@@ -261,25 +276,38 @@ child-returns t c = (
   c .before .before .block .ensures .0,
   command-child (sym (c .before .before .before .before .before .before .before .is-command .ensures)
       ∙ c .before .before .before .before .before .before .if1 .taken)
-      (c .before .before .before .before .before .before .before .before .before .pre .1 .6)
-      (omega (arith, c .before .before .before .before .before .before .before .before .before .pre .1))
+      (c .before .before .before .before .before .before .before .before .before .pre .1 .1)
+      (omega (arith, c .before .before .before .before .before .before .before .before .before .pre .1 .0))
       (c .before .before .block .ensures .0)
       (c .before .before .block .ensures .1) (c .before .before .before .before .enter .ensures) (c .leave .ensures),
 )
 
 child-inside-requires : (t : ℕ) → child-lts.Need-inside-requires (child-claims t) (child-at t) child.Post
-child-inside-requires t c κs = let pre = c .before .before .before .before .pre .1 in (pre .0, pre .1, pre .2, pre .3, pre .4, pre .5)
+child-inside-requires t c κs = c .before .before .before .before .pre .1 .0
 
 child-returns-2 : (t : ℕ) → child-lts.Need-returns-2 (child-claims t) (child-at t) child.Post
 child-returns-2 t c = (
   past-bounded (c .before .inside .ensures .0) (c .past-bracket .ensures),
   inside-child (sym (c .before .before .before .before .is-command .ensures) ∙ c .before .before .before .if1 .left)
-      (c .before .before .before .before .before .before .pre .1 .6) (c .before .inside .ensures .0) (c .before .inside .ensures .1)
-      (c .past-bracket .ensures) (omega (arith, c .before .before .before .before .before .before .pre .1)),
+      (c .before .before .before .before .before .before .pre .1 .1) (c .before .inside .ensures .0) (c .before .inside .ensures .1)
+      (c .past-bracket .ensures) (omega (arith, c .before .before .before .before .before .before .pre .1 .0)),
 )
 
 abbrev content-claims : ℕ → content-lts.Claims
-content-claims t = (look-reads.Asked, look-reads.Learnt, ends-reads.Asked, ends-reads.Learnt, at-end-reads.Asked, at-end-reads.Learnt, loose-reads.Asked, loose-reads.Learnt, turn-as-reads.Asked, turn-as-reads.Learnt, child-below t, child.Post)
+content-claims t = (
+  look-reads.Asked,
+  look-reads.Learnt,
+  ends-reads.Asked,
+  ends-reads.Learnt,
+  at-end-reads.Asked,
+  at-end-reads.Learnt,
+  loose-reads.Asked,
+  loose-reads.Learnt,
+  turn-as-reads.Asked,
+  turn-as-reads.Learnt,
+  child-below t,
+  child.Post,
+)
 
 abbrev content-Inv-loop : content-lts.InvT-loop
 content-Inv-loop text at from kind read nodes pool node tape₀ i₀ state₀ n₀ p₀ tape i state n p = Gone (InContent text at kind node)
@@ -361,16 +389,18 @@ content-child-requires t c κs =
     (turned .0) in (
       omega (arith, h, c .before .before .before .before .before .before .before .before .before .before .before .before .pre .0, inv .forward),
       (
-        h .1,
-        omega (arith, h, inv .nodes-within),
-        omega (arith, h, inv .pool-within),
-        c .before .before .before .before .before .before .before .before .before .before .before .before .pre .1 .3,
-        c .before .before .before .before .before .before .before .before .before .before .before .before .pre .1 .4,
-        omega (
-          arith,
-          turned .2,
-          place-within _ _ (c .before .before .before .before .before .before .before .before .before .look .ensures)
-              (inv .within),
+        (
+          h .1,
+          omega (arith, h, inv .nodes-within),
+          omega (arith, h, inv .pool-within),
+          c .before .before .before .before .before .before .before .before .before .before .before .before .pre .1 .3,
+          c .before .before .before .before .before .before .before .before .before .before .before .before .pre .1 .4,
+          omega (
+            arith,
+            turned .2,
+            place-within _ _ (c .before .before .before .before .before .before .before .before .before .look .ensures)
+                (inv .within),
+          ),
         ),
         rw (turned .3) (belongs _ _ (c .before .before .before .before .before .before .before .before .before .look .ensures) (inv .within)
             (goes-on .0) (turned .0) (goes-on .1)),

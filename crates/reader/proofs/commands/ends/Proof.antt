@@ -17,7 +17,13 @@ returns-2 c = rw (ne-eqb _ 0 (c .before .before .if1 .left), sym (c .before .is-
 
 returns-3 : tie.Need-returns-3
 unfolding endsAt
-returns-3 c = rw (ne-eqb _ 0 (c .before .before .before .before .if1 .left), sym (c .before .before .before .is-command .ensures) ∙ not-false _ (c .before .before .if2 .left), c .before .significance .ensures, c .significance2 .ensures)
+returns-3 c = rw (
+  ne-eqb _ 0 (c .before .before .before .before .if1 .left),
+  sym (c .before .before .before .is-command .ensures) ∙ not-false _
+      (c .before .before .if2 .left),
+  c .before .significance .ensures,
+  c .significance2 .ensures,
+)
 
 pub ends-spec : {M : Type 1} → statement M
 ends-spec =

@@ -1,4 +1,4 @@
--- `judge_imperative` meets its contract: each way out is one law of `Imperatives`.
+-- `judge_imperative` meets its contract: each way out is one law of `WholeText`.
 use native.Mathlib.Omega.{arith}
 use Rattle.reader.proofs.lemmas.commands.BlockLoops.{turn-within, place-within}
 use Rattle.reader.proofs.lemmas.commands.WholeText.{nothing-seen, no-document, nothing-passed, document-fault, document-fine}

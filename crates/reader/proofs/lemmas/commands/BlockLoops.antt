@@ -25,7 +25,7 @@ use Rattle.document.specs.reference.Meaning.{Verdict, fine, fault, finish, run,
 use Rattle.document.proofs.Blocks.{block-element}
 use Rattle.reader.specs.internal.RunStands.{Has, RunStands}
 use Rattle.reader.specs.internal.Counts.{nodeCount, nodeCountIn, poolBytes, poolBytesIn}
-use Rattle.reader.specs.internal.WalkAnswer.{walkedTo, Bounded}
+use Rattle.reader.specs.internal.WalkAnswer.{walkedTo, Bounded, PoolBound}
 use Rattle.reader.specs.internal.Tape.{entered, left, taped, tapedAll}
 use Rattle.document.specs.rules.Takes.{Takes, at-end, at-command, expression, a-block}
 use Rattle.reader.specs.internal.Walk.{runAnswer, NamedListFirst, JudgesList, verdictOf, pastBracket, StepTakes}
@@ -48,7 +48,7 @@ pub record Gone (P : ℕ → ℕ → ℕ → ℕ → List ℕ → List ℕ → W
   pub forward : from ≤ i
   pub within : i ≤ size
   pub nodes-within : n ≤ i
-  pub pool-within : p ≤ i
+  pub pool-within : PoolBound p i
   pub goes : (z : List ℕ) (w : Walked) → P i st n p t z w → P from st₀ nodes pool t₀ z w
 
 module _ {P : ℕ → ℕ → ℕ → ℕ → List ℕ → List ℕ → Walked → Type 0} where

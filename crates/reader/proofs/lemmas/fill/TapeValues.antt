@@ -23,7 +23,8 @@ use Rattle.document.proofs.Blocks.{Read}
 use Rattle.reader.specs.internal.Counts.{nodeCount}
 use Rattle.reader.specs.internal.Tape.{noted, valuePlace, taped, tapedAll, LocatedAll}
 use Rattle.reader.specs.internal.Filling.{heldAt}
-use Rattle.reader.proofs.lemmas.fill.SingleValues.{EachFine, OneText, no-text, one-symbol, one-string, Without, Single, nowhere, here, later, keys, types, sizes, read-single, read-each, value-keeps}
+use Rattle.reader.proofs.lemmas.fill.SingleValues.{EachFine, OneText, no-text, one-symbol, one-string, Without, Single, nowhere, here, later}
+use Rattle.reader.proofs.lemmas.fill.SingleValues.{keys, types, sizes, read-single, read-each, value-keeps}
 use Rattle.reader.proofs.lemmas.fill.ElementValues.{key-class, no-key, no-type, no-size, without-key, without-type, without-size, no-element, key-here, type-here, size-here}
 use Rattle.reader.proofs.lemmas.tape.AfterWalk.{length-taped}
 use Rattle.reader.proofs.lemmas.tape.ChangedWords.{sizeWords, sets-other, sets-word, entered-other, element-other}

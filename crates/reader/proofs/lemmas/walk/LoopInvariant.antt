@@ -20,7 +20,7 @@ use Rattle.document.specs.rules.Lead.{exprClass, listClass}
 use Rattle.document.specs.reference.Meaning.{Verdict, fine, fault, finish, run, judge, judgeValue, valueTree}
 use Rattle.reader.specs.internal.RunStands.{RunStands}
 use Rattle.reader.specs.internal.Counts.{nodeCount, nodeCountIn, poolBytes, poolBytesIn, valueSize}
-use Rattle.reader.specs.internal.WalkAnswer.{walkedTo, Bounded}
+use Rattle.reader.specs.internal.WalkAnswer.{walkedTo, Bounded, PoolBound}
 use Rattle.reader.specs.internal.Tape.{entered, left, taped}
 use Rattle.reader.specs.internal.ParameterValue.{Notes}
 use Rattle.reader.specs.internal.Walk.{runAnswer, AnswersFrom, Finishes, Remaining, Goes, NamedListFirst, TakesList, TakesAtom, JudgesList, verdictOf, pastBracket}
@@ -34,7 +34,7 @@ pub record Walking (s : List ℕ) (at k node from nodes pool : ℕ) (t₀ : List
   pub forward : from ≤ i
   pub within : i ≤ length s
   pub nodes-within : n ≤ i
-  pub pool-within : p ≤ i
+  pub pool-within : PoolBound p i
   pub goes : Goes s at k from 0 nodes pool node t₀ i st n p t
 
 pub begun : {s t : List ℕ} {at k node from nodes pool : ℕ} → from ≤ length s → nodes ≤ from → pool ≤ from

@@ -1,4 +1,4 @@
--- `first_place` meets its contract: each way out is one law of `Tops`.
+-- `first_place` meets its contract: each way out is one law of `TopExpressions`.
 use Rattle.reader.proofs.lemmas.nested.TopExpressions.{first-missing, first-there}
 use borrow.Author.Needs.{needs}
 use Rattle.reader.proofs.nested.first_place.Statement.{statement}

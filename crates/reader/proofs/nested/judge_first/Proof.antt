@@ -1,4 +1,4 @@
--- `judge_first` meets its contract: each way out is one law of `Tops`.
+-- `judge_first` meets its contract: each way out is one law of `TopExpressions`.
 use native.Mathlib.Omega.{arith}
 use Rattle.reader.proofs.lemmas.nested.TopExpressions.{first-none, first-other, first-stuck, first-root, first-tape, refused-number, looked-within}
 use Rattle.reader.proofs.lemmas.walk.LoopInvariant.{to-start}

@@ -1,4 +1,4 @@
--- `judge_nested` meets its contract: each way out is one law of `Tops`.
+-- `judge_nested` meets its contract: each way out is one law of `TopExpressions`.
 use native.Mathlib.Omega.{arith}
 use Rattle.syntax.specs.rules.Expression.{none}
 use Rattle.reader.proofs.lemmas.nested.TopExpressions.{judge-two, judge-one, refused-number}

@@ -1,4 +1,4 @@
--- `second` meets its contract: each way out is one law of `Tops`.
+-- `second` meets its contract: each way out is one law of `TopExpressions`.
 use Rattle.reader.proofs.lemmas.nested.TopExpressions.{second-none, second-some}
 use borrow.Author.Needs.{needs}
 use Rattle.reader.proofs.nested.second.Statement.{statement}

@@ -1,4 +1,4 @@
--- `second_after` meets its contract: each way out is one law of `Tops`.
+-- `second_after` meets its contract: each way out is one law of `TopExpressions`.
 use Rattle.reader.proofs.lemmas.nested.TopExpressions.{second-after}
 use borrow.Author.Needs.{needs}
 use Rattle.reader.proofs.nested.second_after.Statement.{statement}

@@ -1,4 +1,4 @@
--- `is_value` meets its contract: each way out is one law of `Values`.
+-- `is_value` meets its contract: each way out is one law of `TextValues`.
 use Rattle.reader.proofs.lemmas.value.TextValues.{value-id, value-type, value-target, value-none}
 use borrow.Author.Needs.{needs}
 use Rattle.reader.proofs.value.is_value.Statement.{statement}

@@ -1,4 +1,4 @@
--- `number_at` meets its contract: each way out is one law of `Measures`.
+-- `number_at` meets its contract: each way out is one law of `SizeValues`.
 use Rattle.reader.proofs.lemmas.value.SizeValues.{read-other, read-stuck, read-within, read-number}
 use borrow.Author.Needs.{needs}
 use Rattle.reader.proofs.value.number_at.Statement.{statement}

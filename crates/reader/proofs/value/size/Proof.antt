@@ -1,4 +1,4 @@
--- `size` meets its contract: each way out is one law of `Measures`.
+-- `size` meets its contract: each way out is one law of `SizeValues`.
 use Rattle.reader.proofs.lemmas.value.SizeValues.{size-unfit, size-unfit-height, size-unfit-third, size-good}
 use borrow.Author.Needs.{needs}
 use Rattle.reader.proofs.value.size.Statement.{statement}

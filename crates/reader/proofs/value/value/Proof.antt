@@ -1,4 +1,4 @@
--- `value` meets its contract: each way out is one law of `Values`.
+-- `value` meets its contract: each way out is one law of `TextValues`.
 use native.Mathlib.Omega.{arith}
 use borrow.Author.Tests.{not-true, not-false}
 use Rattle.reader.proofs.lemmas.value.TextValues.{value-size, value-nothing, value-bad, value-good, word-small}
@@ -50,8 +50,8 @@ returns-4 c = value-good _ _ _ _ (c .before .before .before .before .before .bef
     (c .before .before .before .before .before .before .before .before .only .ensures)
     (not-false _ (c .before .before .before .before .before .before .if2 .left)) (not-false _ (c .before .before .before .before .if3 .left))
     (c .before .before .before .before .before .is-value .ensures)
-    (c .before .before .before .before .before .before .before .before .before .before .before .pre .2)
-    (c .before .before .before .before .before .before .before .before .before .before .before .pre .3) (c .before .before .word-of .ensures)
+    (c .before .before .before .before .before .before .before .before .before .before .before .pre .1)
+    (c .before .before .before .before .before .before .before .before .before .before .before .pre .2) (c .before .before .word-of .ensures)
     (c .before .note .ensures)
 
 pub value-spec : {M : Type 1} → statement M

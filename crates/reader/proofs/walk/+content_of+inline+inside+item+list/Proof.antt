@@ -1,4 +1,4 @@
--- The walks over an element's content meet their contracts. The invariant of a loop is `Walking`; each way through a loop's body is one law of `Loops`.
+-- The walks over an element's content meet their contracts. The invariant of a loop is `Walking`; each way through a loop's body is one law of `LoopInvariant`.
 -- The measure is five times the bytes left, and a rank: `inside` hands the bytes on to `content_of`, that to a walk, and `item` to `inline`.
 use mathlib.Core.Path.{_≡_, refl, sym, _∙_}
 use mathlib.Core.Logic.{⊎-elim}
@@ -99,7 +99,7 @@ content-of-claims t = (list-below t, list.Post, inline-below t, inline.Post)
 content-of-list-requires : (t : ℕ) → content-of-lts.Need-list-requires (content-of-claims t) (content-of-at t) content-of.Post
 content-of-list-requires t c κs =
     let pre = c .before .before .before .before .pre in
-    (omega (arith, pre .0), (pre .1 .0, pre .1 .1, pre .1 .2, pre .1 .3, pre .1 .4, is-list _ (c .before .before .if1 .left) (c .before .if2 .taken)))
+    (omega (arith, pre .0), (pre .1, is-list _ (c .before .before .if1 .left) (c .before .if2 .taken)))
 
 content-of-inline-requires : (t : ℕ) → content-of-lts.Need-inline-requires (content-of-claims t) (content-of-at t) content-of.Post
 content-of-inline-requires t c κs = (omega (arith, c .before .before .before .pre .0), c .before .before .before .pre .1)
@@ -183,11 +183,7 @@ inline-list-requires t c κs =
     let pre = c .before .before .before .before .before .before .before .before .before .before .before .before .pre in (
       omega (arith, turn .0, pre .0),
       (
-        turn .0 .1,
-        omega (arith, turn .0, loop),
-        omega (arith, turn .0, loop),
-        pre .1 .3,
-        omega (arith, turn .0, loop, pre .1),
+        (turn .0 .1, omega (arith, turn .0, loop), omega (arith, turn .0, loop), pre .1 .3, omega (arith, turn .0, loop, pre .1)),
         is-list _ (c .before .before .before .before .if1 .left) (c .before .before .before .if2 .taken),
       ),
     )
@@ -267,9 +263,10 @@ inside-claims t = (
 inside-value-requires : (t : ℕ) → inside-lts.Need-value-requires (inside-claims t) (inside-at t) inside.Post
 inside-value-requires t c κs = (
   c .before .before .before .before .pre .1 .0,
-  c .before .before .before .before .pre .1 .3,
   omega (arith, c .before .before .before .before .pre .1),
   c .before .before .before .before .pre .1 .2,
+  c .before .before .before .before .pre .1 .3,
+  c .before .before .before .before .pre .1 .4,
 )
 
 inside-returns : (t : ℕ) → inside-lts.Need-returns (inside-claims t) (inside-at t) inside.Post
@@ -349,19 +346,23 @@ abbrev list-μ-loop : list-lts.MeasureT-loop
 list-μ-loop text at from kind nodes pool node tape₀ i₀ state₀ n₀ p₀ tape i state n p = length text - i
 
 list-loop-holds : (t : ℕ) → list-lts.Need-loop-holds (list-claims t) (list-at t) list.Post list-Inv-loop list-μ-loop
-list-loop-holds t c = (begun (c .before .pre .1 .0) (c .before .pre .1 .1) (c .before .pre .1 .2), bare-start (c .before .args .kind) (c .before .pre .1 .5))
+list-loop-holds t c = (begun (c .before .pre .1 .0 .0) (c .before .pre .1 .0 .1) (c .before .pre .1 .0 .2), bare-start (c .before .args .kind) (c .before .pre .1 .1))
 
 list-returns : (t : ℕ) → list-lts.Need-returns (list-claims t) (list-at t) list.Post list-Inv-loop list-μ-loop
 list-returns t c = answered (c .before .before .before .before .loop .inv .0)
-    (rw (c .at-end .ensures) (turn-end (c .before .before .before .look .ensures) (c .before .before .before .before .loop .inv .0 .within) (c .before .before .before .before .loop .inv .0 .nodes-within) (c .before .before .before .before .loop .inv .0 .pool-within) (c .before .if1 .taken)))
+    (rw (c .at-end .ensures) (turn-end (c .before .before .before .look .ensures) (c .before .before .before .before .loop .inv .0 .within)
+    (c .before .before .before .before .loop .inv .0 .nodes-within) (c .before .before .before .before .loop .inv .0 .pool-within) (c .before .if1 .taken)))
 
 list-returns-2 : (t : ℕ) → list-lts.Need-returns-2 (list-claims t) (list-at t) list.Post list-Inv-loop list-μ-loop
 list-returns-2 t c = answered (c .before .before .before .before .before .before .before .loop .inv .0)
-    (rw (c .fault-at .ensures) (turn-fault (c .before .before .before .before .before .before .look .ensures) (c .before .before .before .before .before .before .before .loop .inv .0 .within) _ _ (c .before .before .before .step .ensures .stands) (c .before .before .before .before .if1 .left) (c .before .if2 .taken)))
+    (rw (c .fault-at .ensures) (turn-fault (c .before .before .before .before .before .before .look .ensures)
+    (c .before .before .before .before .before .before .before .loop .inv .0 .within) _ _ (c .before .before .before .step .ensures .stands)
+    (c .before .before .before .before .if1 .left) (c .before .if2 .taken)))
 
 list-returns-3 : (t : ℕ) → list-lts.Need-returns-3 (list-claims t) (list-at t) list.Post list-Inv-loop list-μ-loop
 list-returns-3 t c = answered (c .before .before .before .before .before .before .before .before .loop .inv .0)
-    (rw (c .refusal .ensures) (turn-stuck (c .before .before .before .before .before .before .before .look .ensures) (c .before .before .before .before .before .before .before .before .loop .inv .0 .within) (c .before .before .before .before .before .if1 .left) (c .before .if3 .taken)))
+    (rw (c .refusal .ensures) (turn-stuck (c .before .before .before .before .before .before .before .look .ensures)
+    (c .before .before .before .before .before .before .before .before .loop .inv .0 .within) (c .before .before .before .before .before .if1 .left) (c .before .if3 .taken)))
 
 -- What a list takes is an item.
 list-taken : (t : ℕ) (c : list-lts.Else3 (list-claims t) (list-at t) list.Post list-Inv-loop list-μ-loop)
@@ -379,19 +380,27 @@ list-taken t c =
     let some = c .before .before .before .before .if1 .left in
     let step = c .before .before .before .step in
     let fine = c .before .if2 .left in
-    let (item, bare) = item-taken _ _ _ _ (c .before .before .before .before .before .before .before .before .before .pre .1 .5) (l .inv .1) (step-goes _ _ _ _ fine (step .ensures .stands)) in
+    let (item, bare) = item-taken _ _ _ _ (c .before .before .before .before .before .before .before .before .before .pre .1 .1) (l .inv .1) (step-goes _ _ _ _ fine (step .ensures .stands)) in
     let (within, opens) = turn-item (look .ensures) (l .inv .0 .within) _ _ (step .ensures .stands) some fine (c .if3 .left) item in
     (within, opens, item, bare)
 
 list-enter-requires : (t : ℕ) → list-lts.Need-enter-requires (list-claims t) (list-at t) list.Post list-Inv-loop list-μ-loop
 list-enter-requires t c κs =
-    let turn = list-taken t (c .before) in
-    (omega (arith, turn .0, c .before .before .before .before .before .before .before .before .before .before .pre .1), c .before .before .before .before .before .before .before .before .before .before .pre .1 .4, omega arith)
+    let turn = list-taken t (c .before) in (
+      omega (arith, turn .0, c .before .before .before .before .before .before .before .before .before .before .pre .1 .0),
+      c .before .before .before .before .before .before .before .before .before .before .pre .1 .0 .4,
+      omega arith,
+    )
 
 list-add-item : (t : ℕ) → list-lts.Need-add-item (list-claims t) (list-at t) list.Post list-Inv-loop list-μ-loop
 list-add-item t c =
     let turn = list-taken t (c .before .before) in
-    omega (arith, turn .0, c .before .before .before .before .before .before .before .before .before .loop .inv .0, c .before .before .before .before .before .before .before .before .before .before .before .good)
+    omega (
+      arith,
+      turn .0,
+      c .before .before .before .before .before .before .before .before .before .loop .inv .0,
+      c .before .before .before .before .before .before .before .before .before .before .before .good,
+    )
 
 list-item-requires : (t : ℕ) → list-lts.Need-item-requires (list-claims t) (list-at t) list.Post list-Inv-loop list-μ-loop
 list-item-requires t c κs =
@@ -399,11 +408,15 @@ list-item-requires t c κs =
     let loop = c .before .before .before .before .before .before .before .before .before .before .loop .inv .0 in
     let pre = c .before .before .before .before .before .before .before .before .before .before .before .before .pre in (
       omega (arith, turn .0, pre .0),
-      (turn .0 .1, omega (arith, turn .0, loop), omega (arith, turn .0, loop), pre .1 .3, omega (arith, turn .0, loop, pre .1)),
+      (turn .0 .1, omega (arith, turn .0, loop), omega (arith, turn .0, loop), pre .1 .0 .3, omega (arith, turn .0, loop, pre .1 .0)),
     )
 
 list-leave-requires : (t : ℕ) → list-lts.Need-leave-requires (list-claims t) (list-at t) list.Post list-Inv-loop list-μ-loop
-list-leave-requires t c κs = λ y. omega (arith, c .before .item .ensures .0 .bounds y, c .before .before .before .before .before .before .before .before .before .before .before .before .before .before .pre .1)
+list-leave-requires t c κs = λ y. omega (
+  arith,
+  c .before .item .ensures .0 .bounds y,
+  c .before .before .before .before .before .before .before .before .before .before .before .before .before .before .pre .1 .0,
+)
 
 -- It is judged as the list that it is.
 list-child : (t : ℕ) (c : list-lts.After-leave (list-claims t) (list-at t) list.Post list-Inv-loop list-μ-loop)
@@ -419,7 +432,8 @@ list-child t c =
 list-returns-4 : (t : ℕ) → list-lts.Need-returns-4 (list-claims t) (list-at t) list.Post list-Inv-loop list-μ-loop
 list-returns-4 t c =
     let turn = list-taken t (c .before .before .before .before .before .before .before .before .before) in
-    list-answered (c .before .before .before .before .before .before .before .before .before .before .before .before .before .before .before .before .loop .inv .0) (turn .0, (turn .1, refl)) (list-child t (c .before .before .before)) (c .before .before .past-bracket .ensures) (c .if4 .taken)
+    list-answered (c .before .before .before .before .before .before .before .before .before .before .before .before .before .before .before .before .loop .inv .0)
+    (turn .0, (turn .1, refl)) (list-child t (c .before .before .before)) (c .before .before .past-bracket .ensures) (c .if4 .taken)
 
 list-loop-less : (t : ℕ) → list-lts.Need-loop-less (list-claims t) (list-at t) list.Post list-Inv-loop list-μ-loop
 list-loop-less t c =
@@ -428,8 +442,11 @@ list-loop-less t c =
 
 list-loop-again : (t : ℕ) → list-lts.Need-loop-again (list-claims t) (list-at t) list.Post list-Inv-loop list-μ-loop
 list-loop-again t c =
-    let turn = list-taken t (c .before .before .before .before .before .before .before .before .before) in
-    (list-gone-on (c .before .before .before .before .before .before .before .before .before .before .before .before .before .before .before .before .loop .inv .0) (turn .0, (turn .1, refl)) (list-child t (c .before .before .before)) (c .before .before .past-bracket .ensures) (c .if4 .left), turn .3)
+    let turn = list-taken t (c .before .before .before .before .before .before .before .before .before) in (
+      list-gone-on (c .before .before .before .before .before .before .before .before .before .before .before .before .before .before .before .before .loop .inv .0)
+          (turn .0, (turn .1, refl)) (list-child t (c .before .before .before)) (c .before .before .past-bracket .ensures) (c .if4 .left),
+      turn .3,
+    )
 
 pub +content-of+inline+inside+item+list-spec : {M : Type 1} → statement M
 +content-of+inline+inside+item+list-spec =

@@ -13,7 +13,8 @@ returns c = λ e. let z : _≡_ {A = ℕ} 0 1 = cc in absurd (omega arith)
 
 returns-2 : tie.Need-returns-2
 returns-2 c = λ e.
-    let f = seen-closing (c .before .before .before .before .args .text .now) (c .before .before .before .before .args .i) (c .byte-class .result) (c .before .before .if1 .left) (c .byte-class .ensures) (leb-true 7 _ e) in
+    let f = seen-closing (c .before .before .before .before .args .text .now) (c .before .before .before .before .args .i) (c .byte-class .result)
+    (c .before .before .if1 .left) (c .byte-class .ensures) (leb-true 7 _ e) in
     (sym (f .0), sym (f .1))
 
 pub closes-spec : {M : Type 1} → statement M
