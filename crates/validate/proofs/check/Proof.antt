@@ -4,7 +4,7 @@ use mathlib.Core.Path.{sym}
 use lib.Seq.{length-take-le}
 use borrow.Author.Tests.{not-false}
 use borrow.Author.Needs.{needs}
-use Rattle.validate.proofs.CheckAnswers.{no-both, no-table-answered, few-nodes, node-fits, answered}
+use Rattle.validate.proofs.lemmas.check.CheckAnswers.{no-both, no-table-answered, few-nodes, node-fits, answered}
 use Rattle.validate.proofs.check.Statement.{statement}
 use Rattle.validate.proofs.check.Tie as tie
 

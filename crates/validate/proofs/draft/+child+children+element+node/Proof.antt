@@ -15,12 +15,12 @@ use Rattle.elements.specs.rules.Inside.{start}
 use Rattle.kind.specs.Machine.{stateOf}
 use Rattle.document.specs.rules.Canonical.{nodeFirst, placeValues, layoutAll}
 use Rattle.validate.specs.internal.DraftWalk.{stringsEnd, nodeValues, behindFirst, ChildrenAt}
-use Rattle.validate.proofs.record_lemmas.Decided.{not-held, decides-none, Same, through, decides-same, none-same}
-use Rattle.validate.proofs.record_lemmas.RecordTests.{word-in}
-use Rattle.validate.proofs.record_lemmas.NodeRecords.{stored-node}
-use Rattle.validate.proofs.draft_lemmas.LawfulNodes.{element-same, element-record}
-use Rattle.validate.proofs.draft_lemmas.ChildWalk.{node-forward, node-within, kind-word, end-decides, end-passed, child-same, child-none, behind-child, values-same, values-none}
-use Rattle.validate.proofs.draft_lemmas.ChildWalk.{child-refused, child-stepped}
+use Rattle.validate.proofs.lemmas.records.Decided.{not-held, decides-none, Same, through, decides-same, none-same}
+use Rattle.validate.proofs.lemmas.records.RecordTests.{word-in}
+use Rattle.validate.proofs.lemmas.records.NodeRecords.{stored-node}
+use Rattle.validate.proofs.lemmas.draft.LawfulNodes.{element-same, element-record}
+use Rattle.validate.proofs.lemmas.draft.ChildWalk.{node-forward, node-within, kind-word, end-decides, end-passed, child-same, child-none, behind-child, values-same, values-none}
+use Rattle.validate.proofs.lemmas.draft.ChildWalk.{child-refused, child-stepped}
 use Prim.Native.Nat.{ℕ, _<_}
 use borrow.Fn.Kinds.{In}
 use borrow.Fn.PlainCycle.{Measures, is, falls, and}

@@ -8,8 +8,8 @@ use lib.ListN.{length}
 use borrow.Author.Tests.{not-true, not-false, eqb-true, eqb-false}
 use Rattle.elements.specs.rules.Class as Class
 use Rattle.table.specs.Stored.{wordAt}
-use Rattle.validate.proofs.record_lemmas.RecordTests.{word-there}
-use Rattle.validate.proofs.draft_lemmas.DraftRoot.{draft-told, no-draft}
+use Rattle.validate.proofs.lemmas.records.RecordTests.{word-there}
+use Rattle.validate.proofs.lemmas.draft.DraftRoot.{draft-told, no-draft}
 use borrow.Author.Needs.{needs}
 use Rattle.validate.proofs.draft.is_draft.Statement.{statement}
 use Rattle.validate.proofs.draft.is_draft.Tie as tie

@@ -5,7 +5,7 @@ use mathlib.Core.Bool.{false}
 use mathlib.Core.Logic.{⊎-elim}
 use Rattle.elements.specs.rules.Rules.{ruleOf}
 use Rattle.document.specs.rules.Canonical.{nodeFirst}
-use Rattle.validate.proofs.values_lemmas.ValueSteps.{lead-none, lead-due, lead-taken}
+use Rattle.validate.proofs.lemmas.values.ValueSteps.{lead-none, lead-due, lead-taken}
 use borrow.Author.Needs.{needs}
 use Rattle.validate.proofs.draft.lead.Statement.{statement}
 use Rattle.validate.proofs.draft.lead.Tie as tie

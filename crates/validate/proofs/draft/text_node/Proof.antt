@@ -6,9 +6,9 @@ use lib.ListN.{getD}
 use borrow.Author.Tests.{not-true, not-false}
 use Rattle.document.specs.reference.Printing.{part}
 use Rattle.table.specs.Stored.{wordAt}
-use Rattle.validate.proofs.record_lemmas.Decided.{not-held, decides-none}
-use Rattle.validate.proofs.record_lemmas.RecordTests.{word-in}
-use Rattle.validate.proofs.draft_lemmas.LawfulNodes.{text-record, text-valid, text-decides}
+use Rattle.validate.proofs.lemmas.records.Decided.{not-held, decides-none}
+use Rattle.validate.proofs.lemmas.records.RecordTests.{word-in}
+use Rattle.validate.proofs.lemmas.draft.LawfulNodes.{text-record, text-valid, text-decides}
 use borrow.Author.Needs.{needs}
 use Rattle.validate.proofs.draft.text_node.Statement.{statement}
 use Rattle.validate.proofs.draft.text_node.Tie as tie

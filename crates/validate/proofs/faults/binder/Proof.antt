@@ -5,7 +5,7 @@ use borrow.Author.Needs.{needs}
 use Rattle.document.specs.reference.Check.{Cells}
 use Rattle.table.specs.Stored.{wordAt}
 use Rattle.validate.specs.internal.TableWords.{Below}
-use Rattle.validate.proofs.faults_lemmas.Children.{up}
+use Rattle.validate.proofs.lemmas.faults.Children.{up}
 use Rattle.validate.proofs.faults.binder.Statement.{statement}
 use Rattle.validate.proofs.faults.binder.Tie as tie
 

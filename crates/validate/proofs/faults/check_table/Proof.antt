@@ -1,7 +1,7 @@
 -- `validate::check_table` meets its contract.
 use borrow.Author.Needs.{needs}
-use Rattle.validate.proofs.faults_lemmas.FirstFault.{answer-15, answer-16, answer-17, answer-18, answer-sound}
-use Rattle.validate.proofs.index_lemmas.SlotChains.{none-entered}
+use Rattle.validate.proofs.lemmas.faults.FirstFault.{answer-15, answer-16, answer-17, answer-18, answer-sound}
+use Rattle.validate.proofs.lemmas.index.SlotChains.{none-entered}
 use Rattle.validate.proofs.faults.check_table.Statement.{statement}
 use Rattle.validate.proofs.faults.check_table.Tie as tie
 

@@ -5,7 +5,7 @@ use native.Mathlib.Omega.{arith}
 use borrow.Author.Needs.{needs}
 use Rattle.document.specs.rules.Document.{Nodes}
 use Rattle.validate.specs.internal.TableWords.{Family}
-use Rattle.validate.proofs.faults_lemmas.Children.{ChildrenCounted, counted-start, counted-on, counted-end}
+use Rattle.validate.proofs.lemmas.faults.Children.{ChildrenCounted, counted-start, counted-on, counted-end}
 use Rattle.validate.proofs.faults.child_count.Statement.{statement}
 use Rattle.validate.proofs.faults.child_count.Tie as tie
 

@@ -6,8 +6,8 @@ use native.Mathlib.Omega.{arith}
 use borrow.Author.Needs.{needs}
 use Rattle.document.specs.reference.Check.{First}
 use Rattle.validate.specs.internal.TableWords.{found, Searched}
-use Rattle.validate.proofs.index_lemmas.BlockIds.{kind-read}
-use Rattle.validate.proofs.faults_lemmas.BadRows.{spot-other, search-step, search-end}
+use Rattle.validate.proofs.lemmas.index.BlockIds.{kind-read}
+use Rattle.validate.proofs.lemmas.faults.BadRows.{spot-other, search-step, search-end}
 use Rattle.validate.proofs.faults.first_bad_row.Statement.{statement}
 use Rattle.validate.proofs.faults.first_bad_row.Tie as tie
 

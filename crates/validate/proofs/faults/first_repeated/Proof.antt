@@ -10,8 +10,8 @@ use borrow.Author.Needs.{needs}
 use Rattle.document.specs.reference.Check.{repeatedId}
 use Rattle.validate.specs.internal.TableWords.{entriesFrom, idsBefore, repeatsAt, found}
 use Rattle.validate.specs.internal.IdIndex.{Indexed}
-use Rattle.validate.proofs.index_lemmas.BlockIds.{above-id, rest, repeated-here, repeated-on, repeated-end}
-use Rattle.validate.proofs.index_lemmas.SlotChains.{no-id}
+use Rattle.validate.proofs.lemmas.index.BlockIds.{above-id, rest, repeated-here, repeated-on, repeated-end}
+use Rattle.validate.proofs.lemmas.index.SlotChains.{no-id}
 use Rattle.validate.proofs.faults.first_repeated.Statement.{statement}
 use Rattle.validate.proofs.faults.first_repeated.Tie as tie
 

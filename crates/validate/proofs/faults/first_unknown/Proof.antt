@@ -7,7 +7,7 @@ use borrow.Author.Needs.{needs}
 use borrow.Author.Tests.{ne-eqb}
 use Rattle.document.specs.reference.Check.{unknownTarget}
 use Rattle.validate.specs.internal.TableWords.{entriesFrom, idsBefore, found}
-use Rattle.validate.proofs.index_lemmas.BlockIds.{kind-read, rest, unknown-here, unknown-on, unknown-end}
+use Rattle.validate.proofs.lemmas.index.BlockIds.{kind-read, rest, unknown-here, unknown-on, unknown-end}
 use Rattle.validate.proofs.faults.first_unknown.Statement.{statement}
 use Rattle.validate.proofs.faults.first_unknown.Tie as tie
 

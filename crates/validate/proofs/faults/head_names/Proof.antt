@@ -5,7 +5,7 @@ use native.Mathlib.Omega.{arith}
 use borrow.Author.Needs.{needs}
 use Rattle.document.specs.rules.Document.{Nodes}
 use Rattle.validate.specs.internal.TableWords.{cellsFound, Family}
-use Rattle.validate.proofs.faults_lemmas.Children.{HeadSought, sought-start, sought-head, sought-on, sought-end}
+use Rattle.validate.proofs.lemmas.faults.Children.{HeadSought, sought-start, sought-head, sought-on, sought-end}
 use Rattle.validate.proofs.faults.head_names.Statement.{statement}
 use Rattle.validate.proofs.faults.head_names.Tie as tie
 

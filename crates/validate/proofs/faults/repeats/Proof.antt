@@ -6,8 +6,8 @@ use borrow.Author.Tests.{not-true, not-false}
 use Rattle.document.specs.reference.Check.{hasId}
 use Rattle.validate.specs.internal.TableWords.{keyAt, entryOfNode}
 use Rattle.validate.specs.internal.IdIndex.{slotOf}
-use Rattle.validate.proofs.index_lemmas.BlockIds.{any-block}
-use Rattle.validate.proofs.index_lemmas.SlotChains.{slot-below, no-id, entered}
+use Rattle.validate.proofs.lemmas.index.BlockIds.{any-block}
+use Rattle.validate.proofs.lemmas.index.SlotChains.{slot-below, no-id, entered}
 use Rattle.validate.proofs.faults.repeats.Statement.{statement}
 use Rattle.validate.proofs.faults.repeats.Tie as tie
 

@@ -1,7 +1,7 @@
 -- `validate::row_differs` meets its contract.
 use mathlib.Core.Path.{_∙_, sym}
 use borrow.Author.Needs.{needs}
-use Rattle.validate.proofs.faults_lemmas.BadRows.{spot-free, spot-no-head, spot-head}
+use Rattle.validate.proofs.lemmas.faults.BadRows.{spot-free, spot-no-head, spot-head}
 use Rattle.validate.proofs.faults.row_differs.Statement.{statement}
 use Rattle.validate.proofs.faults.row_differs.Tie as tie
 

@@ -6,7 +6,7 @@ use borrow.Author.Needs.{needs}
 use Rattle.elements.specs.rules.Class.{isBlock}
 use Rattle.table.specs.Stored.{wordAt}
 use Rattle.validate.specs.internal.TableWords.{wanted}
-use Rattle.validate.proofs.index_lemmas.BlockIds.{below-blocks, above-blocks, a-block, no-block, other-kind, is-wanted, wanted-any, wanted-kind}
+use Rattle.validate.proofs.lemmas.index.BlockIds.{below-blocks, above-blocks, a-block, no-block, other-kind, is-wanted, wanted-any, wanted-kind}
 use Rattle.validate.proofs.index.has_id.Statement.{statement}
 use Rattle.validate.proofs.index.has_id.Tie as tie
 

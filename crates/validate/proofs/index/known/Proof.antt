@@ -7,8 +7,8 @@ use borrow.Author.Needs.{needs}
 use Rattle.elements.specs.rules.Bytes.{same}
 use Rattle.document.specs.reference.Check.{isAmong}
 use Rattle.validate.specs.internal.TableWords.{idsBefore}
-use Rattle.validate.proofs.index_lemmas.BlockIds.{known-here, known-other, known-none, known-end}
-use Rattle.validate.proofs.index_lemmas.SlotChains.{slot-below, LeftInSlot, left-first, left-next, next-below}
+use Rattle.validate.proofs.lemmas.index.BlockIds.{known-here, known-other, known-none, known-end}
+use Rattle.validate.proofs.lemmas.index.SlotChains.{slot-below, LeftInSlot, left-first, left-next, next-below}
 use Rattle.validate.proofs.index.known.Statement.{statement}
 use Rattle.validate.proofs.index.known.Tie as tie
 

@@ -6,8 +6,8 @@ use lib.Dec.{ltb}
 use borrow.Author.Tests.{ltb-true, ltb-false}
 use Rattle.base.specs.rules.Limits.{missing}
 use Rattle.table.specs.Stored.{wordAt}
-use Rattle.validate.proofs.record_lemmas.Decided.{decided-by, denied}
-use Rattle.validate.proofs.record_lemmas.RecordTests.{word-in}
+use Rattle.validate.proofs.lemmas.records.Decided.{decided-by, denied}
+use Rattle.validate.proofs.lemmas.records.RecordTests.{word-in}
 use borrow.Author.Needs.{needs}
 use Rattle.validate.proofs.record.element_fits.Statement.{statement}
 use Rattle.validate.proofs.record.element_fits.Tie as tie

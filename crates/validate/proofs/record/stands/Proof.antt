@@ -4,8 +4,8 @@ use mathlib.Core.Path.{refl, sym, _∙_}
 use borrow.Author.Tests.{not-true, not-false}
 use Rattle.table.specs.Stored.{wordAt}
 use Rattle.table.proofs.Stored.{recorded-within}
-use Rattle.validate.proofs.record_lemmas.Decided.{decided-by, denied, not-held}
-use Rattle.validate.proofs.record_lemmas.RecordTests.{word-in}
+use Rattle.validate.proofs.lemmas.records.Decided.{decided-by, denied, not-held}
+use Rattle.validate.proofs.lemmas.records.RecordTests.{word-in}
 use borrow.Author.Needs.{needs}
 use Rattle.validate.proofs.record.stands.Statement.{statement}
 use Rattle.validate.proofs.record.stands.Tie as tie

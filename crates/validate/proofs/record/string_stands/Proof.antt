@@ -1,5 +1,5 @@
 -- `record::string_stands` meets its contract: each way out is one law of `RecordTests`.
-use Rattle.validate.proofs.record_lemmas.RecordTests.{string-none, string-long, string-there}
+use Rattle.validate.proofs.lemmas.records.RecordTests.{string-none, string-long, string-there}
 use borrow.Author.Needs.{needs}
 use Rattle.validate.proofs.record.string_stands.Statement.{statement}
 use Rattle.validate.proofs.record.string_stands.Tie as tie

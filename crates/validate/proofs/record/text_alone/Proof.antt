@@ -1,7 +1,7 @@
 -- `record::text_alone` meets its contract.
 use Prim.Native.Nat.{ℕ, _<_}
 use native.Mathlib.Omega.{arith}
-use Rattle.validate.proofs.record_lemmas.RecordTests.{word-in, alone-tests}
+use Rattle.validate.proofs.lemmas.records.RecordTests.{word-in, alone-tests}
 use borrow.Author.Needs.{needs}
 use Rattle.validate.proofs.record.text_alone.Statement.{statement}
 use Rattle.validate.proofs.record.text_alone.Tie as tie

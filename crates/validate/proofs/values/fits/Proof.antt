@@ -6,7 +6,7 @@ use borrow.Author.Tests.{not-true, not-false}
 use lib.ListN.{length, drop}
 use Rattle.elements.specs.rules.Characters.{characterOf}
 use Rattle.document.specs.rules.Value.{every}
-use Rattle.validate.proofs.values_lemmas.AllBytes.{every-on, every-not, every-end}
+use Rattle.validate.proofs.lemmas.values.AllBytes.{every-on, every-not, every-end}
 use Rattle.validate.proofs.values.fits.Statement.{statement}
 use Rattle.validate.proofs.values.fits.Tie as tie
 

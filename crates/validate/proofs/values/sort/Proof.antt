@@ -2,7 +2,7 @@
 use native.Mathlib.Omega.{arith}
 use borrow.Author.Tests.{eq-eqb, ne-eqb}
 use Rattle.document.specs.rules.Value.{namesBlock}
-use Rattle.validate.proofs.values_lemmas.ValueSteps.{type-characters, id-characters, link-characters, uri-characters}
+use Rattle.validate.proofs.lemmas.values.ValueSteps.{type-characters, id-characters, link-characters, uri-characters}
 use Rattle.validate.proofs.values.sort.Statement.{statement}
 use Rattle.validate.proofs.values.sort.Tie as tie
 

@@ -1,5 +1,5 @@
 -- `values::take_size` meets its contract: each way out is one law of `ValueSteps`.
-use Rattle.validate.proofs.values_lemmas.ValueSteps.{size-missing, size-wide, size-high, size-taken}
+use Rattle.validate.proofs.lemmas.values.ValueSteps.{size-missing, size-wide, size-high, size-taken}
 use borrow.Author.Needs.{needs}
 use Rattle.validate.proofs.values.take_size.Statement.{statement}
 use Rattle.validate.proofs.values.take_size.Tie as tie

@@ -1,6 +1,6 @@
 -- `values::take_value` meets its contract: each way out is one law of `ValueSteps`.
 use Rattle.elements.specs.rules.Characters.{characterOf}
-use Rattle.validate.proofs.values_lemmas.ValueSteps.{value-missing, value-fault, value-taken}
+use Rattle.validate.proofs.lemmas.values.ValueSteps.{value-missing, value-fault, value-taken}
 use borrow.Author.Needs.{needs}
 use Rattle.validate.proofs.values.take_value.Statement.{statement}
 use Rattle.validate.proofs.values.take_value.Tie as tie

@@ -9,9 +9,9 @@ use Rattle.document.specs.rules.Canonical.{keyClass}
 use Rattle.elements.specs.rules.Class.{isBlock}
 use Rattle.table.specs.Stored.{stringAt}
 use Rattle.validate.specs.internal.DraftWalk.{nodeValues}
-use Rattle.validate.proofs.record_lemmas.NodeRecords.{missing-string}
-use Rattle.validate.proofs.record_lemmas.RecordTests.{word-in}
-use Rattle.validate.proofs.values_lemmas.ValueSteps.{value-missing, takes-then, takes-not}
+use Rattle.validate.proofs.lemmas.records.NodeRecords.{missing-string}
+use Rattle.validate.proofs.lemmas.records.RecordTests.{word-in}
+use Rattle.validate.proofs.lemmas.values.ValueSteps.{value-missing, takes-then, takes-not}
 use borrow.Author.Needs.{needs}
 use Rattle.validate.proofs.values.values.Statement.{statement}
 use Rattle.validate.proofs.values.values.Tie as tie

@@ -10,8 +10,8 @@ use Rattle.validate.specs.declared.faults.Found.the-variants.{At, Nothin
 use Rattle.validate.specs.CheckNumbers.{checkNumber, checkNode}
 use Rattle.validate.specs.internal.DocumentTable.{BeginsWithTable}
 use Rattle.validate.specs.internal.TableWords.{entriesFrom, idsBefore, found, Searched}
-use Rattle.validate.proofs.faults_lemmas.BadRows.{found-nothing, found-at}
-use Rattle.validate.proofs.faults_lemmas.TableEntries.{entries-are, link-is, note-is, rows-searched}
+use Rattle.validate.proofs.lemmas.faults.BadRows.{found-nothing, found-at}
+use Rattle.validate.proofs.lemmas.faults.TableEntries.{entries-are, link-is, note-is, rows-searched}
 
 abbrev Answer : Check → ℕ → ℕ → Type 0
 Answer c n i = (n ≡ checkNumber c) × (i ≡ checkNode c)

@@ -1,4 +1,4 @@
--- The ways through the check of a table.
+-- The answers of the check of a table, where the words and the pool are the table of a draft and where they are not.
 use Prim.Native.Nat.{ℕ, _*_, _≤_}
 use mathlib.Core.Path.{_≡_, refl, sym, ap, _∙_}
 use mathlib.Core.Bool.{Bool, true, false, not}

@@ -23,10 +23,10 @@ use Rattle.table.specs.Stored.{wordAt, StoredAll}
 use Rattle.table.specs.Stored.{stringAt}
 use Rattle.validate.specs.internal.DraftWalk.{Decided, DecidesNext, offsetOf, NamesStringAt, stringsEnd, RecordAt, TextAlone}
 use Rattle.validate.specs.internal.DraftWalk.{ElementAt, valueLevels, nodeValues, LawfulWithin, LawfulNodeAt, ChildrenAt}
-use Rattle.validate.proofs.record_lemmas.Decided.{decided-by, Same}
-use Rattle.validate.proofs.record_lemmas.NodeRecords.{nodeOf, missing-string, string-named, stored-node, node-stored, node-pool}
-use Rattle.validate.proofs.record_lemmas.RecordTests.{text-bytes, bytes-text}
-use Rattle.validate.proofs.draft_lemmas.ValuePlaces.{levelsOf, inside-say}
+use Rattle.validate.proofs.lemmas.records.Decided.{decided-by, Same}
+use Rattle.validate.proofs.lemmas.records.NodeRecords.{nodeOf, missing-string, string-named, stored-node, node-stored, node-pool}
+use Rattle.validate.proofs.lemmas.records.RecordTests.{text-bytes, bytes-text}
+use Rattle.validate.proofs.lemmas.draft.ValuePlaces.{levelsOf, inside-say}
 
 -- The kinds of elements.
 pub element-range : (k : ℕ) → T (Class.isElement k) → (1 ≤ k) × (k ≤ 25)

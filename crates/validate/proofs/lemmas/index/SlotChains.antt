@@ -16,7 +16,7 @@ use Rattle.elements.proofs.Same.{same-equal}
 use Rattle.document.specs.reference.Check.{hasId, isAmong}
 use Rattle.validate.specs.internal.TableWords.{keyAt, entryOfNode, idsBefore}
 use Rattle.validate.specs.internal.IdIndex.{mixed, slotOf, lastIn, Indexed}
-use Rattle.validate.proofs.index_lemmas.BlockIds.{and-both, idWanted}
+use Rattle.validate.proofs.lemmas.index.BlockIds.{and-both, idWanted}
 
 pub slot-below : (id : List ℕ) → slotOf id < 4096
 unfolding slotOf

@@ -28,7 +28,7 @@ use Rattle.validate.specs.internal.DocumentTable.{BeginsWithTable}
 use Rattle.document.specs.reference.Printing.{part}
 use Rattle.table.specs.Stored.{wordAt, stringAt}
 use Rattle.validate.specs.internal.TableWords.{keyAt, entryOfNode, entriesFrom, wanted, idsBefore, Shape, Shapes, Family, Below, in-table, in-body, elsewhere, Searched}
-use Rattle.validate.proofs.index_lemmas.BlockIds.{idWanted}
+use Rattle.validate.proofs.lemmas.index.BlockIds.{idWanted}
 
 -- What stands in a part of a list that is long enough.
 part-of : (xs ys : List ℕ) (at size : ℕ) (key : List ℕ) → take size (drop at xs) ≡ key → length key ≡ size → take size (drop at (xs ++ ys)) ≡ key

@@ -15,7 +15,7 @@ use Rattle.document.specs.reference.RulesTest.{isText}
 use Rattle.table.specs.Stored.{wordAt, Recorded}
 use Rattle.table.proofs.Stored.{recorded-word}
 use Rattle.validate.specs.internal.DraftWalk.{Decided, offsetOf, NamesStringAt, TextAlone}
-use Rattle.validate.proofs.record_lemmas.Decided.{decided-by, denied, equal-decided, unequal-decided, both-decided, reworded}
+use Rattle.validate.proofs.lemmas.records.Decided.{decided-by, denied, equal-decided, unequal-decided, both-decided, reworded}
 
 -- ---- the words of a record
 

@@ -21,7 +21,7 @@ use Rattle.table.specs.Stored.{wordAt}
 use Rattle.validate.specs.internal.DraftWalk.{LawfulNodeAt}
 use Rattle.document.specs.rules.Draft.{IsDraft}
 use Rattle.table.proofs.Stored.{table-stored, stored-table}
-use Rattle.validate.proofs.draft_lemmas.ChildWalk.{class-word}
+use Rattle.validate.proofs.lemmas.draft.ChildWalk.{class-word}
 
 -- What the root's record and the lengths have to be.
 pub record RootAt (words bytes : List ℕ) (e q : ℕ) : Type 0 where

@@ -20,9 +20,9 @@ use Rattle.table.specs.Stored.{wordAt, Stored, StoredAll}
 use Rattle.validate.specs.internal.DraftWalk.{DecidesNext, behindFirst, LawfulNodeAt, ChildrenAt, ChildTaken}
 use Rattle.table.proofs.Stored.{recorded-word, rows-stored}
 use Rattle.document.proofs.Determined.{count-positive}
-use Rattle.validate.proofs.record_lemmas.Decided.{Same}
-use Rattle.validate.proofs.draft_lemmas.ValuePlaces.{layout-node}
-use Rattle.validate.proofs.draft_lemmas.LawfulNodes.{element-range}
+use Rattle.validate.proofs.lemmas.records.Decided.{Same}
+use Rattle.validate.proofs.lemmas.draft.ValuePlaces.{layout-node}
+use Rattle.validate.proofs.lemmas.draft.LawfulNodes.{element-range}
 
 -- What stands in the table goes forward, and stays within the pool.
 pub node-forward : {words bytes : List ℕ} {i parent p left e q : ℕ} → LawfulNodeAt words bytes i parent p left e q → i < e

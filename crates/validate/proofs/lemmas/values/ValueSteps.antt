@@ -23,7 +23,7 @@ use Rattle.document.specs.rules.Canonical.{nodeFirst, placeValues, layout, layo
 use Rattle.document.proofs.Determined.{count-positive}
 use Rattle.table.specs.Stored.{wordAt}
 use Rattle.validate.specs.internal.DraftWalk.{TakesValues, ValuesLead, valueLevels, nodeValues}
-use Rattle.validate.proofs.record_lemmas.NodeRecords.{missing-string}
+use Rattle.validate.proofs.lemmas.records.NodeRecords.{missing-string}
 
 -- ---- the characters of a value
 
