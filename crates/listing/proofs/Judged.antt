@@ -2,9 +2,9 @@
 use mathlib.Core.Path.{_≡_, refl}
 use mathlib.Core.List.{map}
 use Rattle.document.proofs.Compute.{computes}
-use Rattle.listing.specs.Listing.{decimalWithin, decimal, refusedLine, headerLine, parentWord, nodeLine, lineOfNode, nodeLines, documentLines, listingOf, afterRead, lentMemory, answered, tooLong}
+use Rattle.listing.specs.Listing.{numeralWithin, numeral, refusedLine, headerLine, parentWord, nodeLine, lineOfNode, nodeLines, documentLines, listingOf, afterRead, lentMemory, printedBy, tooLong}
 use Rattle.listing.specs.examples.Listings.{Example, listed, letters, crowd, examples}
 
 pub judged : map listed examples ≡ map (λ (e : Example). e .lines) examples
-unfolding computes lentMemory decimalWithin decimal refusedLine headerLine parentWord nodeLine lineOfNode nodeLines documentLines listingOf afterRead answered tooLong letters crowd examples listed
+unfolding computes lentMemory numeralWithin numeral refusedLine headerLine parentWord nodeLine lineOfNode nodeLines documentLines listingOf afterRead printedBy tooLong letters crowd examples listed
 judged = refl

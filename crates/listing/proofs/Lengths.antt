@@ -9,10 +9,10 @@ use borrow.Author.Tests.{ltb-true, ltb-false}
 use Rattle.base.proofs.Booleans.{bool-case, cond-case}
 use Rattle.elements.specs.rules.Bytes.{codes}
 use Rattle.base.specs.rules.Limits.{missing}
-use Rattle.listing.specs.Listing.{decimal, parentWord, nodeLine, lineOfNode, nodeLines, headerLine, documentLines, refusedLine}
+use Rattle.listing.specs.Listing.{numeral, parentWord, nodeLine, lineOfNode, nodeLines, headerLine, documentLines, refusedLine}
 use Rattle.listing.proofs.Decimals.{decimal-one, decimal-more}
 
-decimal-length : (k n : ℕ) → n < 10 ^ suc k → length (decimal n) ≤ suc k
+decimal-length : (k n : ℕ) → n < 10 ^ suc k → length (numeral n) ≤ suc k
 decimal-length zero n h = rw (decimal-one n (omega arith)) (omega arith)
 decimal-length (suc k) n h =
     bool-case
@@ -23,7 +23,7 @@ decimal-length (suc k) n h =
     let shorter = decimal-length k (n / 10) (omega arith) in
     rw (decimal-more n (ltb-false n 10 e), length-append) (omega arith))
 
-ten : (n : ℕ) → n < 2 ^ 32 → length (decimal n) ≤ 10
+ten : (n : ℕ) → n < 2 ^ 32 → length (numeral n) ≤ 10
 ten n h = decimal-length 9 n (omega arith)
 
 parent-length : (p : ℕ) → p < 2 ^ 32 → length (parentWord p) ≤ 10

@@ -17,7 +17,7 @@ use Rattle.document.specs.reference.Meaning.{treeOf, places}
 use Rattle.document.specs.rules.Spelling.{Spelling}
 use Rattle.document.specs.reference.Outcome.{Reading, refused, read, checked, stored, reading, afterReading, outcome}
 use Rattle.document.specs.rules.Memory.{Memory, Outcome, answerAt, refusal, noRoom, filled, nodeRoom, over}
-use Rattle.listing.specs.Listing.{longestText, lentNodes, lentPool, lentMemory, tooLong, refusedLine, documentLines, within, listingOf, afterRead, answered, printed, Lists}
+use Rattle.listing.specs.Listing.{longestText, lentNodes, lentPool, lentMemory, tooLong, refusedLine, documentLines, partFitting, listingOf, afterRead, printedBy, printed, Lists}
 use Rattle.listing.proofs.Lengths.{refused-length}
 
 -- A document that is listed has no more nodes than the place list.
@@ -65,40 +65,40 @@ long-length = omega arith
 
 -- What `put_document`, `put_refusal` and `put_too_long` promise, and what a program's `list` does.
 abbrev Put : List ℕ → List ℕ → ℕ → List ℕ → Type 0
-Put lines start r out = (r ≡ length (within start lines)) × (out ≡ over (within start lines) start)
+Put lines start r out = (r ≡ length (partFitting start lines)) × (out ≡ over (partFitting start lines) start)
 
 abbrev pub Listed : List ℕ → List ℕ → ℕ → List ℕ → Type 0
 Listed lines start r out = ((r ≤ length out) × (r ≡ length (take r out))) × Lists lines start r out
 
-pub stands : (lines : List ℕ) {start out : List ℕ} {r : ℕ} → r ≡ length lines → out ≡ over lines start → Listed lines start r out
+pub lines-stand : (lines : List ℕ) {start out : List ℕ} {r : ℕ} → r ≡ length lines → out ≡ over lines start → Listed lines start r out
 unfolding over
-stands lines {out = out} {r = r} size bytes =
+lines-stand lines {out = out} {r = r} size bytes =
     let room : r ≤ length out = rw (bytes, length-append) (omega arith) in
     ((room, sym (length-take-le r out room)), record { size = size; bytes = bytes })
 
 whole : (lines : List ℕ) {start out : List ℕ} {r : ℕ} → length lines ≤ length start → Put lines start r out → Listed lines start r out
-unfolding within
+unfolding partFitting
 whole lines {start} h p =
     let all = take-all (length start) lines h in
-    stands lines (rw all at (p .0)) (rw all at (p .1))
+    lines-stand lines (rw all at (p .0)) (rw all at (p .1))
 
 -- The three answers of a program, whatever it prints of a document: two of them after a read into m. That m is the memory of the definition comes behind
 -- what the read promises, which says what m is: where the code lends another, it is this fact that fails.
 module _ (document : Outcome → List ℕ) (s : Spelling) (text : List ℕ) where
-  pub answered-long : {r : ℕ} {start out : List ℕ} → 9 ≤ length start → longestText < length text → Put tooLong start r out → Listed (answered document s text) start r out
-  unfolding answered
+  pub answered-long : {r : ℕ} {start out : List ℕ} → 9 ≤ length start → longestText < length text → Put tooLong start r out → Listed (printedBy document s text) start r out
+  unfolding printedBy
   answered-long room h p = rw (lt-ltb longestText (length text) h) (whole tooLong (omega (arith, long-length)) p)
 
   module _ (m : Memory) (h : length text ≤ longestText) where
     pub answered-refusal : (n l c : ℕ) {r : ℕ} {start out : List ℕ} → 41 ≤ length start → (n ≡ 0 → ⊥) → n < 2 ^ 32 → l < 2 ^ 32 → c < 2 ^ 32
         → n ≡ outcome s text m .answer .number → l ≡ outcome s text m .answer .line → c ≡ outcome s text m .answer .column → m ≡ lentMemory
-        → Put (refusedLine n l c) start r out → Listed (answered document s text) start r out
-    unfolding answered afterRead
+        → Put (refusedLine n l c) start r out → Listed (printedBy document s text) start r out
+    unfolding printedBy afterRead
     answered-refusal n l c room z hn hl hc en el ec lends p =
         rw (le-ltb longestText (length text) h, ← lends, ← en, ← el, ← ec, ne-eqb n 0 z) (whole (refusedLine n l c) (omega (arith, refused-length n l c hn hl hc)) p)
 
-    pub answered-document : outcome s text m .answer .number ≡ 0 → m ≡ lentMemory → answered document s text ≡ document (outcome s text m)
-    unfolding answered afterRead
+    pub answered-document : outcome s text m .answer .number ≡ 0 → m ≡ lentMemory → printedBy document s text ≡ document (outcome s text m)
+    unfolding printedBy afterRead
     answered-document z lends = rw (le-ltb longestText (length text) h, ← lends, eq-eqb (outcome s text m .answer .number) 0 z)
 
 pub lent-places : length (lentMemory .places) ≡ lentNodes

@@ -7,7 +7,9 @@ use lib.Dec.{eqb, ltb}
 use lib.ListN.{length, getD, take, replicate}
 use Rattle.elements.specs.rules.Bytes.{codes}
 use Rattle.base.specs.rules.Limits.{missing}
+use Rattle.base.specs.rules.Numbers as Number
 use Rattle.document.specs.rules.Record.{recordLength}
+use Rattle.document.specs.rules.Record as Word
 use Rattle.document.specs.rules.Canonical.{digit}
 use Rattle.document.specs.rules.Spelling.{Spelling}
 use Rattle.document.specs.reference.Outcome.{outcome}
@@ -30,15 +32,15 @@ unfoldable pub lentMemory : Memory
 lentMemory = record { nodes = replicate (lentNodes * recordLength) 0; places = replicate lentNodes 0; pool = replicate lentPool 0 }
 
 -- A number in decimal digits with no leading zero; the first argument bounds how often it is divided.
-unfoldable pub decimalWithin : ℕ → ℕ → List ℕ
-decimalWithin zero n = digit n ∷ []
-decimalWithin (suc k) n =
-    let longer = decimalWithin k (n / 10) ++ (digit n ∷ []) in
+unfoldable pub numeralWithin : ℕ → ℕ → List ℕ
+numeralWithin zero n = digit n ∷ []
+numeralWithin (suc k) n =
+    let longer = numeralWithin k (n / 10) ++ (digit n ∷ []) in
     cond (ltb n 10) (digit n ∷ []) longer
 
 -- As many divisions as the number itself are enough.
-unfoldable pub decimal : ℕ → List ℕ
-decimal n = decimalWithin n n
+unfoldable pub numeral : ℕ → List ℕ
+numeral n = numeralWithin n n
 
 abbrev pub space : ℕ
 space = 0x20
@@ -54,25 +56,25 @@ tooLong = codes "too long" ++ (newline ∷ [])
 -- "a refusal prints one line as `refused 7 1:1` (number, line, column)"
 unfoldable pub refusedLine : ℕ → ℕ → ℕ → List ℕ
 refusedLine number line column =
-    codes "refused " ++ (decimal number ++ (space ∷ (decimal line ++ (0x3A ∷ (decimal column ++ (newline ∷ []))))))
+    codes "refused " ++ (numeral number ++ (space ∷ (numeral line ++ (0x3A ∷ (numeral column ++ (newline ∷ []))))))
 
 -- "a header", with both counts
 unfoldable pub headerLine : ℕ → ℕ → List ℕ
-headerLine nodes pool = codes "nodes " ++ (decimal nodes ++ (codes " pool " ++ (decimal pool ++ (newline ∷ []))))
+headerLine nodes pool = codes "nodes " ++ (numeral nodes ++ (codes " pool " ++ (numeral pool ++ (newline ∷ []))))
 
 -- "`-` at the root", where the word is 4,294,967,295
 unfoldable pub parentWord : ℕ → List ℕ
-parentWord p = cond (eqb p missing) (codes "-") (decimal p)
+parentWord p = cond (eqb p missing) (codes "-") (numeral p)
 
 -- "one line a node: number, kind, parent (`-` at the root), end"
 unfoldable pub nodeLine : ℕ → ℕ → ℕ → ℕ → List ℕ
 nodeLine number kind parent end =
-    decimal number ++ (space ∷ (decimal kind ++ (space ∷ (parentWord parent ++ (space ∷ (decimal end ++ (newline ∷ [])))))))
+    numeral number ++ (space ∷ (numeral kind ++ (space ∷ (parentWord parent ++ (space ∷ (numeral end ++ (newline ∷ [])))))))
 
 -- The line of node k, from its words in the table.
 unfoldable pub lineOfNode : List ℕ → ℕ → List ℕ
 lineOfNode table k =
-    nodeLine k (getD table (k * recordLength) 0) (getD table (k * recordLength + 1) 0) (getD table (k * recordLength + 2) 0)
+    nodeLine k (getD table (k * recordLength) 0) (getD table (k * recordLength + Word.parent) 0) (getD table (k * recordLength + Word.end) 0)
 
 -- The lines of the first n nodes.
 unfoldable pub nodeLines : List ℕ → ℕ → List ℕ
@@ -84,8 +86,8 @@ unfoldable pub documentLines : List ℕ → ℕ → ℕ → List ℕ
 documentLines table nodes pool = headerLine nodes pool ++ nodeLines table nodes
 
 -- As much of the lines as an output holds.
-unfoldable pub within : List ℕ → List ℕ → List ℕ
-within out lines = take (length out) lines
+unfoldable pub partFitting : List ℕ → List ℕ → List ℕ
+partFitting out lines = take (length out) lines
 
 -- The listing of the document that a read left in memory.
 unfoldable pub listingOf : Outcome → List ℕ
@@ -94,16 +96,16 @@ listingOf o = documentLines (o .memory .nodes) (o .answer .nodes) (o .answer .po
 -- After a read: "a refusal prints one line ..; else" what the program prints of a document.
 unfoldable pub afterRead : (Outcome → List ℕ) → Outcome → List ℕ
 afterRead document o =
-    cond (eqb (o .answer .number) 0) (document o)
+    cond (eqb (o .answer .number) Number.ok) (document o)
     (refusedLine (o .answer .number) (o .answer .line) (o .answer .column))
 
 -- All that a program prints on a text, if it prints this of a document.
-unfoldable pub answered : (Outcome → List ℕ) → Spelling → List ℕ → List ℕ
-answered document s text = cond (ltb longestText (length text)) tooLong (afterRead document (outcome s text lentMemory))
+unfoldable pub printedBy : (Outcome → List ℕ) → Spelling → List ℕ → List ℕ
+printedBy document s text = cond (ltb longestText (length text)) tooLong (afterRead document (outcome s text lentMemory))
 
 -- All that a listing program prints.
 abbrev pub printed : Spelling → List ℕ → List ℕ
-printed = answered listingOf
+printed = printedBy listingOf
 
 -- The lines stand whole at the output's start, and the rest of it is as it was.
 pub record Lists (lines start : List ℕ) (r : ℕ) (out : List ℕ) : Type 0 where

@@ -1,11 +1,29 @@
 // The lines that the listing programs print (document 01, "Judged examples").
+use base::lesser;
+use base::store_all;
+use table::END;
+use table::MISSING;
+use table::PARENT;
+use table::RECORD;
 ghost use mathlib.Core.Path.{_≡_};
 ghost use mathlib.Core.List.{[], _∷_, _++_};
 ghost use Prim.Native.Nat.{_+_, _*_, _≤_};
 ghost use lib.ListN.{getD, length};
 ghost use Rattle.document.specs.rules.Memory.{over};
-ghost use Rattle.listing.specs.Listing.{decimal, parentWord, nodeLine, nodeLines, headerLine, refusedLine, documentLines, tooLong, within};
+ghost use Rattle.listing.specs.Listing.{numeral, parentWord, nodeLine, nodeLines, headerLine, refusedLine, documentLines, tooLong, partFitting};
 ghost use Rattle.listing.specs.internal.Puts.{Puts};
+
+// "over 32,768 bytes prints `too long`": the longest text that is read.
+pub const LONGEST_TEXT: usize = 32768;
+
+// What a program lends to the read: the words of so many nodes, a place for each of them, and the bytes of the pool.
+pub const LENT_NODES: usize = 1024;
+
+pub const LENT_WORDS: usize = LENT_NODES * RECORD;
+
+pub const LENT_POOL: usize = 32768;
+
+const NO_PARENT: u32 = MISSING as u32;
 
 // One byte, where the output has room for it; the place after it.
 fn put_byte(out: &mut [u8], at: usize, b: u8) -> usize
@@ -18,20 +36,19 @@ fn put_byte(out: &mut [u8], at: usize, b: u8) -> usize
     at
 }
 
+// As many of the bytes as the output has room for; the place after them.
 fn put_bytes(out: &mut [u8], at: usize, bytes: &[u8]) -> usize
     ensures { λ r. ⌜ Puts (now (out .entry)) at (now (bytes .entry)) (now (out .exit)) r ⌝ }
 {
-    let mut next = at;
-    let mut k: usize = 0;
-    while k < bytes.len() {
-        next = put_byte(out, next, bytes[k]);
-        k += 1;
+    store_all(out, at, bytes);
+    if out.len() <= at {
+        return at;
     }
-    next
+    at + lesser(bytes.len(), out.len() - at)
 }
 
 fn put_decimal(out: &mut [u8], at: usize, n: u32) -> usize
-    ensures { λ r. ⌜ Puts (now (out .entry)) at (decimal n) (now (out .exit)) r ⌝ }
+    ensures { λ r. ⌜ Puts (now (out .entry)) at (numeral n) (now (out .exit)) r ⌝ }
 {
     if n < 10 {
         return put_byte(out, at, 48 + n as u8);
@@ -42,7 +59,7 @@ fn put_decimal(out: &mut [u8], at: usize, n: u32) -> usize
 
 // A number and the byte that ends it.
 fn put_number(out: &mut [u8], at: usize, n: u32, end: u8) -> usize
-    ensures { λ r. ⌜ Puts (now (out .entry)) at (decimal n ++ (end ∷ [])) (now (out .exit)) r ⌝ }
+    ensures { λ r. ⌜ Puts (now (out .entry)) at (numeral n ++ (end ∷ [])) (now (out .exit)) r ⌝ }
 {
     let at = put_decimal(out, at, n);
     put_byte(out, at, end)
@@ -51,7 +68,7 @@ fn put_number(out: &mut [u8], at: usize, n: u32, end: u8) -> usize
 fn put_parent(out: &mut [u8], at: usize, parent: u32) -> usize
     ensures { λ r. ⌜ Puts (now (out .entry)) at (parentWord parent) (now (out .exit)) r ⌝ }
 {
-    if parent == 4294967295 {
+    if parent == NO_PARENT {
         return put_byte(out, at, b'-');
     }
     put_decimal(out, at, parent)
@@ -81,14 +98,14 @@ fn put_nodes(out: &mut [u8], at: usize, table: &[u32], nodes: u32) -> usize
     let mut next = at;
     let mut k: u32 = 0;
     while k < nodes {
-        let i = k as usize * 11;
+        let i = k as usize * RECORD;
         next = put_node(
             out,
             next,
             k,
             word(table, i),
-            word(table, i + 1),
-            word(table, i + 2),
+            word(table, i + PARENT),
+            word(table, i + END),
         );
         k += 1;
     }
@@ -106,8 +123,8 @@ fn put_header(out: &mut [u8], nodes: u32, pool: u32) -> usize
 
 // The listing of a document whose table and counts these are, as far as the output reaches: at most 44 bytes a node and 33 before them.
 pub fn put_document(table: &[u32], nodes: u32, pool: u32, out: &mut [u8]) -> usize
-    ensures { λ r. ⌜ r ≡ length (within (now (out .entry)) (documentLines (now (table .entry)) nodes pool)) ⌝ }
-    ensures { λ r. ⌜ now (out .exit) ≡ over (within (now (out .entry)) (documentLines (now (table .entry)) nodes pool)) (now (out .entry)) ⌝ }
+    ensures { λ r. ⌜ r ≡ length (partFitting (now (out .entry)) (documentLines (now (table .entry)) nodes pool)) ⌝ }
+    ensures { λ r. ⌜ now (out .exit) ≡ over (partFitting (now (out .entry)) (documentLines (now (table .entry)) nodes pool)) (now (out .entry)) ⌝ }
     ensures { λ r. ⌜ length (documentLines (now (table .entry)) nodes pool) ≤ 44 * nodes + 33 ⌝ }
 {
     let at = put_header(out, nodes, pool);
@@ -116,8 +133,8 @@ pub fn put_document(table: &[u32], nodes: u32, pool: u32, out: &mut [u8]) -> usi
 
 // The line of a refusal, as far as the output reaches.
 pub fn put_refusal(number: u32, line: u32, column: u32, out: &mut [u8]) -> usize
-    ensures { λ r. ⌜ r ≡ length (within (now (out .entry)) (refusedLine number line column)) ⌝ }
-    ensures { λ r. ⌜ now (out .exit) ≡ over (within (now (out .entry)) (refusedLine number line column)) (now (out .entry)) ⌝ }
+    ensures { λ r. ⌜ r ≡ length (partFitting (now (out .entry)) (refusedLine number line column)) ⌝ }
+    ensures { λ r. ⌜ now (out .exit) ≡ over (partFitting (now (out .entry)) (refusedLine number line column)) (now (out .entry)) ⌝ }
 {
     let at = put_bytes(out, 0, b"refused ");
     let at = put_number(out, at, number, b' ');
@@ -127,8 +144,8 @@ pub fn put_refusal(number: u32, line: u32, column: u32, out: &mut [u8]) -> usize
 
 // The line for a text that the programs do not read, as far as the output reaches.
 pub fn put_too_long(out: &mut [u8]) -> usize
-    ensures { λ r. ⌜ r ≡ length (within (now (out .entry)) tooLong) ⌝ }
-    ensures { λ r. ⌜ now (out .exit) ≡ over (within (now (out .entry)) tooLong) (now (out .entry)) ⌝ }
+    ensures { λ r. ⌜ r ≡ length (partFitting (now (out .entry)) tooLong) ⌝ }
+    ensures { λ r. ⌜ now (out .exit) ≡ over (partFitting (now (out .entry)) tooLong) (now (out .entry)) ⌝ }
 {
     put_bytes(out, 0, b"too long\n")
 }

@@ -26,11 +26,11 @@ use Rattle.document.proofs.PrintingDecided.{prints}
 use Rattle.document.proofs.RoundTrip.{printable}
 use Rattle.reader.specs.Read.{Reads}
 use Rattle.reader.specs.declared.Answer.{Answer}
-use Rattle.printer.proofs.Short.{node-short}
+use Rattle.printer.proofs.SpellingLength.{node-short}
 use Rattle.printer.specs.Prints.{Prints}
 use Rattle.printer.specs.declared.Printed.{Printed}
 use Rattle.listing.specs.Listing.{longestText, lentNodes, lentPool, lentMemory, newline}
-use Rattle.listing.proofs.Printed.{Listed, stands, answered-document, lent-places, lent-pool}
+use Rattle.listing.proofs.Printed.{Listed, lines-stand, answered-document, lent-places, lent-pool}
 use Rattle.print_canonical.specs.Tidying.{spellingOf, tidied}
 
 take-over : (new old : List ℕ) (n : ℕ) → length new ≡ n → take n (over new old) ≡ new
@@ -114,4 +114,4 @@ module _ (text : List ℕ) where
       tidies-document h =
           let d = found .0 in
           rw (tidied-document d (found .1) h, spelled .0, spelled .1)
-          (stands (canonical d ++ (newline ∷ [])) (sym (length-append (canonical d) (newline ∷ []))) (set-over (canonical d) out newline (short d (found .1) out room)))
+          (lines-stand (canonical d ++ (newline ∷ [])) (sym (length-append (canonical d) (newline ∷ []))) (set-over (canonical d) out newline (short d (found .1) out room)))

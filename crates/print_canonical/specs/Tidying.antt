@@ -8,7 +8,7 @@ use Rattle.document.specs.rules.Spelling.{nested}
 use Rattle.document.specs.rules.Memory.{Outcome}
 use Rattle.document.specs.rules.Canonical.{canonical}
 use Rattle.document.specs.reference.Printing.{treeOfTable}
-use Rattle.listing.specs.Listing.{newline, answered}
+use Rattle.listing.specs.Listing.{newline, printedBy}
 
 -- The canonical spelling of the document whose table a read left. The line end after it is the program's, as the spelling has "No final newline".
 unfoldable pub spellingOf : Outcome → List ℕ
@@ -19,4 +19,4 @@ spellingOf o =
 
 -- All that is printed on a text. Refusals, `too long` and the memory that is lent are as in the listing programs.
 abbrev pub tidied : List ℕ → List ℕ
-tidied = answered spellingOf nested
+tidied = printedBy spellingOf nested

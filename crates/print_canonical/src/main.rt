@@ -1,22 +1,28 @@
 // Prints the canonical spelling of the document that standard input holds in the nested spelling (document 01, "Canonical spelling").
 use libc::STDIN_FILENO;
 use libc::STDOUT_FILENO;
+use listing::LENT_NODES;
+use listing::LENT_POOL;
+use listing::LENT_WORDS;
+use listing::LONGEST_TEXT;
 ghost use Rattle.io.specs.Counts.{Counts};
 ghost use Rattle.listing.specs.Listing.{Lists};
 ghost use Rattle.print_canonical.specs.Tidying.{tidied};
 
-// All that is printed for a text, with the memory lent that `tidied` names. A spelling and a line end have at most 6 bytes for each byte of the pool and 100 for each node, so the output
-// holds those of 32,768 bytes and 1,024 nodes.
-fn tidy(text: &[u8], out: &mut [u8; 299008]) -> usize
+// A spelling and a line end have at most 6 bytes for each byte of the pool and 100 for each node.
+const LONGEST_LINE: usize = 6 * LENT_POOL + 100 * LENT_NODES;
+
+// All that is printed for a text, with the memory lent that `tidied` names. The output holds the longest line.
+fn tidy(text: &[u8], out: &mut [u8; LONGEST_LINE]) -> usize
     ensures { λ r. ⌜ Counts r (now (out .exit)) ⌝ }
     ensures { λ r. ⌜ Lists (tidied (now (text .entry))) (now (out .entry)) r (now (out .exit)) ⌝ }
 {
-    if 32768 < text.len() {
+    if LONGEST_TEXT < text.len() {
         return listing::put_too_long(out);
     }
-    let mut nodes = [0u32; 11264];
-    let mut places = [0u32; 1024];
-    let mut pool = [0u8; 32768];
+    let mut nodes = [0u32; LENT_WORDS];
+    let mut places = [0u32; LENT_NODES];
+    let mut pool = [0u8; LENT_POOL];
     let a = reader::read_nested(text, &mut nodes, &mut places, &mut pool);
     if a.number != 0 {
         return listing::put_refusal(a.number, a.line, a.column, out);
@@ -33,7 +39,7 @@ fn tidy(text: &[u8], out: &mut [u8; 299008]) -> usize
 fn main() {
     let mut text = io::large_buffer();
     let n = io::read_full(STDIN_FILENO, &mut text);
-    let mut out = [0u8; 299008];
+    let mut out = [0u8; LONGEST_LINE];
     let k = tidy(&text[..n], &mut out);
     io::write_all(STDOUT_FILENO, &out[..k]);
 }

@@ -1,13 +1,4 @@
-pub mod Adding
-pub mod Concat
-pub mod Elements
-pub mod Names
-pub mod Pieces
-pub mod Raw
-pub mod RawTail
-pub mod Short
-pub mod Siblings
-pub mod Standing
-pub mod Valueless
-pub mod Written
+-- The ways through printing (Answers), laws of spellings that several passes cite (Appended, SpellingLength), and the lemmas of each source file.
 pub mod Answers
+pub mod Appended
+pub mod SpellingLength

@@ -1,7 +1,9 @@
 // Prints the canonical spelling of the document whose node table it is given (document 01, "Printing returns number and length").
+mod name; // name.rt: the names of the classes
 mod put; // put.rt: writes the pieces of a spelling
 mod spell; // spell.rt: the spelling of a table's nodes
 
+use base::number;
 use spell::spelled;
 use table::RECORD;
 ghost use mathlib.Core.Path.{_≡_};
@@ -26,9 +28,9 @@ pub fn print(
     ensures { λ r. ⌜ Prints (printing (now (nodes .entry)) «node_count» (now (pool .entry)) «pool_count» (now (out .entry))) r (now (out .exit)) ⌝ }
 {
     let checked = validate::check(nodes, node_count, pool, pool_count);
-    if checked.number != 0 {
+    if checked.number != number::OK {
         return Printed {
-            number: 20,
+            number: number::NOT_A_TABLE,
             length: 0,
         };
     }
@@ -40,13 +42,13 @@ pub fn print(
     let length = spelled(table, strings, &mut nothing);
     if out.len() < length {
         return Printed {
-            number: 21,
+            number: number::OUTPUT_SHORT,
             length: length as u32,
         };
     }
     spelled(table, strings, out);
     Printed {
-        number: 0,
+        number: number::OK,
         length: length as u32,
     }
 }

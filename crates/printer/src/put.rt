@@ -1,99 +1,26 @@
 // Writes the pieces of a spelling, as far as the output reaches: each function takes the index to write at and answers the next.
 // An index that would pass 4,294,967,295 is answered as 0: no document within the limits has so long a spelling.
+use super::name::put_name;
 use base::lesser;
-use base::store_all;
+use base::put_byte;
+use base::put_bytes;
 use kind::Keyword;
+use table::MISSING;
 ghost use mathlib.Core.Path.{_≡_};
 ghost use mathlib.Core.Bool.{true, _||_};
 ghost use mathlib.Core.List.{[], _∷_};
 ghost use Prim.Native.Nat.{_+_, _<_, _≤_};
 ghost use lib.Dec.{eqb, ltb};
-ghost use lib.ListN.{length, take, drop, set};
-ghost use lib.Seq.{sets};
-ghost use Rattle.elements.specs.rules.Class.{nameOf};
+ghost use lib.ListN.{length, take, drop};
 ghost use Rattle.document.specs.rules.Canonical.{hexByte, byteBefore, bytesBefore, quotedBefore, digits, stringBefore};
 ghost use Rattle.document.specs.rules.Canonical as Canonical;
-ghost use Rattle.printer.specs.internal.Adds.{Adds};
+ghost use Rattle.base.specs.rules.Limits.{greatestWord};
+ghost use Rattle.base.specs.Adds.{Adds};
 ghost use Rattle.printer.specs.internal.Pieces.{letterOf, leadingOf};
 ghost use Rattle.printer.specs.internal.Raw.{Raw, RawTo};
 ghost use Rattle.printer.specs.internal.Inside.{valueInside, sizeInside};
 
 const TARGET: usize = Keyword::TARGET.number as usize;
-
-// A sum, where it fits a word.
-fn plus(a: usize, n: usize) -> usize
-    ensures { λ r. ⌜ (r ≤ 4294967295) × (a + n ≤ 4294967295 → r ≡ a + n) ⌝ }
-{
-    if 4294967295 < n {
-        return 0;
-    }
-    if 4294967295 - n < a {
-        return 0;
-    }
-    a + n
-}
-
-// A store, where there is such a place.
-fn store(out: &mut [u8], at: usize, b: u8)
-    ensures { λ _. ⌜ now (out .exit) ≡ set (now (out .entry)) at b ⌝ }
-{
-    if at < out.len() {
-        out[at] = b;
-    }
-}
-
-pub fn put(out: &mut [u8], at: usize, b: u8) -> usize
-    ensures { λ r. ⌜ (r ≤ 4294967295) × Adds (b ∷ []) at (now (out .entry)) r (now (out .exit)) ⌝ }
-{
-    store(out, at, b);
-    plus(at, 1)
-}
-
-pub fn put_bytes(out: &mut [u8], at: usize, bytes: &[u8]) -> usize
-    ensures { λ r. ⌜ Adds (now (bytes .entry)) at (now (out .entry)) r (now (out .exit)) ⌝ }
-{
-    store_all(out, at, bytes);
-    plus(at, bytes.len())
-}
-
-// The name of a class; 0 and 9, a text, have none.
-pub fn put_name(out: &mut [u8], at: usize, class: usize) -> usize
-    ensures { λ r. ⌜ Adds (nameOf class) at (now (out .entry)) r (now (out .exit)) ⌝ }
-{
-    match class {
-        1 => put_bytes(out, at, b"document"),
-        2 => put_bytes(out, at, b"part"),
-        3 => put_bytes(out, at, b"section"),
-        4 => put_bytes(out, at, b"subsection"),
-        5 => put_bytes(out, at, b"paragraph"),
-        6 => put_bytes(out, at, b"formal-item"),
-        7 => put_bytes(out, at, b"footnote"),
-        8 => put_bytes(out, at, b"title"),
-        10 => put_bytes(out, at, b"term"),
-        11 => put_bytes(out, at, b"image"),
-        12 => put_bytes(out, at, b"verbatim"),
-        13 => put_bytes(out, at, b"link"),
-        14 => put_bytes(out, at, b"link-ext"),
-        15 => put_bytes(out, at, b"footnote-ref"),
-        16 => put_bytes(out, at, b"list-ordered"),
-        17 => put_bytes(out, at, b"list-unordered"),
-        18 => put_bytes(out, at, b"item"),
-        19 => put_bytes(out, at, b"table"),
-        20 => put_bytes(out, at, b"summary"),
-        21 => put_bytes(out, at, b"head"),
-        22 => put_bytes(out, at, b"name"),
-        23 => put_bytes(out, at, b"body"),
-        24 => put_bytes(out, at, b"row"),
-        25 => put_bytes(out, at, b"cell"),
-        26 => put_bytes(out, at, b"id"),
-        27 => put_bytes(out, at, b"type"),
-        28 => put_bytes(out, at, b"target"),
-        29 => put_bytes(out, at, b"size"),
-        30 => put_bytes(out, at, b"include"),
-        31 => put_bytes(out, at, b"import"),
-        _ => at,
-    }
-}
 
 // "lower-case hex"
 fn hex(d: u8) -> u8
@@ -139,7 +66,7 @@ fn is_coded(b: u8) -> bool
 }
 
 // A byte of a string.
-fn put_byte(out: &mut [u8], at: usize, b: u8) -> usize
+fn put_string_byte(out: &mut [u8], at: usize, b: u8) -> usize
     ensures { λ r. ⌜ Adds (byteBefore b []) at (now (out .entry)) r (now (out .exit)) ⌝ }
 {
     let short = letter(b);
@@ -150,7 +77,7 @@ fn put_byte(out: &mut [u8], at: usize, b: u8) -> usize
         let coded = [0x5C, 0x75, 0x30, 0x30, hex(b / 16), hex(b % 16)];
         return put_bytes(out, at, &coded);
     }
-    put(out, at, b)
+    put_byte(out, at, b)
 }
 
 // Whether a byte of a string stands for itself.
@@ -237,17 +164,17 @@ fn put_escaped(out: &mut [u8], at: usize, bytes: &[u8]) -> usize
         if bytes.len() <= end {
             return k;
         }
-        k = put_byte(out, k, bytes[end]);
+        k = put_string_byte(out, k, bytes[end]);
         i = end + 1;
     }
 }
 
 pub fn put_quoted(out: &mut [u8], at: usize, bytes: &[u8]) -> usize
-    ensures { λ r. ⌜ (r ≤ 4294967295) × Adds (quotedBefore (now (bytes .entry)) []) at (now (out .entry)) r (now (out .exit)) ⌝ }
+    ensures { λ r. ⌜ (r ≤ greatestWord) × Adds (quotedBefore (now (bytes .entry)) []) at (now (out .entry)) r (now (out .exit)) ⌝ }
 {
-    let k = put(out, at, 0x22);
+    let k = put_byte(out, at, 0x22);
     let k = put_escaped(out, k, bytes);
-    put(out, k, 0x22)
+    put_byte(out, k, 0x22)
 }
 
 // How many of five digits a number does not have.
@@ -308,21 +235,21 @@ pub fn put_value(out: &mut [u8], at: usize, class: usize, bytes: &[u8]) -> usize
     }
     let k = put_bytes(out, at, b" [");
     let k = put_name(out, k, class);
-    let k = put(out, k, b' ');
+    let k = put_byte(out, k, b' ');
     let k = put_string(out, k, class, bytes);
-    put(out, k, b']')
+    put_byte(out, k, b']')
 }
 
 // A space and a size, where there is one.
 pub fn put_size(out: &mut [u8], at: usize, width: usize, height: usize) -> usize
     ensures { λ r. ⌜ Adds (sizeInside width height) at (now (out .entry)) r (now (out .exit)) ⌝ }
 {
-    if width == 4294967295 {
+    if width == MISSING {
         return at;
     }
     let k = put_bytes(out, at, b" [size ");
     let k = put_digits(out, k, width);
-    let k = put(out, k, b' ');
+    let k = put_byte(out, k, b' ');
     let k = put_digits(out, k, height);
-    put(out, k, b']')
+    put_byte(out, k, b']')
 }

@@ -1,12 +1,12 @@
 // The spelling of a table's nodes: "Subtrees are spelled in order, each element written into what is left of the output."
 // On any words the functions are safe and end; what they write is said where a document's nodes stand in the table.
 // Each writes as much as there is room for and answers how much it would need, so that an empty output measures.
-use super::put::put;
-use super::put::put_name;
+use super::name::put_name;
 use super::put::put_quoted;
 use super::put::put_size;
 use super::put::put_value;
 use base::lesser;
+use base::put_byte;
 use kind::Keyword;
 use kind::Kind;
 use table::END;
@@ -31,12 +31,14 @@ ghost use lib.ListN.{length};
 ghost use lib.Seq.{sets};
 ghost use Rattle.elements.specs.rules.Rules.{ruleOf};
 ghost use Rattle.document.specs.rules.Document.{Node, Nodes};
+ghost use Rattle.document.specs.rules.Record as Word;
 ghost use Rattle.document.specs.rules.Table.{count, countAll};
 ghost use Rattle.document.specs.rules.Canonical.{nodeFirst, canonical};
 ghost use Rattle.table.specs.Stored.{wordAt, Stored, StoredAll};
-ghost use Rattle.printer.specs.internal.Adds.{Adds};
+ghost use Rattle.base.specs.rules.Limits.{greatestWord};
+ghost use Rattle.base.specs.Adds.{Adds};
 ghost use Rattle.table.specs.Stored.{stringAt};
-ghost use Rattle.printer.specs.internal.Inside.{Valueless, insideAll, valuesInside, firstOf};
+ghost use Rattle.printer.specs.internal.Inside.{Valueless, insideAll, valuesInside, childrenFirst};
 
 // Whether node `i` has neither key nor size nor type, as most elements.
 fn lacks_values(nodes: &[u32], i: usize) -> bool
@@ -49,8 +51,8 @@ fn lacks_values(nodes: &[u32], i: usize) -> bool
 
 // The values of node `i`.
 fn values(nodes: &[u32], pool: &[u8], i: usize, out: &mut [u8], at: usize) -> usize
-    ensures { λ r. ⌜ Adds (valuesInside (wordAt (now (nodes .entry)) i 0) (stringAt (now (nodes .entry)) (now (pool .entry)) i 3)
-        (stringAt (now (nodes .entry)) (now (pool .entry)) i 5) (wordAt (now (nodes .entry)) i 9) (wordAt (now (nodes .entry)) i 10))
+    ensures { λ r. ⌜ Adds (valuesInside (wordAt (now (nodes .entry)) i Word.kind) (stringAt (now (nodes .entry)) (now (pool .entry)) i Word.key-offset)
+        (stringAt (now (nodes .entry)) (now (pool .entry)) i Word.type-offset) (wordAt (now (nodes .entry)) i Word.width) (wordAt (now (nodes .entry)) i Word.height))
         at (now (out .entry)) r (now (out .exit)) ⌝ }
 {
     if lacks_values(nodes, i) {
@@ -72,7 +74,7 @@ fn first_end(nodes: &[u32], i: usize, end: usize) -> usize
     requires { ⌜ i < end ⌝ }
     ensures { λ r. ⌜ (i < r) × (r ≤ end)
         × ((bytes : List ℕ) (ns : Nodes) (parent p : ℕ) → StoredAll (now (nodes .entry)) bytes (i + 1) parent p ns → end ≡ i + 1 + countAll ns
-        → r ≡ i + 1 + countAll (firstOf (nodeFirst (ruleOf (wordAt (now (nodes .entry)) i 0) .parameters)) ns)) ⌝ }
+        → r ≡ i + 1 + countAll (childrenFirst (nodeFirst (ruleOf (wordAt (now (nodes .entry)) i Word.kind) .parameters)) ns)) ⌝ }
 {
     let from = i + 1;
     if end <= from {
@@ -92,7 +94,7 @@ fn first_end(nodes: &[u32], i: usize, end: usize) -> usize
 }
 
 // The nodes with numbers from `from` to before `end` that stand side by side, a space before each.
-// Neither what `put` answers nor what `spell` does passes 4,294,967,295, so their sum needs no test: the next `put` makes it.
+// Neither what `put_byte` answers nor what `spell` does passes 4,294,967,295, so their sum needs no test: the next `put_byte` makes it.
 fn children(nodes: &[u32], pool: &[u8], from: usize, end: usize, out: &mut [u8], at: usize) -> usize
     ensures { λ r. ⌜ ((ns : Nodes) (parent p : ℕ) → StoredAll (now (nodes .entry)) (now (pool .entry)) from parent p ns → end ≡ from + countAll ns
         → Adds (insideAll ns) at (now (out .entry)) r (now (out .exit))) ⌝ }
@@ -107,7 +109,7 @@ fn children(nodes: &[u32], pool: &[u8], from: usize, end: usize, out: &mut [u8],
         if end < next {
             return k;
         }
-        k = put(out, k, b' ');
+        k = put_byte(out, k, b' ');
         let start = lesser(k, out.len());
         let size = spell(nodes, pool, i, next, &mut out[start..]);
         k += size;
@@ -118,8 +120,8 @@ fn children(nodes: &[u32], pool: &[u8], from: usize, end: usize, out: &mut [u8],
 
 // Node `i`, whose descendants have the numbers up to `end`.
 fn spell(nodes: &[u32], pool: &[u8], i: usize, end: usize, out: &mut [u8]) -> usize
-    ensures { λ r. ⌜ (r ≤ 4294967295) × ((d : Node) (parent p : ℕ) → Stored (now (nodes .entry)) (now (pool .entry)) i parent p d → end ≡ i + count d
-        → length (canonical d) ≤ 4294967295 → (r ≡ length (canonical d)) × (now (out .exit) ≡ sets (now (out .entry)) 0 (canonical d))) ⌝ }
+    ensures { λ r. ⌜ (r ≤ greatestWord) × ((d : Node) (parent p : ℕ) → Stored (now (nodes .entry)) (now (pool .entry)) i parent p d → end ≡ i + count d
+        → length (canonical d) ≤ greatestWord → (r ≡ length (canonical d)) × (now (out .exit) ≡ sets (now (out .entry)) 0 (canonical d))) ⌝ }
 {
     if end <= i {
         return 0;
@@ -129,18 +131,18 @@ fn spell(nodes: &[u32], pool: &[u8], i: usize, end: usize, out: &mut [u8]) -> us
         return put_quoted(out, 0, string(nodes, i, TEXT, pool));
     }
     let first = first_end(nodes, i, end);
-    let k = put(out, 0, b'[');
+    let k = put_byte(out, 0, b'[');
     let k = put_name(out, k, kind);
     let k = children(nodes, pool, i + 1, first, out, k);
     let k = values(nodes, pool, i, out, k);
     let k = children(nodes, pool, first, end, out, k);
-    put(out, k, b']')
+    put_byte(out, k, b']')
 }
 
 // The document whose table this is: "Printing returns number and length".
 pub fn spelled(nodes: &[u32], pool: &[u8], out: &mut [u8]) -> usize
-    ensures { λ r. ⌜ (r ≤ 4294967295) × ((d : Node) (parent p : ℕ) → Stored (now (nodes .entry)) (now (pool .entry)) 0 parent p d
-        → length (canonical d) ≤ 4294967295 → (r ≡ length (canonical d)) × (now (out .exit) ≡ sets (now (out .entry)) 0 (canonical d))) ⌝ }
+    ensures { λ r. ⌜ (r ≤ greatestWord) × ((d : Node) (parent p : ℕ) → Stored (now (nodes .entry)) (now (pool .entry)) 0 parent p d
+        → length (canonical d) ≤ greatestWord → (r ≡ length (canonical d)) × (now (out .exit) ≡ sets (now (out .entry)) 0 (canonical d))) ⌝ }
 {
     spell(nodes, pool, 0, word(nodes, 0, END), out)
 }

@@ -7,5 +7,5 @@ use lib.Seq.{sets}
 
 -- The bytes stand in the output from index `at` on; `next` is the place after them, and never past the output's end.
 pub record Puts (start : List ℕ) (at : ℕ) (bytes : List ℕ) (out : List ℕ) (next : ℕ) : Type 0 where
-  pub place : next ≡ min (at + length bytes) (max at (length start))
-  pub stored : out ≡ sets start at bytes
+  pub next-place : next ≡ min (at + length bytes) (max at (length start))
+  pub bytes-stored : out ≡ sets start at bytes

@@ -11,6 +11,6 @@ Raw s = bytesBefore s [] ≡ s
 
 -- Those from one index to another are.
 pub record RawTo (s : List ℕ) (from to : ℕ) : Type 0 where
-  pub above : from ≤ to
+  pub in-order : from ≤ to
   pub within : to ≤ length s
   pub raw : Raw (take (to - from) (drop from s))

@@ -5,10 +5,10 @@ use mathlib.Core.Path.{_≡_, refl, _∙_}
 use mathlib.Core.List.{[]}
 use lib.ListN.{length, take}
 use Rattle.document.specs.rules.Canonical.{bytesBefore}
-use Rattle.printer.specs.internal.Adds.{Adds}
-use Rattle.printer.proofs.Adding.{adds-as, adds-none, adds-join}
-use Rattle.printer.proofs.Pieces.{bytes-more, bytes-all}
-use Rattle.printer.proofs.Raw.{adds-raw}
+use Rattle.base.specs.Adds.{Adds}
+use Rattle.base.proofs.Adding.{adds-as, adds-none, adds-join, adds-put}
+use Rattle.printer.proofs.put.Pieces.{bytes-more, bytes-all}
+use Rattle.printer.proofs.put.RawBytes.{adds-raw}
 use Rattle.printer.proofs.put.put_escaped.Statement.{statement}
 use Rattle.printer.proofs.put.put_escaped.Tie as tie
 
@@ -28,7 +28,7 @@ returns c =
     let loop = c .before .before .before .before .before .before .before .loop in
     let raw-end = c .before .before .before .before .before .before .raw-end in
     let put-bytes = c .before .before .before .put-bytes in
-    let run = adds-raw (args .bytes .now) (loop .i) (raw-end .result) (raw-end .ensures) (loop .inv .2) (put-bytes .ensures) in
+    let run = adds-raw (args .bytes .now) (loop .i) (raw-end .result) (raw-end .ensures) (loop .inv .2) (adds-put (put-bytes .ensures)) in
     adds-as (bytes-all (args .bytes .now) (raw-end .result) (c .if1 .taken)) run
 
 loop-again : tie.Need-loop-again Inv-loop μ-loop
@@ -37,10 +37,10 @@ loop-again c =
     let loop = c .before .before .before .before .before .before .before .before .before .before .before .before .loop in
     let raw-end = c .before .before .before .before .before .before .before .before .before .before .before .raw-end in
     let put-bytes = c .before .before .before .before .before .before .before .before .put-bytes in
-    let put-byte = c .before .before .put-byte in
-    let run = adds-raw (args .bytes .now) (loop .i) (raw-end .result) (raw-end .ensures) (loop .inv .2) (put-bytes .ensures) in
+    let put-string-byte = c .before .before .put-string-byte in
+    let run = adds-raw (args .bytes .now) (loop .i) (raw-end .result) (raw-end .ensures) (loop .inv .2) (adds-put (put-bytes .ensures)) in
     let more = bytes-more (args .bytes .now) (raw-end .result) (c .before .before .before .before .before .if1 .left) in
-    (search needs, put-byte .kept .0 ∙ put-bytes .kept .0 ∙ loop .inv .1, adds-as more (adds-join run (put-byte .ensures)))
+    (search needs, put-string-byte .kept .0 ∙ put-bytes .kept .0 ∙ loop .inv .1, adds-as more (adds-join run (put-string-byte .ensures)))
 
 pub put-escaped-spec : {M : Type 1} → statement M
 put-escaped-spec =

@@ -1,6 +1,7 @@
 -- `put::put_size` meets its contract.
-use Rattle.printer.proofs.Adding.{adds-as, adds-none, adds-join}
-use Rattle.printer.proofs.Pieces.{size-none, size-parts}
+use mathlib.Core.List.{[], _∷_}
+use Rattle.base.proofs.Adding.{adds-as, adds-none, adds-join, adds-byte, adds-put}
+use Rattle.printer.proofs.put.Pieces.{size-none, size-parts}
 use borrow.Author.Needs.{needs}
 use Rattle.printer.proofs.put.put_size.Statement.{statement}
 use Rattle.printer.proofs.put.put_size.Tie as tie
@@ -16,10 +17,10 @@ returns-2 c =
     let if1 = c .before .before .before .before .before .before .before .before .before .before .before .before .before .before .before .before .before .before .before .before .before .if1 in
     let put-bytes = c .before .before .before .before .before .before .before .before .before .before .before .before .before .before .before .before .before .before .put-bytes in
     let put-digits = c .before .before .before .before .before .before .before .before .before .before .before .before .before .before .put-digits in
-    let put = c .before .before .before .before .before .before .before .before .before .before .put in
+    let put-byte = c .before .before .before .before .before .before .before .before .before .before .put-byte in
     let put-digits2 = c .before .before .before .before .before .before .put-digits2 in
     adds-as (size-parts (args .width) (args .height) (if1 .left))
-    (adds-join (put-bytes .ensures) (adds-join (put-digits .ensures) (adds-join (put .ensures .1) (adds-join (put-digits2 .ensures) (c .before .before .put2 .ensures .1)))))
+    (adds-join (adds-put {s = 0x20 ∷ 0x5B ∷ 0x73 ∷ 0x69 ∷ 0x7A ∷ 0x65 ∷ 0x20 ∷ []} (put-bytes .ensures)) (adds-join (put-digits .ensures) (adds-join (adds-byte (put-byte .ensures)) (adds-join (put-digits2 .ensures) (adds-byte (c .before .before .put-byte2 .ensures))))))
 
 pub put-size-spec : {M : Type 1} → statement M
 put-size-spec =

@@ -1,6 +1,7 @@
 -- `put::put_value` meets its contract.
-use Rattle.printer.proofs.Adding.{adds-as, adds-none, adds-join}
-use Rattle.printer.proofs.Pieces.{value-none, value-parts}
+use mathlib.Core.List.{[], _∷_}
+use Rattle.base.proofs.Adding.{adds-as, adds-none, adds-join, adds-byte, adds-put}
+use Rattle.printer.proofs.put.Pieces.{value-none, value-parts}
 use borrow.Author.Needs.{needs}
 use Rattle.printer.proofs.put.put_value.Statement.{statement}
 use Rattle.printer.proofs.put.put_value.Tie as tie
@@ -16,10 +17,10 @@ returns-2 c =
     let if1 = c .before .before .before .before .before .before .before .before .before .before .before .before .before .before .before .before .before .before .before .before .before .if1 in
     let put-bytes = c .before .before .before .before .before .before .before .before .before .before .before .before .before .before .before .before .before .before .put-bytes in
     let put-name = c .before .before .before .before .before .before .before .before .before .before .before .before .before .before .put-name in
-    let put = c .before .before .before .before .before .before .before .before .before .before .put in
+    let put-byte = c .before .before .before .before .before .before .before .before .before .before .put-byte in
     let put-string = c .before .before .before .before .before .before .put-string in
     adds-as (value-parts (args .class) (args .bytes .now) (if1 .left))
-    (adds-join (put-bytes .ensures) (adds-join (put-name .ensures) (adds-join (put .ensures .1) (adds-join (put-string .ensures) (c .before .before .put2 .ensures .1)))))
+    (adds-join (adds-put {s = 0x20 ∷ 0x5B ∷ []} (put-bytes .ensures)) (adds-join (put-name .ensures) (adds-join (adds-byte (put-byte .ensures)) (adds-join (put-string .ensures) (adds-byte (c .before .before .put-byte2 .ensures))))))
 
 pub put-value-spec : {M : Type 1} → statement M
 put-value-spec =

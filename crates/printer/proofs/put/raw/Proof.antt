@@ -1,5 +1,5 @@
 -- `put::raw` meets its contract.
-use Rattle.printer.proofs.Raw.{raw-tested}
+use Rattle.printer.proofs.put.RawBytes.{raw-tested}
 use Rattle.printer.proofs.put.raw.Statement.{statement}
 use Rattle.printer.proofs.put.raw.Tie as tie
 

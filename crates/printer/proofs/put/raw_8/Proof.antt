@@ -4,7 +4,7 @@ use native.Mathlib.Nat.{add-zero}
 use native.Mathlib.Omega.{arith}
 use lib.Dec.{T, ltb, ltb→lt}
 use lib.ListN.{length}
-use Rattle.printer.proofs.Raw.{raw-first, raw-more}
+use Rattle.printer.proofs.put.RawBytes.{raw-first, raw-more}
 use borrow.Author.Needs.{needs}
 use Rattle.printer.proofs.put.raw_8.Statement.{statement}
 use Rattle.printer.proofs.put.raw_8.Tie as tie

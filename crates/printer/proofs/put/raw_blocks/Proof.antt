@@ -6,7 +6,7 @@ use borrow.Author.Needs.{needs}
 use Prim.Native.Nat.{_-_}
 use lib.ListN.{length}
 use Rattle.printer.specs.internal.Raw.{RawTo}
-use Rattle.printer.proofs.Raw.{raw-start, raw-two}
+use Rattle.printer.proofs.put.RawBytes.{raw-start, raw-two}
 use Rattle.printer.proofs.put.raw_blocks.Statement.{statement}
 use Rattle.printer.proofs.put.raw_blocks.Tie as tie
 

@@ -5,7 +5,7 @@ use native.Mathlib.Omega.{arith}
 use lib.ListN.{length}
 use borrow.Author.Tests.{not-false}
 use Rattle.printer.specs.internal.Raw.{RawTo}
-use Rattle.printer.proofs.Raw.{raw-first, raw-on, raw-join}
+use Rattle.printer.proofs.put.RawBytes.{raw-first, raw-on, raw-join}
 use Rattle.printer.proofs.put.raw_end.Statement.{statement}
 use Rattle.printer.proofs.put.raw_end.Tie as tie
 

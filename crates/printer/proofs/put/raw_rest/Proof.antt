@@ -4,7 +4,7 @@ use Prim.Native.Nat.{_+_, _-_, _≤_}
 use mathlib.Core.Path.{_≡_}
 use lib.ListN.{length}
 use Rattle.base.proofs.Booleans.{true-T}
-use Rattle.printer.proofs.RawTail.{raw-over}
+use Rattle.printer.proofs.put.RawLast.{raw-over}
 use borrow.Author.Needs.{needs}
 use Rattle.printer.proofs.put.raw_rest.Statement.{statement}
 use Rattle.printer.proofs.put.raw_rest.Tie as tie

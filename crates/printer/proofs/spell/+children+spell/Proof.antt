@@ -1,12 +1,13 @@
 -- `spell::children` and `spell::spell` meet their contracts. The measures: twice the span of nodes from number to end, and one more for `children`,
 -- which calls `spell` for one node of the same span. The loop's invariant: what is written of the nodes that are left completes the spelling of all.
+use Rattle.base.proofs.Adding.{adds-byte, sum-most}
 use mathlib.Core.Path.{_≡_, refl, _∙_}
 use native.Mathlib.Omega.{arith}
 use borrow.Author.Needs.{needs}
 use lib.ListN.{length}
 use borrow.Rule.Slice.PartMut.{same-len-mid}
-use Rattle.printer.proofs.Written.{none-spelled, text-spelled, element-spelled}
-use Rattle.printer.proofs.Siblings.{Upto, upto-start, upto-done, upto-never, upto-turn}
+use Rattle.printer.proofs.spell.NodeSpelled.{none-spelled, text-spelled, element-spelled}
+use Rattle.printer.proofs.spell.Siblings.{Upto, upto-start, upto-done, upto-never, upto-turn}
 use Prim.Native.Nat.{ℕ, _+_, _*_, _-_, _<_, _≤_}
 use borrow.Fn.Kinds.{In}
 use borrow.Fn.PlainCycle.{Measures, is, falls, and}
@@ -16,8 +17,8 @@ use Rattle.printer.proofs.spell.+children+spell.Lts-children as childre
 use Rattle.printer.proofs.spell.spell.Reads as spell
 use Rattle.printer.proofs.spell.spell.Kinds as spell-kinds
 use Rattle.printer.proofs.spell.+children+spell.Lts-spell as spell-lts
-use Rattle.printer.proofs.put.put.Reads as put-reads
-use Rattle.printer.proofs.put.put_name.Reads as put-name-reads
+use Rattle.base.proofs.put_byte.Reads as put-byte-reads
+use Rattle.printer.proofs.name.put_name.Reads as put-name-reads
 use Rattle.printer.proofs.put.put_quoted.Reads as put-quoted-reads
 use Rattle.printer.proofs.spell.first_end.Reads as first-end-reads
 use Rattle.base.proofs.lesser.Reads as lesser-reads
@@ -51,8 +52,8 @@ abbrev children-calls : ℕ → children-lts.Claims
 children-calls t = (
   word-reads.Asked,
   word-reads.Learnt,
-  put-reads.Asked,
-  put-reads.Learnt,
+  put-byte-reads.Asked,
+  put-byte-reads.Learnt,
   lesser-reads.Asked,
   lesser-reads.Learnt,
   spell-below t,
@@ -70,8 +71,8 @@ spell-calls t = (
   put-quoted-reads.Learnt,
   first-end-reads.Asked,
   first-end-reads.Learnt,
-  put-reads.Asked,
-  put-reads.Learnt,
+  put-byte-reads.Asked,
+  put-byte-reads.Learnt,
   put-name-reads.Asked,
   put-name-reads.Learnt,
   children-below t,
@@ -120,7 +121,7 @@ children-part-spell-start t c = omega (arith, c .lesser .ensures)
 
 children-add-k : (t : ℕ) → children-lts.Need-add-k (children-calls t) (children-at t) children.Post children-Inv-loop children-μ-loop
 children-add-k t c =
-    omega (arith, c .before .before .before .before .before .before .before .put .ensures .0, c .before .before .spell .ensures .0)
+    omega (arith, sum-most _ _ (c .before .before .before .before .before .before .before .put-byte .ensures .0), c .before .before .spell .ensures .0)
 
 children-loop-less : (t : ℕ) → children-lts.Need-loop-less (children-calls t) (children-at t) children.Post children-Inv-loop children-μ-loop
 children-loop-less t c =
@@ -136,11 +137,11 @@ children-loop-again t c =
     let loop-test = c .before .before .before .before .before .before .before .before .before .before .before .before .loop-test in
     let word = c .before .before .before .before .before .before .before .before .before .before .before .word in
     let if1 = c .before .before .before .before .before .before .before .before .before .before .if1 in
-    let put = c .before .before .before .before .before .before .before .put in
+    let put-byte = c .before .before .before .before .before .before .before .put-byte in
     let lesser = c .before .before .before .before .lesser in
     let spell = c .before .before .spell in
-    let step = upto-turn (args .nodes .now) (args .pool .now) (args .from) (args .end) (args .at) (args .out .now) (loop .i) (loop .k) (word .result) (put .result) (lesser .result) (spell .result) (put .result + spell .result) (loop .out) (put .last .0) (spell .last .1 .1 .1 .1 .0) (loop .inv .2) (loop-test .taken) (word .ensures) (put .ensures .1) (lesser .ensures) (spell .ensures .1) (λ h. refl) in
-    (omega (arith, loop .inv .0, if1 .left), same-len-mid (lesser .result) (length (put .last .0) - lesser .result) (put .last .0) (spell .last .1 .1 .1 .1 .0) (spell .kept .1 .1 .1 .1 .0) ∙ put .kept .0 ∙ loop .inv .1, step)
+    let step = upto-turn (args .nodes .now) (args .pool .now) (args .from) (args .end) (args .at) (args .out .now) (loop .i) (loop .k) (word .result) (put-byte .result) (lesser .result) (spell .result) (put-byte .result + spell .result) (loop .out) (put-byte .last .0) (spell .last .1 .1 .1 .1 .0) (loop .inv .2) (loop-test .taken) (word .ensures) (adds-byte (put-byte .ensures)) (lesser .ensures) (spell .ensures .1) (λ h. refl) in
+    (omega (arith, loop .inv .0, if1 .left), same-len-mid (lesser .result) (length (put-byte .last .0) - lesser .result) (put-byte .last .0) (spell .last .1 .1 .1 .1 .0) (spell .kept .1 .1 .1 .1 .0) ∙ put-byte .kept .0 ∙ loop .inv .1, step)
 
 children-same-length-3 : (t : ℕ) → children-lts.Need-same-length-3 (children-calls t) (children-at t) children.Post children-Inv-loop children-μ-loop
 children-same-length-3 t c = c .before .loop .inv .1
@@ -171,13 +172,13 @@ spell-returns-3 t c =
     let word = c .before .before .before .before .before .before .before .before .before .before .before .before .before .before .before .before .before .before .before .before .before .before .before .before .before .before .before .word in
     let if2 = c .before .before .before .before .before .before .before .before .before .before .before .before .before .before .before .before .before .before .before .before .before .before .before .before .before .if2 in
     let first-end = c .before .before .before .before .before .before .before .before .before .before .before .before .before .before .before .before .before .before .before .before .before .before .before .before .first-end in
-    let put = c .before .before .before .before .before .before .before .before .before .before .before .before .before .before .before .before .before .before .before .before .before .before .put in
+    let put-byte = c .before .before .before .before .before .before .before .before .before .before .before .before .before .before .before .before .before .before .before .before .before .before .put-byte in
     let put-name = c .before .before .before .before .before .before .before .before .before .before .before .before .before .before .before .before .before .before .put-name in
     let children = c .before .before .before .before .before .before .before .before .before .before .before .before .before .before .children in
     let values = c .before .before .before .before .before .before .before .before .before .before .values in
     let children2 = c .before .before .before .before .before .before .children2 in
-    let put2 = c .before .before .put2 in
-    (put2 .ensures .0, element-spelled (args .nodes .now) (args .pool .now) (args .i) (args .end) (args .out .now) (word .result) (first-end .result) (word .ensures) (if2 .left) (first-end .ensures .2) (put .ensures .1) (put-name .ensures) (children .ensures) (values .ensures) (children2 .ensures) (put2 .ensures .1))
+    let put-byte2 = c .before .before .put-byte2 in
+    (sum-most _ _ (put-byte2 .ensures .0), element-spelled (args .nodes .now) (args .pool .now) (args .i) (args .end) (args .out .now) (word .result) (first-end .result) (word .ensures) (if2 .left) (first-end .ensures .2) (adds-byte (put-byte .ensures)) (put-name .ensures) (children .ensures) (values .ensures) (children2 .ensures) (adds-byte (put-byte2 .ensures)))
 
 pub +children+spell-spec : {M : Type 1} → statement M
 +children+spell-spec = close μ-children μ-spell (λ t. children-lts.spec (children-calls t)
@@ -211,8 +212,8 @@ pub +children+spell-spec : {M : Type 1} → statement M
       put-quoted-reads.Learnt,
       first-end-reads.Asked,
       first-end-reads.Learnt,
-      put-reads.Asked,
-      put-reads.Learnt,
+      put-byte-reads.Asked,
+      put-byte-reads.Learnt,
       put-name-reads.Asked,
       put-name-reads.Learnt,
       children-below t,

@@ -1,7 +1,7 @@
 -- `spell::first_end` meets its contract.
 use native.Mathlib.Omega.{arith}
 use borrow.Author.Tests.{not-true, not-false}
-use Rattle.printer.proofs.Standing.{first-childless, first-untitled, first-titled, first-ends}
+use Rattle.printer.proofs.spell.StoredNodes.{first-childless, first-untitled, first-titled, first-ends}
 use borrow.Author.Needs.{needs}
 use Rattle.printer.proofs.spell.first_end.Statement.{statement}
 use Rattle.printer.proofs.spell.first_end.Tie as tie

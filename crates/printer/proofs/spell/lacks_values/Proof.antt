@@ -1,5 +1,5 @@
 -- `spell::lacks_values` meets its contract.
-use Rattle.printer.proofs.Valueless.{valueless-tested}
+use Rattle.printer.proofs.spell.Valueless.{valueless-tested}
 use borrow.Author.Needs.{needs}
 use Rattle.printer.proofs.spell.lacks_values.Statement.{statement}
 use Rattle.printer.proofs.spell.lacks_values.Tie as tie

@@ -1,6 +1,6 @@
 -- `spell::spelled` meets its contract.
 use mathlib.Core.Path.{_∙_}
-use Rattle.printer.proofs.Standing.{end-word}
+use Rattle.printer.proofs.spell.StoredNodes.{end-word}
 use borrow.Author.Needs.{needs}
 use Rattle.printer.proofs.spell.spelled.Statement.{statement}
 use Rattle.printer.proofs.spell.spelled.Tie as tie

@@ -1,7 +1,7 @@
 -- `spell::values` meets its contract.
-use Rattle.printer.proofs.Adding.{adds-as, adds-none, adds-join}
-use Rattle.printer.proofs.Elements.{values-as}
-use Rattle.printer.proofs.Valueless.{valueless-inside}
+use Rattle.base.proofs.Adding.{adds-as, adds-none, adds-join}
+use Rattle.printer.proofs.spell.ElementParts.{values-as}
+use Rattle.printer.proofs.spell.Valueless.{valueless-inside}
 use borrow.Author.Needs.{needs}
 use Rattle.printer.proofs.spell.values.Statement.{statement}
 use Rattle.printer.proofs.spell.values.Tie as tie

@@ -1,0 +1,2 @@
+-- Lemmas of src/name.rt.
+pub mod ClassNames
