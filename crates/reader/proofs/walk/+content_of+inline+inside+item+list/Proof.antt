@@ -438,7 +438,11 @@ list-returns-4 t c =
 list-loop-less : (t : ℕ) → list-lts.Need-loop-less (list-claims t) (list-at t) list.Post list-Inv-loop list-μ-loop
 list-loop-less t c =
     let turn = list-taken t (c .before .before .before .before .before .before .before .before .before) in
-    omega (arith, list-forward (c .before .before .before .before .before .before .before .before .before .before .before .before .before .before .before .before .loop .inv .0) (turn .0, (turn .1, refl)) (list-child t (c .before .before .before)) (c .before .before .past-bracket .ensures) (c .if4 .left))
+    omega (
+      arith,
+      list-forward (c .before .before .before .before .before .before .before .before .before .before .before .before .before .before .before .before .loop .inv .0)
+          (turn .0, (turn .1, refl)) (list-child t (c .before .before .before)) (c .before .before .past-bracket .ensures) (c .if4 .left),
+    )
 
 list-loop-again : (t : ℕ) → list-lts.Need-loop-again (list-claims t) (list-at t) list.Post list-Inv-loop list-μ-loop
 list-loop-again t c =

@@ -49,7 +49,16 @@ enter-requires c κs =
     )
 
 add-t24 : tie.Need-add-t24
-add-t24 c = omega (arith, seen-within (c .before .before .before .before .before .before .before .before .before .before .before .before .before .before .before .args .text .now) (c .before .before .before .before .before .before .before .before .before .before .before .before .before .before .before .args .i) (c .before .before .before .before .before .before .before .before .before .before .before .look .ensures) (c .before .before .before .before .before .before .before .before .before .before .before .before .before .before .before .pre .0) (c .before .before .before .before .before .before .before .before .before .if2 .left) (c .before .before .before .before .before .if4 .left), c .before .before .before .before .before .before .before .before .before .before .before .before .before .before .before .pre, c .before .before .before .before .before .before .before .before .before .before .before .before .before .before .before .good)
+add-t24 c = omega (
+  arith,
+  seen-within (c .before .before .before .before .before .before .before .before .before .before .before .before .before .before .before .args .text .now)
+      (c .before .before .before .before .before .before .before .before .before .before .before .before .before .before .before .args .i)
+      (c .before .before .before .before .before .before .before .before .before .before .before .look .ensures)
+      (c .before .before .before .before .before .before .before .before .before .before .before .before .before .before .before .pre .0)
+      (c .before .before .before .before .before .before .before .before .before .if2 .left) (c .before .before .before .before .before .if4 .left),
+  c .before .before .before .before .before .before .before .before .before .before .before .before .before .before .before .pre,
+  c .before .before .before .before .before .before .before .before .before .before .before .before .before .before .before .good,
+)
 
 returns-6 : tie.Need-returns-6
 returns-6 c = turn-atom (c .before .before .before .before .before .before .before .before .before .before .before .look .ensures)
