@@ -4,14 +4,10 @@ mod common;
 
 use std::collections::HashMap;
 
-use common::{printed, read_amply};
+use common::{cases, printed, read_amply};
 use oracle::names::{MOST_BYTES, RECORD_LENGTH};
 use oracle::random::{grow, render, spell, tally, Element, PrintCase, Random, ReadCase, Wanted};
 use oracle::Kind;
-
-fn cases() -> u64 {
-    std::env::var("ORACLE_CASES").ok().and_then(|count| count.parse().ok()).unwrap_or(4_000)
-}
 
 /// Number 0 or 15 to 18 of a tree that keeps the rules, by the plainest way there is, and the node.
 fn plain_fault(document: &Element) -> (u32, usize) {

@@ -3,16 +3,12 @@
 
 mod common;
 
-use common::read_amply;
+use common::{cases, read_amply};
 use oracle::names::{
     END, HEIGHT, KEY_OFFSET, KIND, MISSING, MOST_BYTES, RECORD_LENGTH, TEXT_OFFSET, TYPE_OFFSET, WIDTH,
 };
 use oracle::random::{Element, PrintCase};
 use oracle::Kind;
-
-fn cases() -> u64 {
-    std::env::var("ORACLE_CASES").ok().and_then(|count| count.parse().ok()).unwrap_or(4_000)
-}
 
 /// The tree that kinds, ends and strings speak of, if they speak of one.
 fn rebuild(nodes: &[u32], pool: &[u8], node: usize) -> Option<Element> {

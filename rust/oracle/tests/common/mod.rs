@@ -20,6 +20,11 @@ pub struct Read {
     pub pool: Vec<u8>,
 }
 
+/// How many random cases there are: so many as ORACLE_CASES says, or as take seconds.
+pub fn cases() -> u64 {
+    std::env::var("ORACLE_CASES").ok().and_then(|count| count.parse().ok()).unwrap_or(4_000)
+}
+
 /// Reads with room for every document there is.
 pub fn read_amply(text: &[u8], imperative: bool) -> Read {
     let (mut nodes, mut places, mut pool) =

@@ -1,17 +1,12 @@
 //! Imperative texts: every run of commands after a document's, alone and with content between them.
 
+use super::expressions::ELEMENTS;
 use crate::sweep::must::Must;
 use crate::sweep::reading::Reads;
 use crate::sweep::sweeper::Sweeper;
 
-const BLOCKS: [&str; 6] = [
-    "[part [title A]]",
-    "[section [title A]]",
-    "[subsection [title A]]",
-    "[paragraph]",
-    "[formal-item [title A]]",
-    "[footnote [id k]]",
-];
+/// The six blocks that follow the document among the elements.
+const BLOCKS: &[&str] = ELEMENTS.split_at(7).0.split_at(1).1;
 
 /// What stands between commands: two that may be content, and four that are refused wherever they stand.
 const LOOSE: [&str; 6] = ["x", "[list-ordered]", "[id k]", "[title A]", "[include x]", "[document [title A]]"];
@@ -29,7 +24,7 @@ const WELL: u64 = 1 + 2 + 7 + 30 + 135 + 614 + 2_809;
 
 fn blocks(sweeper: &mut Sweeper) {
     let must = Must::meet(55_987, WELL, &[0, 8, 11, 16]);
-    sweeper.reads("runs of commands", must, |reads| runs(reads, 6, &BLOCKS));
+    sweeper.reads("runs of commands", must, |reads| runs(reads, 6, BLOCKS));
 }
 
 /// All runs of up to four commands or others: 1 + 12 + 144 + 1,728 + 20,736. Counted as above, where content
@@ -38,7 +33,7 @@ const WELL_WITH_CONTENT: u64 = 1 + 2 + 7 + 36 + 207;
 
 fn blocks_and_content(sweeper: &mut Sweeper) {
     let must = Must::meet(22_621, WELL_WITH_CONTENT, &[0, 8, 11, 12, 16]);
-    sweeper.reads("runs of commands and content", must, |reads| runs(reads, 4, &[BLOCKS, LOOSE].concat()));
+    sweeper.reads("runs of commands and content", must, |reads| runs(reads, 4, &[BLOCKS, &LOOSE].concat()));
 }
 
 /// All runs of up to so many pieces, after a document's command.
