@@ -12,7 +12,7 @@ use lib.Seq.{drop-cons, getD-drop}
 use Rattle.syntax.specs.rules.Byte.{byteClass, isBlank, isOrdinary}
 use Rattle.syntax.specs.reference.Scan.{ordinaryRun}
 use Rattle.lexer.specs.Token.{blanks, codeOf}
-use Rattle.lexer.proofs.Codes.{blank-code}
+use Rattle.lexer.proofs.class.ClassNumbers.{blank-code}
 
 -- ---- white space
 

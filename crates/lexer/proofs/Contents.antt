@@ -14,11 +14,11 @@ use Rattle.syntax.specs.rules.Syntax.{Piece, raw, isPiece, pieceBefore, pieceVa
 use Rattle.syntax.specs.reference.Scan.{Quoted, closed, unclosed, bad-escape, piece, escapeAt, quotedFrom, ordinaryRun}
 use Rattle.lexer.specs.Token.{stringEnd, stringAt, contentOf, pieceAt, atomValue}
 use Rattle.syntax.proofs.Escapes.{first-of}
-use Rattle.lexer.proofs.PieceAt.{piece-few, piece-short, Told, Stands, stands-told, raw-piece, read-on}
+use Rattle.lexer.proofs.PieceAt.{piece-few, piece-short, Told, PieceStands, stands-told, raw-piece, read-on}
 use Rattle.lexer.specs.internal.Run.{plainRun}
 use Rattle.base.proofs.Stores.{sets-append}
-use Rattle.lexer.proofs.Written.{bytes-of}
-use Rattle.lexer.proofs.Runs.{plains, raws, quoted-passed, plain-part}
+use Rattle.lexer.proofs.stores.PieceStores.{bytes-of}
+use Rattle.lexer.proofs.run.PlainRuns.{plains, raws, quoted-passed, plain-part}
 
 -- ---- a piece is read
 
@@ -57,7 +57,9 @@ unfolding pieceAt quotedFrom isClosed
 first-piece n b s h e = go (eqb b 0x22) (eqb b 0x5C) (isPiece (escapeAt s)) refl (ne-eqb b 0x22 h) (raw-piece b (ne-eqb b 0x22 h)) e
   where
     go : (x y z : Bool) → isPiece (escapeAt s) ≡ z → x ≡ false → (y ≡ false → isPiece (raw b) ≡ true)
-        → isClosed (cond x (closed []) (cond y (cond z (piece (escapeAt s) (quotedFrom (length (pieceBefore (escapeAt s) []) - 1) (n + 1) s)) (bad-escape n)) (piece (raw b) (quotedFrom 0 (n + 1) s)))) ≡ true
+        → isClosed (cond x (closed [])
+        (cond y (cond z (piece (escapeAt s) (quotedFrom (length (pieceBefore (escapeAt s) []) - 1) (n + 1) s)) (bad-escape n))
+        (piece (raw b) (quotedFrom 0 (n + 1) s)))) ≡ true
         → isPiece (cond y (escapeAt s) (raw b)) ≡ true
     go true y z g x r e = cc
     go false true true g x r e = g
@@ -70,7 +72,9 @@ unfolding pieceAt quotedFrom contentOf piecesValue
 nothing-at n b s e = go (eqb b 0x22) (eqb b 0x5C) (raw-piece b) e
   where
     go : (x y : Bool) → (x ≡ false → y ≡ false → isPiece (raw b) ≡ true) → isPiece (cond y (escapeAt s) (raw b)) ≡ false
-        → contentOf (cond x (closed []) (cond y (cond (isPiece (escapeAt s)) (piece (escapeAt s) (quotedFrom (length (pieceBefore (escapeAt s) []) - 1) (n + 1) s)) (bad-escape n)) (piece (raw b) (quotedFrom 0 (n + 1) s)))) ≡ []
+        → contentOf (cond x (closed [])
+        (cond y (cond (isPiece (escapeAt s)) (piece (escapeAt s) (quotedFrom (length (pieceBefore (escapeAt s) []) - 1) (n + 1) s)) (bad-escape n))
+        (piece (raw b) (quotedFrom 0 (n + 1) s)))) ≡ []
     go true y r e = refl
     go false true r e = rw e
     go false false r e = let z : true ≡ false = sym (r refl refl) ∙ e in let y : _≡_ {A = ℕ} 0 1 = cc in absurd (omega arith)
@@ -153,7 +157,7 @@ fault-nothing text place found e h =
     ∙ number-nothing place (quotedFrom 0 (place + 1) (drop 1 (drop place text))) (λ f. h (e ∙ f))
 
 -- A string is written up to place i of the text, with k bytes: what is left of it, written on, gives what the whole gives.
-pub record Content (text : List ℕ) (place : ℕ) (start : List ℕ) (at : ℕ) (out : List ℕ) (i k : ℕ) : Type 0 where
+pub record ContentSoFar (text : List ℕ) (place : ℕ) (start : List ℕ) (at : ℕ) (out : List ℕ) (i k : ℕ) : Type 0 where
   pub fits : k ≤ i
   pub ends : isClosed (quotedFrom 0 i (drop i text)) ≡ true
   pub left : k + length (contentOf (quotedFrom 0 i (drop i text))) ≡ length (contentOf (quotedFrom 0 1 (drop 1 (drop place text))))
@@ -176,14 +180,14 @@ module _ (text : List ℕ) (place found : ℕ) (e : found ≡ stringAt place (dr
   pub string-inside : place + 1 < length text
   string-inside = inside-closed text (place + 1) (place + 1) closed-string
 
-  pub content-start : (out : List ℕ) (at : ℕ) → Content text place out at out (place + 1) 0
+  pub content-start : (out : List ℕ) (at : ℕ) → ContentSoFar text place out at out (place + 1) 0
   content-start out at =
       let same = content-inner text place in
       record { fits = omega arith; ends = closed-string; left = rw same (omega arith); written = rw (same, add-zero at) }
 
 -- From place i on a string goes on, up to its closing quote: what the code has of the piece that stands at i, and the next one, which is further on.
-pub record Turned (text : List ℕ) (i next size a b d : ℕ) : Type 0 where
-  pub stands : Stands (pieceAt (drop i text)) i next size a b d
+pub record ContentTurned (text : List ℕ) (i next size a b d : ℕ) : Type 0 where
+  pub stands : PieceStands (pieceAt (drop i text)) i next size a b d
   pub further : i < next
   pub less : i + size ≤ next
   pub short : a ∷ take (size - 1) (b ∷ d ∷ []) ≡ pieceValue (pieceAt (drop i text))
@@ -223,7 +227,7 @@ module _ (text : List ℕ) (i : ℕ) (c : isClosed (quotedFrom 0 i (drop i text)
     quoted-ends : isClosed (quotedFrom 0 (i + length (pieceBefore here [])) (drop (i + length (pieceBefore here [])) text)) ≡ true
     quoted-ends = sym (piece-closed here _) ∙ ap isClosed (sym quoted-next) ∙ c
 
-    pub quoted-turn : (next size a b d : ℕ) → (i < length text → Told here i next size a b d) → Turned text i next size a b d
+    pub quoted-turn : (next size a b d : ℕ) → (i < length text → Told here i next size a b d) → ContentTurned text i next size a b d
     quoted-turn next size a b d told =
         let t = stands-told here i next size a b d good-piece (told quoted-inside) in
         let (e, s, x, y, z) = t in
@@ -239,19 +243,19 @@ module _ (text : List ℕ) (i : ℕ) (c : isClosed (quotedFrom 0 i (drop i text)
           more = rw (quoted-next, e) (piece-content here _ quoted-ends);
         }
 
-module _ (text : List ℕ) (place : ℕ) (start : List ℕ) (at : ℕ) (out : List ℕ) (i k : ℕ) (c : Content text place start at out i k) where
+module _ (text : List ℕ) (place : ℕ) (start : List ℕ) (at : ℕ) (out : List ℕ) (i k : ℕ) (c : ContentSoFar text place start at out i k) where
   abbrev value : List ℕ
   value = pieceValue (pieceAt (drop i text))
 
   -- With the piece that stands there written, the string is written up to the next one, which is further on.
   pub content-turn : (getD text i 0 ≡ 0x22 → ⊥) → (l : List ℕ) (next size a b d : ℕ) → (i < length text → Told (pieceAt (drop i text)) i next size a b d)
       → l ≡ sets out (at + k) (a ∷ take (size - 1) (b ∷ d ∷ []))
-      → (i < next) × (next < length text) × Content text place start at l next (k + size)
+      → (i < next) × (next < length text) × ContentSoFar text place start at l next (k + size)
   content-turn h l next size a b d told f =
       let t = quoted-turn text i (c .ends) h next size a b d told in
       let s : size ≡ length value = t .stands .1 in
       let all : l ≡ sets out (at + k) value = f ∙ rw (t .short) in
-      let step : Content text place start at l next (k + size) = record {
+      let step : ContentSoFar text place start at l next (k + size) = record {
         fits = omega (arith, c .fits, t .less);
         ends = t .ends;
         left = omega (arith, rw (t .more, length-append value) at (c .left));
@@ -261,7 +265,7 @@ module _ (text : List ℕ) (place : ℕ) (start : List ℕ) (at : ℕ) (out : Li
 
   -- With the run that stands there written, it is written up to the run's end.
   pub content-run : (l : List ℕ) (end : ℕ) → end ≡ i + plains text i → l ≡ sets out (at + k) (take (end - i) (drop i text))
-      → Content text place start at l end (k + (end - i))
+      → ContentSoFar text place start at l end (k + (end - i))
   content-run l end e f =
       let r : List ℕ = plainRun (drop i text) in
       let t = quoted-over text i (c .ends) end e in

@@ -1,11 +1,5 @@
-pub mod Codes
+-- Laws that several passes and other crates cite: white space, what is seen at a place, and the pieces and contents of strings.
 pub mod PieceAt
-pub mod StringWalk
-pub mod ScanWalk
 pub mod Blanks
 pub mod Looks
-pub mod Written
 pub mod Contents
-pub mod Characters
-pub mod Runs
-pub mod Unescaped

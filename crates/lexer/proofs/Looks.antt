@@ -12,7 +12,7 @@ use Rattle.syntax.specs.rules.Byte.{round, square, ByteClass, blank, return, qu
 use Rattle.syntax.specs.reference.Scan.{ordinaryRun}
 use Rattle.lexer.specs.Token.{codeOf, blanks, stringAt, leadClassAt, leadLength, Seen, seenEnd, seenBy, seenFirst, seen}
 use Rattle.lexer.proofs.Blanks.{blank-stop, blanks-fit, run-fits, run-part}
-use Rattle.lexer.proofs.Codes.{classBy, code-class}
+use Rattle.lexer.proofs.class.ClassNumbers.{classBy, code-class}
 
 -- What is seen has these fields.
 abbrev pub Fields : ℕ → ℕ → ℕ → ℕ → ℕ → Seen → Type 0

@@ -68,17 +68,17 @@ Told p place next size a b c =
     × (a ≡ getD (pieceBytes p) 0 0) × (b ≡ getD (pieceBytes p) 1 0) × (c ≡ getD (pieceBytes p) 2 0)
 
 -- The same of what is a piece.
-abbrev pub Stands : Piece → ℕ → ℕ → ℕ → ℕ → ℕ → ℕ → Type 0
-Stands p place next size a b c =
+abbrev pub PieceStands : Piece → ℕ → ℕ → ℕ → ℕ → ℕ → ℕ → Type 0
+PieceStands p place next size a b c =
     (next ≡ place + length (pieceBefore p [])) × (size ≡ length (pieceValue p))
     × (a ≡ getD (pieceValue p) 0 0) × (b ≡ getD (pieceValue p) 1 0) × (c ≡ getD (pieceValue p) 2 0)
 
 module _ (p : Piece) (place next size a b c : ℕ) where
-  pub told-stands : isPiece p ≡ true → Stands p place next size a b c → Told p place next size a b c
+  pub told-stands : isPiece p ≡ true → PieceStands p place next size a b c → Told p place next size a b c
   unfolding pieceLength pieceBytes
   told-stands e t = rw e t
 
-  pub stands-told : isPiece p ≡ true → Told p place next size a b c → Stands p place next size a b c
+  pub stands-told : isPiece p ≡ true → Told p place next size a b c → PieceStands p place next size a b c
   unfolding pieceLength pieceBytes
   stands-told e t = rw e at t
 

@@ -5,23 +5,52 @@ use mathlib.Core.Bool.{Bool, true, cond, _&&_, _||_}
 use mathlib.Core.List.{List, [], _∷_}
 use lib.Dec.{eqb}
 use lib.ListN.{length, getD, drop}
+use Rattle.base.specs.rules.Numbers as Number
 use Rattle.elements.specs.rules.Class as Class
 use Rattle.elements.specs.rules.Characters.{characterOf}
 use Rattle.syntax.specs.rules.Byte.{round, square, ByteClass, blank, return, quote, forbidden, ordinary, opening, closing, byteClass, isBlank}
 use Rattle.syntax.specs.rules.Syntax.{Piece, raw, piecesBefore, piecesValue}
 use Rattle.syntax.specs.reference.Scan.{Quoted, closed, unclosed, bad-escape, quotedFrom, escapeAt, ordinaryRun, Scanned, refused, scanned}
 
+-- The numbers of the classes of bytes, as the code has them (src/class.rt).
+abbrev pub blankClass : ℕ
+blankClass = 0
+
+abbrev pub returnClass : ℕ
+returnClass = 1
+
+abbrev pub quoteClass : ℕ
+quoteClass = 2
+
+abbrev pub forbiddenClass : ℕ
+forbiddenClass = 3
+
+abbrev pub ordinaryClass : ℕ
+ordinaryClass = 4
+
+abbrev pub roundClass : ℕ
+roundClass = 5
+
+abbrev pub squareClass : ℕ
+squareClass = 6
+
+abbrev pub roundEndClass : ℕ
+roundEndClass = 7
+
+abbrev pub squareEndClass : ℕ
+squareEndClass = 8
+
 -- A number for each class of bytes.
 unfoldable pub codeOf : ByteClass → ℕ
-codeOf blank = 0
-codeOf return = 1
-codeOf quote = 2
-codeOf forbidden = 3
-codeOf ordinary = 4
-codeOf (opening round) = 5
-codeOf (opening square) = 6
-codeOf (closing round) = 7
-codeOf (closing square) = 8
+codeOf blank = blankClass
+codeOf return = returnClass
+codeOf quote = quoteClass
+codeOf forbidden = forbiddenClass
+codeOf ordinary = ordinaryClass
+codeOf (opening round) = roundClass
+codeOf (opening square) = squareClass
+codeOf (closing round) = roundEndClass
+codeOf (closing square) = squareEndClass
 
 -- How many bytes of white space stand at the front. U+000D counts where U+000A follows, which counts itself.
 unfoldable pub blanks : List ℕ → ℕ
@@ -37,16 +66,16 @@ pub record StringEnd : Type 0 where
   pub length : ℕ
 
 unfoldable pub stringEnd : ℕ → Quoted → StringEnd
-stringEnd n (closed []) = record { number = 4; place = n; next = 0; length = 0 }
+stringEnd n (closed []) = record { number = Number.bad-string; place = n; next = 0; length = 0 }
 stringEnd n (closed (p ∷ ps)) =
     record {
-      number = 0;
+      number = Number.ok;
       place = 0;
       next = n + (length (piecesBefore (p ∷ ps) []) + 2);
       length = lib.ListN.length (piecesValue (p ∷ ps));
     }
-stringEnd n unclosed = record { number = 4; place = n; next = 0; length = 0 }
-stringEnd n (bad-escape p) = record { number = 4; place = p; next = 0; length = 0 }
+stringEnd n unclosed = record { number = Number.bad-string; place = n; next = 0; length = 0 }
+stringEnd n (bad-escape p) = record { number = Number.bad-string; place = p; next = 0; length = 0 }
 
 -- The bytes s begin with the quote at place n.
 unfoldable pub stringAt : ℕ → List ℕ → StringEnd
@@ -122,7 +151,7 @@ seen n s = seenFirst (n + blanks s) (drop (blanks s) s)
 -- The scan's answer in numbers: 0 at 0 where the text is concrete syntax.
 unfoldable pub scanNumber : Scanned → ℕ
 scanNumber (refused n p) = n
-scanNumber (scanned f) = 0
+scanNumber (scanned f) = Number.ok
 
 unfoldable pub scanPlace : Scanned → ℕ
 scanPlace (refused n p) = p

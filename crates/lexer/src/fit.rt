@@ -4,6 +4,7 @@ use super::class::byte_at;
 use super::class::byte_class;
 use super::pieces::piece;
 use super::string::string_at;
+use base::number;
 use kind::character;
 ghost use mathlib.Core.Path.{_≡_};
 ghost use lib.ListN.{drop};
@@ -47,7 +48,7 @@ fn string_fits(text: &[u8], place: usize, sort: u8) -> bool
         }
         if !character(sort, p.first) {
             let string = string_at(text, place);
-            return string.number != 0;
+            return string.number != number::OK;
         }
         i = next;
     }

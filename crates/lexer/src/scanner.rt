@@ -11,9 +11,13 @@ use super::class::byte_at;
 use super::class::byte_class;
 use super::string::string_at;
 use base::lesser;
+use base::limit::NESTED_LEVELS;
+use base::number;
 ghost use mathlib.Core.Path.{_≡_};
 ghost use Prim.Native.Nat.{_<_, min};
 ghost use lib.ListN.{length, drop};
+ghost use Rattle.base.specs.rules.Limits.{nestedLevels};
+ghost use Rattle.base.specs.rules.Numbers as Number;
 ghost use Rattle.syntax.specs.reference.Scan.{scan};
 ghost use Rattle.lexer.specs.Token.{scanNumber, scanPlace};
 ghost use Rattle.lexer.specs.internal.Step.{passedAt, closesIt};
@@ -33,10 +37,10 @@ struct Passed {
 
 // The scan goes on at a place.
 fn on(next: usize) -> Passed
-    ensures { λ r. ⌜ (r .number ≡ 0) × (r .place ≡ 0) × (r .next ≡ next) ⌝ }
+    ensures { λ r. ⌜ (r .number ≡ Number.ok) × (r .place ≡ 0) × (r .next ≡ next) ⌝ }
 {
     Passed {
-        number: 0,
+        number: number::OK,
         place: 0,
         next,
     }
@@ -44,10 +48,10 @@ fn on(next: usize) -> Passed
 
 // Number 3 at a place.
 fn bad_byte(place: usize) -> Passed
-    ensures { λ r. ⌜ (r .number ≡ 3) × (r .place ≡ place) × (r .next ≡ 0) ⌝ }
+    ensures { λ r. ⌜ (r .number ≡ Number.forbidden-character) × (r .place ≡ place) × (r .next ≡ 0) ⌝ }
 {
     Passed {
-        number: 3,
+        number: number::FORBIDDEN_CHARACTER,
         place,
         next: 0,
     }
@@ -101,12 +105,12 @@ fn answered(number: u32, place: usize) -> Scanned
 // One scan from left to right, with the open brackets on a stack: brackets nest at most as deep as
 // there is room, and never more than 64 deep.
 pub fn scan(text: &[u8], room: usize) -> Scanned
-    ensures { λ r. ⌜ (r .number ≡ scanNumber (scan (min room 64) (now (text .entry))))
-        × (r .place ≡ scanPlace (scan (min room 64) (now (text .entry)))) ⌝ }
+    ensures { λ r. ⌜ (r .number ≡ scanNumber (scan (min room nestedLevels) (now (text .entry))))
+        × (r .place ≡ scanPlace (scan (min room nestedLevels) (now (text .entry)))) ⌝ }
 {
-    let limit = lesser(room, 64);
-    let mut brackets = [0u8; 64];
-    let mut places = [0usize; 64];
+    let limit = lesser(room, NESTED_LEVELS);
+    let mut brackets = [0u8; NESTED_LEVELS];
+    let mut places = [0usize; NESTED_LEVELS];
     let mut depth: usize = 0;
     let mut i: usize = 0;
     while i < text.len() {
@@ -122,7 +126,7 @@ pub fn scan(text: &[u8], room: usize) -> Scanned
         }
         if class < ROUND {
             let passed = pass(text, i, class);
-            if passed.number != 0 {
+            if passed.number != number::OK {
                 return answered(passed.number, passed.place);
             }
             i = passed.next;
@@ -130,7 +134,7 @@ pub fn scan(text: &[u8], room: usize) -> Scanned
         }
         if class < ROUND_END {
             if limit <= depth {
-                return answered(6, i);
+                return answered(number::TOO_DEEP, i);
             }
             brackets[depth] = class;
             places[depth] = i;
@@ -139,16 +143,16 @@ pub fn scan(text: &[u8], room: usize) -> Scanned
             continue;
         }
         if depth == 0 {
-            return answered(5, i);
+            return answered(number::UNPAIRED_BRACKET, i);
         }
         if !closes(brackets[depth - 1], class) {
-            return answered(5, i);
+            return answered(number::UNPAIRED_BRACKET, i);
         }
         depth -= 1;
         i += 1;
     }
     if depth == 0 {
-        return answered(0, 0);
+        return answered(number::OK, 0);
     }
-    answered(5, places[depth - 1])
+    answered(number::UNPAIRED_BRACKET, places[depth - 1])
 }

@@ -6,6 +6,7 @@ use super::run::plain_end;
 use super::run::put_run;
 use super::string::string_at;
 use super::token::symbol_end;
+use base::number;
 ghost use mathlib.Core.Path.{_≡_};
 ghost use mathlib.Core.List.{[], _∷_};
 ghost use Prim.Native.Nat.{_+_, _-_, _<_, _^_};
@@ -84,7 +85,7 @@ fn put_string(text: &[u8], place: usize, out: &mut [u8], at: usize) -> usize
         × (now (out .exit) ≡ sets (now (out .entry)) at (contentOf (quotedFrom 0 1 (drop 1 (drop place (now (text .entry))))))) ⌝ }
 {
     let string = string_at(text, place);
-    if string.number != 0 {
+    if string.number != number::OK {
         return 0;
     }
     let from = place + 1;

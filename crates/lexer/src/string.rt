@@ -2,6 +2,7 @@
 use super::class::byte_at;
 use super::pieces::piece;
 use super::run::plain_end;
+use base::number;
 ghost use mathlib.Core.Path.{_≡_};
 ghost use lib.ListN.{drop};
 ghost use Rattle.lexer.specs.Token.{stringAt};
@@ -22,7 +23,7 @@ fn bad_string(place: usize) -> StringEnd
         × (r .next ≡ badString place .next) × (r .length ≡ badString place .length) ⌝ }
 {
     StringEnd {
-        number: 4,
+        number: number::BAD_STRING,
         place,
         next: 0,
         length: 0,
@@ -47,7 +48,7 @@ fn stopped(text: &[u8], i: usize, start: usize, length: usize) -> StringEnd
         return bad_string(start);
     }
     StringEnd {
-        number: 0,
+        number: number::OK,
         place: 0,
         next: i + 1,
         length,

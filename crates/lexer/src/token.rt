@@ -17,7 +17,7 @@ pub const A_STRING: u8 = 2;
 
 pub const A_LIST: u8 = 3;
 
-// What is seen at a place after white space.
+// What is seen at a place after white space: the end of the run, a symbol, a string or a list.
 pub struct Seen {
     pub sort: u8,
     pub place: usize,

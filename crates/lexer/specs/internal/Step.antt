@@ -4,9 +4,10 @@ use mathlib.Core.Bool.{Bool, cond}
 use mathlib.Core.List.{List, [], _∷_}
 use lib.Dec.{eqb}
 use lib.ListN.{length, getD}
+use Rattle.base.specs.rules.Numbers as Number
 use Rattle.syntax.specs.rules.Byte.{Bracket, round, square}
 use Rattle.syntax.specs.rules.Syntax.{Piece, isPiece, pieceBefore, pieceValue}
-use Rattle.lexer.specs.Token.{StringEnd, stringAt}
+use Rattle.lexer.specs.Token.{returnClass, quoteClass, forbiddenClass, roundClass, roundEndClass, squareEndClass, StringEnd, stringAt}
 
 -- How many bytes a piece takes, and those that it stands for; nothing for what is no piece.
 unfoldable pub pieceLength : Piece → ℕ
@@ -16,13 +17,13 @@ unfoldable pub pieceBytes : Piece → List ℕ
 pieceBytes p = cond (isPiece p) (pieceValue p) []
 
 unfoldable pub badString : ℕ → StringEnd
-badString n = record { number = 4; place = n; next = 0; length = 0 }
+badString n = record { number = Number.bad-string; place = n; next = 0; length = 0 }
 
 -- The string whose quote is at n has pieces that stand for d bytes, up to place i, where no piece stands.
 unfoldable pub stoppedAt : ℕ → ℕ → ℕ → List ℕ → StringEnd
 stoppedAt n i d [] = badString n
 stoppedAt n i d (b ∷ s) =
-    cond (eqb b 0x22) (cond (eqb d 0) (badString n) (record { number = 0; place = 0; next = i + 1; length = d })) (badString i)
+    cond (eqb b 0x22) (cond (eqb d 0) (badString n) (record { number = Number.ok; place = 0; next = i + 1; length = d })) (badString i)
 
 -- What the scan does at a byte that is no bracket: number 0 and the place where it goes on; or the fault and its place.
 pub record Passed : Type 0 where
@@ -31,10 +32,10 @@ pub record Passed : Type 0 where
   pub next : ℕ
 
 unfoldable pub goesOn : ℕ → Passed
-goesOn n = record { number = 0; place = 0; next = n + 1 }
+goesOn n = record { number = Number.ok; place = 0; next = n + 1 }
 
 unfoldable pub stops : ℕ → Passed
-stops n = record { number = 3; place = n; next = 0 }
+stops n = record { number = Number.forbidden-character; place = n; next = 0 }
 
 unfoldable pub pastString : StringEnd → Passed
 pastString e = record { number = e .number; place = e .place; next = e .next }
@@ -42,12 +43,12 @@ pastString e = record { number = e .number; place = e .place; next = e .next }
 -- By the class of the byte at place n, with which the bytes s begin. A symbol is gone through byte by byte, and so is the end of a line.
 unfoldable pub passedAt : ℕ → ℕ → List ℕ → Passed
 passedAt class n s =
-    cond (eqb class 1) (cond (eqb (getD s 1 0) 0x0A) (goesOn n) (stops n))
-    (cond (eqb class 2) (pastString (stringAt n s)) (cond (eqb class 3) (stops n) (goesOn n)))
+    cond (eqb class returnClass) (cond (eqb (getD s 1 0) 0x0A) (goesOn n) (stops n))
+    (cond (eqb class quoteClass) (pastString (stringAt n s)) (cond (eqb class forbiddenClass) (stops n) (goesOn n)))
 
 -- The bracket of an opening byte's class, and whether a closing byte of a class is its partner.
 unfoldable pub bracketOf : ℕ → Bracket
-bracketOf class = cond (eqb class 5) round square
+bracketOf class = cond (eqb class roundClass) round square
 
 unfoldable pub closesIt : ℕ → ℕ → Bool
-closesIt opened class = cond (eqb opened 5) (eqb class 7) (eqb class 8)
+closesIt opened class = cond (eqb opened roundClass) (eqb class roundEndClass) (eqb class squareEndClass)

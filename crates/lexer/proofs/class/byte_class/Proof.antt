@@ -4,7 +4,7 @@ use mathlib.Core.Logic.{⊎-elim}
 use native.Mathlib.Omega.{arith}
 use Rattle.syntax.specs.rules.Byte.{byteClass}
 use Rattle.lexer.specs.Token.{codeOf}
-use Rattle.lexer.proofs.Codes.{ordinary-byte, forbidden-byte, blank-byte}
+use Rattle.lexer.proofs.class.ClassNumbers.{ordinary-byte, forbidden-byte, blank-byte}
 use Rattle.lexer.proofs.class.byte_class.Statement.{statement}
 use Rattle.lexer.proofs.class.byte_class.Tie as tie
 

@@ -26,8 +26,12 @@ returns-4 c = (rw (no-digit _ (sym (c .before .before .hex-digit2 .ensures .0) �
 
 returns-5 : tie.Need-returns-5
 returns-5 c =
-    let (x, y) = a-digit (getD (c .before .before .before .before .before .before .before .before .before .args .text .now) (c .before .before .before .before .before .before .before .before .before .args .place) 0) (λ e. c .before .if3 .left (c .before .before .before .before .before .hex-digit .ensures .0 ∙ e)) in
-    let (z, w) = a-digit (getD (c .before .before .before .before .before .before .before .before .before .args .text .now) (c .before .before .before .before .before .before .before .before .before .args .place + 1) 0) (λ e. c .if4 .left (c .before .before .hex-digit2 .ensures .0 ∙ e)) in
+    let (x, y) = a-digit (getD (c .before .before .before .before .before .before .before .before .before .args .text .now)
+    (c .before .before .before .before .before .before .before .before .before .args .place) 0)
+    (λ e. c .before .if3 .left (c .before .before .before .before .before .hex-digit .ensures .0 ∙ e)) in
+    let (z, w) = a-digit (getD (c .before .before .before .before .before .before .before .before .before .args .text .now)
+    (c .before .before .before .before .before .before .before .before .before .args .place + 1) 0)
+    (λ e. c .if4 .left (c .before .before .hex-digit2 .ensures .0 ∙ e)) in
     (rw (x, z) (omega (arith, c .before .before .before .before .before .hex-digit .ensures .0 ∙ y, c .before .before .hex-digit2 .ensures .0 ∙ w)), omega arith)
 
 pub hex-pair-spec : {M : Type 1} → statement M

@@ -24,7 +24,8 @@ returns-2 c =
 returns-3 : tie.Need-returns-3
 returns-3 c =
     let s : List ℕ = drop (c .before .before .before .before .before .before .args .place) (c .before .before .before .before .before .before .args .text .now) in
-    let e = sym (c .before .hex-pair2 .ensures .0 ∙ pair-at (c .before .before .before .before .before .before .args .text .now) (c .before .before .before .before .before .before .args .place) 4) ∙ c .if3 .taken in
+    let e = sym (c .before .hex-pair2 .ensures .0 ∙ pair-at (c .before .before .before .before .before .before .args .text .now)
+    (c .before .before .before .before .before .before .args .place) 4) ∙ c .if3 .taken in
     (sym (low-bad (getD s 2 0) (getD s 3 0) (getD s 4 0) (getD s 5 0) e), refl, omega arith)
 
 -- What two good pairs tell.
@@ -38,17 +39,23 @@ two-pairs text place high low e f h k =
 
 returns-4 : tie.Need-returns-4
 returns-4 c =
-    let (x, y) = two-pairs (c .before .before .before .before .before .before .before .args .text .now) (c .before .before .before .before .before .before .before .args .place) _ _ (c .before .before .before .before .hex-pair .ensures .0) (c .before .before .hex-pair2 .ensures .0) (c .before .before .before .if2 .left) (c .before .if3 .left) in
+    let (x, y) = two-pairs (c .before .before .before .before .before .before .before .args .text .now)
+    (c .before .before .before .before .before .before .before .args .place) _ _ (c .before .before .before .before .hex-pair .ensures .0)
+    (c .before .before .hex-pair2 .ensures .0) (c .before .before .before .if2 .left) (c .before .if3 .left) in
     (sym (y ∙ below-surrogates _ (c .if4 .taken)), x, omega arith)
 
 returns-5 : tie.Need-returns-5
 returns-5 c =
-    let (x, y) = two-pairs (c .before .before .before .before .before .before .before .before .args .text .now) (c .before .before .before .before .before .before .before .before .args .place) _ _ (c .before .before .before .before .before .hex-pair .ensures .0) (c .before .before .before .hex-pair2 .ensures .0) (c .before .before .before .before .if2 .left) (c .before .before .if3 .left) in
+    let (x, y) = two-pairs (c .before .before .before .before .before .before .before .before .args .text .now)
+    (c .before .before .before .before .before .before .before .before .args .place) _ _ (c .before .before .before .before .before .hex-pair .ensures .0)
+    (c .before .before .before .hex-pair2 .ensures .0) (c .before .before .before .before .if2 .left) (c .before .before .if3 .left) in
     (sym (y ∙ surrogate _ (c .before .if4 .left) (c .if5 .taken)), refl, omega arith)
 
 returns-6 : tie.Need-returns-6
 returns-6 c =
-    let (x, y) = two-pairs (c .before .before .before .before .before .before .before .before .args .text .now) (c .before .before .before .before .before .before .before .before .args .place) _ _ (c .before .before .before .before .before .hex-pair .ensures .0) (c .before .before .before .hex-pair2 .ensures .0) (c .before .before .before .before .if2 .left) (c .before .before .if3 .left) in
+    let (x, y) = two-pairs (c .before .before .before .before .before .before .before .before .args .text .now)
+    (c .before .before .before .before .before .before .before .before .args .place) _ _ (c .before .before .before .before .before .hex-pair .ensures .0)
+    (c .before .before .before .hex-pair2 .ensures .0) (c .before .before .before .before .if2 .left) (c .before .before .if3 .left) in
     let bound : c .before .before .before .before .before .hex-pair .result * 256 + c .before .before .before .hex-pair2 .result ≤ 65535 = omega arith in
     (sym (y ∙ above-surrogates _ (c .if5 .left) bound), x, bound)
 

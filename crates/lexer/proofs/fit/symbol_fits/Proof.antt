@@ -6,7 +6,7 @@ use borrow.Author.Tests.{not-true, not-false}
 use lib.ListN.{length, drop, drop-of-length-le}
 use Rattle.syntax.specs.reference.Scan.{ordinaryRun}
 use Rattle.lexer.specs.Token.{fits}
-use Rattle.lexer.proofs.Characters.{symbol-done, symbol-turn, symbol-refused}
+use Rattle.lexer.proofs.fit.CharactersFit.{symbol-done, symbol-turn, symbol-refused}
 use Rattle.lexer.proofs.fit.symbol_fits.Statement.{statement}
 use Rattle.lexer.proofs.fit.symbol_fits.Tie as tie
 
@@ -21,14 +21,19 @@ loop-holds c = refl
 
 returns : tie.Need-returns Inv-loop μ-loop
 returns c =
-    symbol-refused _ _ (c .before .before .before .before .before .loop .i) _ (c .before .before .before .before .loop-test .taken) (c .before .before .byte-class .ensures) (sym (c .before .character .ensures) ∙ not-true _ (c .if1 .taken)) ∙ c .before .before .before .before .before .loop .inv
+    symbol-refused _ _ (c .before .before .before .before .before .loop .i) _ (c .before .before .before .before .loop-test .taken)
+    (c .before .before .byte-class .ensures) (sym (c .before .character .ensures) ∙ not-true _ (c .if1 .taken))
+    ∙ c .before .before .before .before .before .loop .inv
 
 returns-2 : tie.Need-returns-2 Inv-loop μ-loop
-returns-2 c = sym (symbol-done _ _ (c .before .before .before .before .before .before .loop .i) _ (c .before .before .before .before .before .loop-test .taken) (c .before .before .before .byte-class .ensures) (c .if2 .taken)) ∙ c .before .before .before .before .before .before .loop .inv
+returns-2 c =
+    sym (symbol-done _ _ (c .before .before .before .before .before .before .loop .i) _ (c .before .before .before .before .before .loop-test .taken)
+    (c .before .before .before .byte-class .ensures) (c .if2 .taken)) ∙ c .before .before .before .before .before .before .loop .inv
 
 loop-again : tie.Need-loop-again Inv-loop μ-loop
 loop-again c =
-    symbol-turn _ _ (c .before .before .before .before .before .before .loop .i) _ (c .before .before .before .before .before .loop-test .taken) (c .before .before .before .byte-class .ensures) (c .if2 .left) (sym (c .before .before .character .ensures) ∙ not-false _ (c .before .if1 .left))
+    symbol-turn _ _ (c .before .before .before .before .before .before .loop .i) _ (c .before .before .before .before .before .loop-test .taken)
+    (c .before .before .before .byte-class .ensures) (c .if2 .left) (sym (c .before .before .character .ensures) ∙ not-false _ (c .before .if1 .left))
     ∙ c .before .before .before .before .before .before .loop .inv
 
 returns-3 : tie.Need-returns-3 Inv-loop μ-loop

@@ -27,27 +27,36 @@ returns-2 c =
     let place : ℕ = c .before .before .before .before .before .before .args .place in
     let s : List ℕ = drop (place + 1) text in
     let (good, value, bound) = rw (later text place 1, later text place 2, later text place 3, later text place 4) at (c .before .before .number-at .ensures) in
-    rw (by-number s (first-of text (place + 1) ∙ sym (c .before .before .before .before .byte-at .ensures) ∙ c .before .before .before .match .keys1)) (told-none (numberIn s) place _ _ _ _ _ (sym good ∙ c .before .if1 .left) (c .none .ensures))
+    rw (by-number s (first-of text (place + 1) ∙ sym (c .before .before .before .before .byte-at .ensures) ∙ c .before .before .before .match .keys1))
+    (told-none (numberIn s) place _ _ _ _ _ (sym good ∙ c .before .if1 .left) (c .none .ensures))
 
 returns-3 : tie.Need-returns-3
 unfolding isPiece letterValue
 returns-3 c =
-    told-letter _ _ _ _ _ _ _ 0x72 0x0D (first-of (c .before .before .before .before .args .text .now) (c .before .before .before .before .args .place + 1) ∙ sym (c .before .before .byte-at .ensures) ∙ c .before .match .keys2) (λ k. omega arith) refl refl (c .one .ensures)
+    told-letter _ _ _ _ _ _ _ 0x72 0x0D
+    (first-of (c .before .before .before .before .args .text .now) (c .before .before .before .before .args .place + 1) ∙ sym
+    (c .before .before .byte-at .ensures) ∙ c .before .match .keys2) (λ k. omega arith) refl refl (c .one .ensures)
 
 returns-4 : tie.Need-returns-4
 unfolding isPiece letterValue
 returns-4 c =
-    told-letter _ _ _ _ _ _ _ 0x6E 0x0A (first-of (c .before .before .before .before .args .text .now) (c .before .before .before .before .args .place + 1) ∙ sym (c .before .before .byte-at .ensures) ∙ c .before .match .keys3) (λ k. omega arith) refl refl (c .one2 .ensures)
+    told-letter _ _ _ _ _ _ _ 0x6E 0x0A
+    (first-of (c .before .before .before .before .args .text .now) (c .before .before .before .before .args .place + 1) ∙ sym
+    (c .before .before .byte-at .ensures) ∙ c .before .match .keys3) (λ k. omega arith) refl refl (c .one2 .ensures)
 
 returns-5 : tie.Need-returns-5
 unfolding isPiece letterValue
 returns-5 c =
-    told-letter _ _ _ _ _ _ _ 0x74 0x09 (first-of (c .before .before .before .before .args .text .now) (c .before .before .before .before .args .place + 1) ∙ sym (c .before .before .byte-at .ensures) ∙ c .before .match .keys4) (λ k. omega arith) refl refl (c .one3 .ensures)
+    told-letter _ _ _ _ _ _ _ 0x74 0x09
+    (first-of (c .before .before .before .before .args .text .now) (c .before .before .before .before .args .place + 1) ∙ sym
+    (c .before .before .byte-at .ensures) ∙ c .before .match .keys4) (λ k. omega arith) refl refl (c .one3 .ensures)
 
 returns-6 : tie.Need-returns-6
 unfolding isPiece letterValue
 returns-6 c =
-    told-letter _ _ _ _ _ _ _ 0x22 0x22 (first-of (c .before .before .before .before .args .text .now) (c .before .before .before .before .args .place + 1) ∙ sym (c .before .before .byte-at .ensures) ∙ c .before .match .keys5) (λ k. omega arith) refl refl (c .one4 .ensures)
+    told-letter _ _ _ _ _ _ _ 0x22 0x22
+    (first-of (c .before .before .before .before .args .text .now) (c .before .before .before .before .args .place + 1) ∙ sym
+    (c .before .before .byte-at .ensures) ∙ c .before .match .keys5) (λ k. omega arith) refl refl (c .one4 .ensures)
 
 returns-7 : tie.Need-returns-7
 unfolding isPiece

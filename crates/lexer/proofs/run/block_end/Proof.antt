@@ -1,7 +1,7 @@
 -- `run::block_end` meets its contract.
 use mathlib.Core.Path.{sym, _∙_}
 use borrow.Author.Needs.{needs}
-use Rattle.lexer.proofs.Runs.{plain-passed}
+use Rattle.lexer.proofs.run.PlainRuns.{plain-passed}
 use Rattle.lexer.proofs.run.block_end.Statement.{statement}
 use Rattle.lexer.proofs.run.block_end.Tie as tie
 

@@ -4,7 +4,7 @@ use Prim.Native.Nat.{_+_, _-_, _≤_}
 use borrow.Author.Needs.{needs}
 use lib.ListN.{length}
 use borrow.Author.Tests.{not-false}
-use Rattle.lexer.proofs.Runs.{plains, plain-passed}
+use Rattle.lexer.proofs.run.PlainRuns.{plains, plain-passed}
 use Rattle.lexer.proofs.run.blocks_end.Statement.{statement}
 use Rattle.lexer.proofs.run.blocks_end.Tie as tie
 
@@ -18,7 +18,11 @@ loop-holds : tie.Need-loop-holds Inv-loop μ-loop
 loop-holds c = (search needs, refl)
 
 loop-again : tie.Need-loop-again Inv-loop μ-loop
-loop-again c = (search needs, plain-passed (c .before .before .before .before .before .before .args .text .now) (c .before .before .before .loop .i) 16 (sym (c .before .plain-16 .ensures) ∙ not-false _ (c .if2 .left)) ∙ c .before .before .before .loop .inv .1)
+loop-again c = (
+  search needs,
+  plain-passed (c .before .before .before .before .before .before .args .text .now) (c .before .before .before .loop .i) 16
+      (sym (c .before .plain-16 .ensures) ∙ not-false _ (c .if2 .left)) ∙ c .before .before .before .loop .inv .1,
+)
 
 pub blocks-end-spec : {M : Type 1} → statement M
 blocks-end-spec =

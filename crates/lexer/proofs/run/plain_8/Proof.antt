@@ -1,11 +1,21 @@
 -- `run::plain_8` meets its contract.
 use borrow.Author.Needs.{needs}
-use Rattle.lexer.proofs.Runs.{plain-eight}
+use Rattle.lexer.proofs.run.PlainRuns.{plain-eight}
 use Rattle.lexer.proofs.run.plain_8.Statement.{statement}
 use Rattle.lexer.proofs.run.plain_8.Tie as tie
 
 returns : tie.Need-returns
-returns c = rw (c .before .before .before .before .before .before .before .before .before .before .before .before .before .before .plain .ensures, c .before .before .before .before .before .before .before .before .before .before .before .before .plain2 .ensures, c .before .before .before .before .before .before .before .before .before .before .plain3 .ensures, c .before .before .before .before .before .before .before .before .plain4 .ensures, c .before .before .before .before .before .before .plain5 .ensures, c .before .before .before .before .plain6 .ensures, c .before .before .plain7 .ensures, c .plain8 .ensures) (plain-eight (c .before .before .before .before .before .before .before .before .before .before .before .before .before .before .before .before .before .args .text .now) (c .before .before .before .before .before .before .before .before .before .before .before .before .before .before .before .before .before .args .i) (c .before .before .before .before .before .before .before .before .before .before .before .before .before .before .before .before .before .pre))
+returns c =
+    let start = c .before .before .before .before .before .before .before .before .before .before .before .before .before .before .before .before .before in
+    let e1 = c .before .before .before .before .before .before .before .before .before .before .before .before .before .before .plain .ensures in
+    let e2 = c .before .before .before .before .before .before .before .before .before .before .before .before .plain2 .ensures in
+    let e3 = c .before .before .before .before .before .before .before .before .before .before .plain3 .ensures in
+    let e4 = c .before .before .before .before .before .before .before .before .plain4 .ensures in
+    let e5 = c .before .before .before .before .before .before .plain5 .ensures in
+    let e6 = c .before .before .before .before .plain6 .ensures in
+    let e7 = c .before .before .plain7 .ensures in
+    let e8 = c .plain8 .ensures in
+    rw (e1, e2, e3, e4, e5, e6, e7, e8) (plain-eight (start .args .text .now) (start .args .i) (start .pre))
 
 pub plain-8-spec : {M : Type 1} → statement M
 plain-8-spec =

@@ -5,7 +5,7 @@ use native.Mathlib.Omega.{arith}
 use borrow.Author.Needs.{needs}
 use lib.ListN.{length}
 use borrow.Author.Tests.{not-true, not-false}
-use Rattle.lexer.proofs.Runs.{plains, plain-passed, plain-past, plain-one, plain-stop}
+use Rattle.lexer.proofs.run.PlainRuns.{plains, plain-passed, plain-past, plain-one, plain-stop}
 use Rattle.lexer.proofs.run.plain_end.Statement.{statement}
 use Rattle.lexer.proofs.run.plain_end.Tie as tie
 
@@ -19,10 +19,20 @@ loop-holds : tie.Need-loop-holds Inv-loop μ-loop
 loop-holds c = c .block-end .ensures ∙ c .before .blocks-end .ensures
 
 returns : tie.Need-returns Inv-loop μ-loop
-returns c = omega (arith, plain-stop (c .before .before .before .before .before .before .before .before .args .text .now) (c .before .before .before .before .loop .i) (c .before .before .before .loop-test .taken) (sym (c .before .plain .ensures) ∙ not-true _ (c .if1 .taken)), c .before .before .before .before .loop .inv)
+returns c =
+    omega (
+      arith,
+      plain-stop (c .before .before .before .before .before .before .before .before .args .text .now) (c .before .before .before .before .loop .i)
+          (c .before .before .before .loop-test .taken) (sym (c .before .plain .ensures) ∙ not-true _ (c .if1 .taken)),
+      c .before .before .before .before .loop .inv,
+    )
 
 loop-again : tie.Need-loop-again Inv-loop μ-loop
-loop-again c = plain-passed (c .before .before .before .before .before .before .before .before .args .text .now) (c .before .before .before .before .loop .i) 1 (sym (plain-one (c .before .before .before .before .before .before .before .before .args .text .now) (c .before .before .before .before .loop .i) (c .before .before .before .loop-test .taken)) ∙ sym (c .before .plain .ensures) ∙ not-false _ (c .if1 .left)) ∙ c .before .before .before .before .loop .inv
+loop-again c =
+    plain-passed (c .before .before .before .before .before .before .before .before .args .text .now) (c .before .before .before .before .loop .i) 1
+    (sym (plain-one (c .before .before .before .before .before .before .before .before .args .text .now) (c .before .before .before .before .loop .i)
+    (c .before .before .before .loop-test .taken)) ∙ sym (c .before .plain .ensures) ∙ not-false _ (c .if1 .left))
+    ∙ c .before .before .before .before .loop .inv
 
 returns-2 : tie.Need-returns-2 Inv-loop μ-loop
 returns-2 c = omega (arith, plain-past (c .before .before .before .before .before .args .text .now) (c .before .loop .i) (c .loop-test .left), c .before .loop .inv)

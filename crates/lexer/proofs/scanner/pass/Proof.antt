@@ -10,11 +10,25 @@ use Rattle.lexer.proofs.scanner.pass.Tie as tie
 
 returns : tie.Need-returns
 unfolding passedAt goesOn
-returns c = rw (eq-eqb _ _ (c .before .before .before .if1 .taken), getD-drop {A = ℕ} (c .before .before .before .before .before .args .place) (c .before .before .before .before .before .args .text .now) 1 0, eq-eqb _ _ (sym (c .before .before .byte-at .ensures) ∙ c .before .if2 .taken)) (c .on .ensures)
+returns c =
+    rw (
+      eq-eqb _ _ (c .before .before .before .if1 .taken),
+      getD-drop {A = ℕ} (c .before .before .before .before .before .args .place)
+          (c .before .before .before .before .before .args .text .now) 1 0,
+      eq-eqb _ _ (sym (c .before .before .byte-at .ensures) ∙ c .before .if2 .taken),
+    )
+    (c .on .ensures)
 
 returns-2 : tie.Need-returns-2
 unfolding passedAt stops
-returns-2 c = rw (eq-eqb _ _ (c .before .before .before .if1 .taken), getD-drop {A = ℕ} (c .before .before .before .before .before .args .place) (c .before .before .before .before .before .args .text .now) 1 0, ne-eqb _ _ (λ e. c .before .if2 .left (c .before .before .byte-at .ensures ∙ e))) (c .bad-byte .ensures)
+returns-2 c =
+    rw (
+      eq-eqb _ _ (c .before .before .before .if1 .taken),
+      getD-drop {A = ℕ} (c .before .before .before .before .before .args .place)
+          (c .before .before .before .before .before .args .text .now) 1 0,
+      ne-eqb _ _ (λ e. c .before .if2 .left (c .before .before .byte-at .ensures ∙ e)),
+    )
+    (c .bad-byte .ensures)
 
 returns-3 : tie.Need-returns-3
 unfolding passedAt pastString

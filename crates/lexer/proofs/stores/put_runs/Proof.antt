@@ -4,12 +4,12 @@ use Prim.Native.Nat.{_-_, _+_, _<_}
 use native.Mathlib.Omega.{arith}
 use borrow.Author.Needs.{needs}
 use lib.ListN.{length}
-use Rattle.lexer.proofs.Contents.{Content, string-inside, content-start, content-run, quoted-over, quoted-inside, content-turn, content-done}
+use Rattle.lexer.proofs.Contents.{ContentSoFar, string-inside, content-start, content-run, quoted-over, quoted-inside, content-turn, content-done}
 use Rattle.lexer.proofs.stores.put_runs.Statement.{statement}
 use Rattle.lexer.proofs.stores.put_runs.Tie as tie
 
 abbrev Inv-loop : tie.InvT-loop
-Inv-loop text place out₀ at i₀ k₀ out i k = (length out ≡ length out₀) × Content text place out₀ at out i k
+Inv-loop text place out₀ at i₀ k₀ out i k = (length out ≡ length out₀) × ContentSoFar text place out₀ at out i k
 
 abbrev μ-loop : tie.MeasureT-loop
 μ-loop text place out₀ at i₀ k₀ out i k = length text - i
@@ -18,11 +18,16 @@ add-i : tie.Need-add-i Inv-loop μ-loop
 add-i c = omega (arith, string-inside (c .before .before .args .text .now) (c .before .before .args .place) _ refl (c .before .before .pre))
 
 loop-holds : tie.Need-loop-holds Inv-loop μ-loop
-loop-holds c = (refl, content-start (c .before .before .args .text .now) (c .before .before .args .place) _ refl (c .before .before .pre) (c .before .before .args .out .now) (c .before .before .args .at))
+loop-holds c = (
+  refl,
+  content-start (c .before .before .args .text .now) (c .before .before .args .place) _ refl (c .before .before .pre)
+      (c .before .before .args .out .now) (c .before .before .args .at),
+)
 
 part-put-run-end : tie.Need-part-put-run-end Inv-loop μ-loop
 part-put-run-end c =
-    let over = quoted-over (c .before .before .before .before .before .args .text .now) (c .before .before .loop .i) (c .before .before .loop .inv .1 .ends) (c .before .plain-end .result) (c .before .plain-end .ensures) in
+    let over = quoted-over (c .before .before .before .before .before .args .text .now) (c .before .before .loop .i) (c .before .before .loop .inv .1 .ends)
+    (c .before .plain-end .result) (c .before .plain-end .ensures) in
     omega (arith, quoted-inside (c .before .before .before .before .before .args .text .now) (c .before .plain-end .result) (over .0))
 
 -- With the run written.
@@ -30,7 +35,7 @@ after-run : (c : tie.After-slice-known2 Inv-loop μ-loop)
     → let args = c .before .before .before .before .before .before .before .before .before .args in
     let loop = c .before .before .before .before .before .before .loop in
     let end = c .before .before .before .before .before .plain-end .result in
-    Content (args .text .now) (args .place) (args .out .now) (args .at) (c .before .before .put-run .last .0) end (loop .k + (end - loop .i))
+    ContentSoFar (args .text .now) (args .place) (args .out .now) (args .at) (c .before .before .put-run .last .0) end (loop .k + (end - loop .i))
 after-run c =
     let args = c .before .before .before .before .before .before .before .before .before .args in
     let loop = c .before .before .before .before .before .before .loop in
@@ -41,10 +46,22 @@ add-k : tie.Need-add-k Inv-loop μ-loop
 add-k c = omega (arith, after-run c .fits)
 
 returns : tie.Need-returns Inv-loop μ-loop
-returns c = content-done (c .before .before .before .before .before .before .before .before .before .before .before .args .text .now) (c .before .before .before .before .before .before .before .before .before .before .before .args .place) (c .before .before .before .before .before .before .before .before .before .before .before .args .out .now) (c .before .before .before .before .before .before .before .before .before .before .before .args .at) _ _ _ (after-run (c .before .before)) (sym (c .before .byte-at .ensures) ∙ c .if1 .taken)
+returns c =
+    content-done (c .before .before .before .before .before .before .before .before .before .before .before .args .text .now)
+    (c .before .before .before .before .before .before .before .before .before .before .before .args .place)
+    (c .before .before .before .before .before .before .before .before .before .before .before .args .out .now)
+    (c .before .before .before .before .before .before .before .before .before .before .before .args .at) _ _ _ (after-run (c .before .before))
+    (sym (c .before .byte-at .ensures) ∙ c .if1 .taken)
 
 put-piece-requires : tie.Need-put-piece-requires Inv-loop μ-loop
-put-piece-requires c κs = omega (arith, after-run (c .before .before .before .before) .fits, quoted-inside (c .before .before .before .before .before .before .before .before .before .before .before .before .before .args .text .now) (c .before .before .before .before .before .before .before .before .before .plain-end .result) (after-run (c .before .before .before .before) .ends))
+put-piece-requires c κs =
+    omega (
+      arith,
+      after-run (c .before .before .before .before) .fits,
+      quoted-inside
+          (c .before .before .before .before .before .before .before .before .before .before .before .before .before .args .text .now)
+          (c .before .before .before .before .before .before .before .before .before .plain-end .result) (after-run (c .before .before .before .before) .ends),
+    )
 
 -- With the piece after it written.
 turn : (c : tie.After-struct-known Inv-loop μ-loop)
@@ -53,7 +70,7 @@ turn : (c : tie.After-struct-known Inv-loop μ-loop)
     let end = c .before .before .before .before .before .before .before .before .before .before .before .before .before .plain-end .result in
     let p = c .before .before .before .before .before .piece .result in
     (loop .i < p .next) × (p .next < length (args .text .now))
-    × Content (args .text .now) (args .place) (args .out .now) (args .at) (c .before .before .before .put-piece .last .0) (p .next) (loop .k + (end - loop .i) + p .size)
+    × ContentSoFar (args .text .now) (args .place) (args .out .now) (args .at) (c .before .before .before .put-piece .last .0) (p .next) (loop .k + (end - loop .i) + p .size)
 turn c =
     let args = c .before .before .before .before .before .before .before .before .before .before .before .before .before .before .before .before .before .args in
     let loop = c .before .before .before .before .before .before .before .before .before .before .before .before .before .before .loop in
@@ -72,7 +89,11 @@ loop-less : tie.Need-loop-less Inv-loop μ-loop
 loop-less c = omega (arith, turn c .0, turn c .1)
 
 loop-again : tie.Need-loop-again Inv-loop μ-loop
-loop-again c = (c .before .before .before .put-piece .kept .0 ∙ c .before .before .before .before .before .before .before .before .before .before .put-run .kept .0 ∙ c .before .before .before .before .before .before .before .before .before .before .before .before .before .before .loop .inv .0, turn c .2)
+loop-again c = (
+  c .before .before .before .put-piece .kept .0 ∙ c .before .before .before .before .before .before .before .before .before .before .put-run .kept .0
+      ∙ c .before .before .before .before .before .before .before .before .before .before .before .before .before .before .loop .inv .0,
+  turn c .2,
+)
 
 pub put-runs-spec : {M : Type 1} → statement M
 put-runs-spec =

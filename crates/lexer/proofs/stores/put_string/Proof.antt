@@ -7,15 +7,22 @@ use borrow.Author.Needs.{needs}
 use lib.ListN.{length, drop, length-drop}
 use lib.Seq.{length-take-le}
 use Rattle.lexer.proofs.Contents.{fault-nothing, string-inside}
-use Rattle.lexer.proofs.Unescaped.{string-span, Between, unescaped}
+use Rattle.lexer.proofs.stores.Unescaped.{string-span, Between, unescaped}
 use Rattle.lexer.proofs.stores.put_string.Statement.{statement}
 use Rattle.lexer.proofs.stores.put_string.Tie as tie
 
 returns : tie.Need-returns
-returns c = rw (fault-nothing (c .before .before .before .before .before .args .text .now) (c .before .before .before .before .before .args .place) (c .before .before .string-at .result .number) (c .before .before .string-at .ensures .0) (c .if1 .taken)) (refl, refl)
+returns c =
+    rw (fault-nothing (c .before .before .before .before .before .args .text .now) (c .before .before .before .before .before .args .place)
+    (c .before .before .string-at .result .number) (c .before .before .string-at .ensures .0) (c .if1 .taken)) (refl, refl)
 
 add-from : tie.Need-add-from
-add-from c = omega (arith, string-inside (c .before .before .before .before .before .args .text .now) (c .before .before .before .before .before .args .place) (c .before .before .string-at .result .number) (c .before .before .string-at .ensures .0) (c .if1 .left))
+add-from c =
+    omega (
+      arith,
+      string-inside (c .before .before .before .before .before .args .text .now) (c .before .before .before .before .before .args .place)
+          (c .before .before .string-at .result .number) (c .before .before .string-at .ensures .0) (c .if1 .left),
+    )
 
 -- There are at least as many bytes between the quotes as the string stands for,
 span : (c : tie.Else1) → c .before .before .before .before .before .args .place + 2 + c .before .before .string-at .result .length ≤ c .before .before .string-at .result .next
@@ -38,7 +45,8 @@ between : (c : tie.Then2)
 between c =
     let s = c .before .before .before .before .before .string-at in
     let args = c .before .before .before .before .before .before .before .before .args in
-    unescaped (args .text .now) (args .place) (s .result .number) (s .result .next) (s .result .length) (s .ensures .0) (c .before .before .before .if1 .left) (s .ensures .2) (s .ensures .3) (c .if2 .taken)
+    unescaped (args .text .now) (args .place) (s .result .number) (s .result .next) (s .result .length) (s .ensures .0) (c .before .before .before .if1 .left)
+    (s .ensures .2) (s .ensures .3) (c .if2 .taken)
 
 sub-put-run : tie.Need-sub-put-run
 sub-put-run c = omega (arith, span (c .before .before .before .before))
@@ -59,7 +67,12 @@ returns-2 c =
     let from = c .before .before .before .before .before .before .before .before .before .before .before .before .before .args .place + 1 in
     let size = c .before .before .before .before .before .before .before .before .before .before .string-at .result .next - 1 - from in
     let fits : size ≤ length (drop from text) = omega (arith, length-drop from text, b .within) in
-    rw (b .same) (sym (length-take-le size (drop from text) fits), rw (add-zero (c .before .before .before .before .before .before .before .before .before .before .before .before .before .args .at)) at (c .before .before .put-run .ensures))
+    rw (b .same) (
+      sym (length-take-le size (drop from text) fits),
+      rw
+          (add-zero (c .before .before .before .before .before .before .before .before .before .before .before .before .before .args .at)) at
+          (c .before .before .put-run .ensures),
+    )
 
 put-runs-requires : tie.Need-put-runs-requires
 put-runs-requires c κs = sym (c .before .before .before .before .before .before .string-at .ensures .0) ∙ c .before .before .before .before .if1 .left

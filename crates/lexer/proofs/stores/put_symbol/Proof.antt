@@ -19,10 +19,27 @@ unfolding ordinaryRun
 returns c = rw (drop-of-length-le (c .before .before .before .args .text .now) (c .if1 .taken)) (refl, refl)
 
 part-put-run-end : tie.Need-part-put-run-end
-part-put-run-end c = omega (arith, run-fits (drop (c .before .before .before .before .before .args .place) (c .before .before .before .before .before .args .text .now)), length-drop (c .before .before .before .before .before .args .place) (c .before .before .before .before .before .args .text .now), c .before .symbol-end .ensures)
+part-put-run-end c =
+    omega (
+      arith,
+      run-fits
+          (drop (c .before .before .before .before .before .args .place) (c .before .before .before .before .before .args .text .now)),
+      length-drop
+          (c .before .before .before .before .before .args .place) (c .before .before .before .before .before .args .text .now),
+      c .before .symbol-end .ensures,
+    )
 
 returns-2 : tie.Need-returns-2
-returns-2 c = (omega (arith, c .before .before .before .before .before .symbol-end .ensures), rw (add-zero (c .before .before .before .before .before .before .before .before .before .args .at), here (c .before .before .before .before .before .before .before .before .before .args .text .now) (c .before .before .before .before .before .before .before .before .before .args .place) (c .before .before .before .before .before .symbol-end .result) (c .before .before .before .before .before .symbol-end .ensures)) at (c .before .before .put-run .ensures))
+returns-2 c = (
+  omega (arith, c .before .before .before .before .before .symbol-end .ensures),
+  rw (
+    add-zero (c .before .before .before .before .before .before .before .before .before .args .at),
+    here
+        (c .before .before .before .before .before .before .before .before .before .args .text .now)
+        (c .before .before .before .before .before .before .before .before .before .args .place) (c .before .before .before .before .before .symbol-end .result)
+        (c .before .before .before .before .before .symbol-end .ensures),
+  ) at (c .before .before .put-run .ensures),
+)
 
 pub put-symbol-spec : {M : Type 1} → statement M
 put-symbol-spec =

@@ -6,12 +6,12 @@ use borrow.Author.Needs.{needs}
 use lib.ListN.{drop}
 use Rattle.syntax.specs.reference.Scan.{quotedFrom}
 use Rattle.lexer.specs.Token.{stringAt}
-use Rattle.lexer.proofs.StringWalk.{finish, Turned, walk, at-start, past-end, RunEnd, run-end, escape-inside, run-stopped, run-bad}
+use Rattle.lexer.proofs.string.StringSteps.{stringFinish, PieceTurned, walk, at-start, past-end, RunEnd, run-end, escape-inside, run-stopped, run-bad}
 use Rattle.lexer.proofs.string.string_at.Statement.{statement}
 use Rattle.lexer.proofs.string.string_at.Tie as tie
 
 abbrev Inv-loop : tie.InvT-loop
-Inv-loop text place i₀ length₀ i length = (length ≤ i) × (finish place i length (quotedFrom 0 i (drop i text)) ≡ stringAt place (drop place text))
+Inv-loop text place i₀ length₀ i length = (length ≤ i) × (stringFinish place i length (quotedFrom 0 i (drop i text)) ≡ stringAt place (drop place text))
 
 abbrev μ-loop : tie.MeasureT-loop
 μ-loop text place i₀ length₀ i length = lib.ListN.length text - i
@@ -39,7 +39,9 @@ returns-2 c = rw (run-stopped (ended (c .before .before)) (λ e. c .before .if2 
 returns-3 : tie.Need-returns-3 Inv-loop μ-loop
 returns-3 c =
     let escape = sym (c .before .before .before .before .byte-at .ensures) ∙ c .before .before .before .if2 .left in
-    let told = c .before .before .piece .ensures (escape-inside (c .before .before .before .before .before .before .before .before .before .args .text .now) (c .before .before .before .before .before .plain-end .result) escape) in
+    let told = c .before .before .piece .ensures
+    (escape-inside (c .before .before .before .before .before .before .before .before .before .args .text .now)
+    (c .before .before .before .before .before .plain-end .result) escape) in
     rw (run-bad (ended (c .before .before .before .before)) (c .before .before .piece .result .next) escape (told .0) (c .before .if3 .taken)) at (c .bad-string2 .ensures)
 
 -- After the escape.
@@ -48,17 +50,25 @@ turned : (c : tie.After-struct-known Inv-loop μ-loop)
     let args = c .before .before .before .before .before .before .before .before .before .args in
     let end = c .before .before .before .before .before .plain-end .result in
     let p = c .before .before .piece .result in
-    Turned (args .text .now) (args .place) end (loop .length + (end - loop .i)) (p .next) (p .size)
+    PieceTurned (args .text .now) (args .place) end (loop .length + (end - loop .i)) (p .next) (p .size)
 turned c =
     let args = c .before .before .before .before .before .before .before .before .before .args in
-    let inside = escape-inside (args .text .now) (c .before .before .before .before .before .plain-end .result) (sym (c .before .before .before .before .byte-at .ensures) ∙ c .before .before .before .if2 .left) in
+    let inside = escape-inside (args .text .now) (c .before .before .before .before .before .plain-end .result)
+    (sym (c .before .before .before .before .byte-at .ensures) ∙ c .before .before .before .if2 .left) in
     walk _ _ _ _ _ _ _ _ _ inside (c .before .before .piece .ensures inside) (c .before .if3 .left)
 
 add-length-2 : tie.Need-add-length-2 Inv-loop μ-loop
 add-length-2 c = omega (arith, turned c)
 
 loop-less : tie.Need-loop-less Inv-loop μ-loop
-loop-less c = omega (arith, turned c, escape-inside (c .before .before .before .before .before .before .before .before .before .args .text .now) (c .before .before .before .before .before .plain-end .result) (sym (c .before .before .before .before .byte-at .ensures) ∙ c .before .before .before .if2 .left))
+loop-less c =
+    omega (
+      arith,
+      turned c,
+      escape-inside (c .before .before .before .before .before .before .before .before .before .args .text .now)
+          (c .before .before .before .before .before .plain-end .result)
+          (sym (c .before .before .before .before .byte-at .ensures) ∙ c .before .before .before .if2 .left),
+    )
 
 loop-again : tie.Need-loop-again Inv-loop μ-loop
 loop-again c = (omega (arith, turned c), turned c .3 ∙ ended (c .before .before .before .before) .same)

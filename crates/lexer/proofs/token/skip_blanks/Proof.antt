@@ -7,7 +7,7 @@ use borrow.Author.Needs.{needs}
 use lib.ListN.{length, drop}
 use Rattle.lexer.specs.Token.{blanks}
 use Rattle.lexer.proofs.Blanks.{blanks-end, blank-on, blank-stop, return-on, return-stop}
-use Rattle.lexer.proofs.Codes.{above-space}
+use Rattle.lexer.proofs.class.ClassNumbers.{above-space}
 use Rattle.lexer.proofs.token.skip_blanks.Statement.{statement}
 use Rattle.lexer.proofs.token.skip_blanks.Tie as tie
 
@@ -32,7 +32,12 @@ returns-2 c =
     let args = c .before .before .before .before .before .before .before .before .args in
     let loop = c .before .before .before .before .before .before .loop in
     let class = c .before .before .byte-class in
-    omega (arith, blank-stop (args .text .now) (loop .at) (class .result) (c .before .before .before .before .before .loop-test .taken) (class .ensures) (c .before .if2 .taken) (c .if3 .taken), loop .inv)
+    omega (
+      arith,
+      blank-stop (args .text .now) (loop .at) (class .result) (c .before .before .before .before .before .loop-test .taken) (class .ensures)
+          (c .before .if2 .taken) (c .if3 .taken),
+      loop .inv,
+    )
 
 returns-3 : tie.Need-returns-3 Inv-loop μ-loop
 returns-3 c =
@@ -42,7 +47,12 @@ returns-3 c =
     let class = c .before .before .before .before .byte-class in
     let if2 = c .before .before .before .if2 in
     let next = c .before .byte-at in
-    omega (arith, return-stop (args .text .now) (loop .at) (class .result) (loop-test .taken) (class .ensures) (next .result) (if2 .taken) (c .before .before .if3 .left) (next .ensures) (c .if4 .taken), loop .inv)
+    omega (
+      arith,
+      return-stop (args .text .now) (loop .at) (class .result) (loop-test .taken) (class .ensures) (next .result) (if2 .taken)
+          (c .before .before .if3 .left) (next .ensures) (c .if4 .taken),
+      loop .inv,
+    )
 
 loop-again : tie.Need-loop-again Inv-loop μ-loop
 loop-again c =

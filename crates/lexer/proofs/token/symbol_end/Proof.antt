@@ -6,7 +6,7 @@ use borrow.Author.Needs.{needs}
 use lib.ListN.{length, drop, drop-of-length-le}
 use Rattle.syntax.specs.reference.Scan.{ordinaryRun}
 use Rattle.lexer.proofs.Blanks.{run-turn, run-stop}
-use Rattle.lexer.proofs.Codes.{ordinary-yes, ordinary-no}
+use Rattle.lexer.proofs.class.ClassNumbers.{ordinary-yes, ordinary-no}
 use Rattle.lexer.proofs.token.symbol_end.Statement.{statement}
 use Rattle.lexer.proofs.token.symbol_end.Tie as tie
 
@@ -20,10 +20,26 @@ loop-holds : tie.Need-loop-holds Inv-loop μ-loop
 loop-holds c = refl
 
 returns : tie.Need-returns Inv-loop μ-loop
-returns c = omega (arith, ap length (run-stop (c .before .before .before .before .before .before .args .text .now) (c .before .before .before .before .loop .i) (c .before .before .before .loop-test .taken) (ordinary-no _ _ (c .before .byte-class .ensures) (c .if1 .taken))), c .before .before .before .before .loop .inv)
+returns c =
+    omega (
+      arith,
+      ap length
+          (run-stop (c .before .before .before .before .before .before .args .text .now) (c .before .before .before .before .loop .i)
+          (c .before .before .before .loop-test .taken)
+          (ordinary-no _ _ (c .before .byte-class .ensures) (c .if1 .taken))),
+      c .before .before .before .before .loop .inv,
+    )
 
 loop-again : tie.Need-loop-again Inv-loop μ-loop
-loop-again c = omega (arith, ap length (run-turn (c .before .before .before .before .before .before .args .text .now) (c .before .before .before .before .loop .i) (c .before .before .before .loop-test .taken) (ordinary-yes _ _ (c .before .byte-class .ensures) (c .if1 .left))), c .before .before .before .before .loop .inv)
+loop-again c =
+    omega (
+      arith,
+      ap length
+          (run-turn (c .before .before .before .before .before .before .args .text .now) (c .before .before .before .before .loop .i)
+          (c .before .before .before .loop-test .taken)
+          (ordinary-yes _ _ (c .before .byte-class .ensures) (c .if1 .left))),
+      c .before .before .before .before .loop .inv,
+    )
 
 returns-2 : tie.Need-returns-2 Inv-loop μ-loop
 unfolding ordinaryRun

@@ -16,8 +16,8 @@ use Rattle.syntax.specs.rules.Byte.{byteClass}
 use Rattle.lexer.specs.Token.{codeOf, stringAt, contentOf, pieceAt, fits}
 use Rattle.elements.proofs.Characters.{none-high}
 use Rattle.lexer.proofs.Blanks.{run-turn, run-stop}
-use Rattle.lexer.proofs.Codes.{ordinary-yes, ordinary-no}
-use Rattle.lexer.proofs.PieceAt.{piece-few, Told, Stands, stands-told, stays, moves, read-on}
+use Rattle.lexer.proofs.class.ClassNumbers.{ordinary-yes, ordinary-no}
+use Rattle.lexer.proofs.PieceAt.{piece-few, Told, PieceStands, stands-told, stays, moves, read-on}
 use Rattle.lexer.proofs.Contents.{isClosed, piece-closed, no-piece, closed-string, content-inner, fault-nothing}
 
 -- Bytes one after another fit where both do.
@@ -124,7 +124,7 @@ module _ (text : List ℕ) (place sort i : ℕ) (c : StringLeft text place sort 
       good : isPiece here ≡ true
       good = moves here i next (told .0) h
 
-      stands : Stands here i next size first second third
+      stands : PieceStands here i next size first second third
       stands = stands-told here i next size first second third good told
 
       reads : left text i ≡ piece here (left text next)

@@ -17,8 +17,8 @@ use Rattle.lexer.specs.Token.{StringEnd, stringAt, contentOf, pieceAt}
 use Rattle.lexer.specs.internal.Step.{badString}
 use Rattle.lexer.specs.internal.Run.{plainRun}
 use Rattle.lexer.proofs.PieceAt.{piece-few, piece-short, piece-escape}
-use Rattle.lexer.proofs.Runs.{plains, plain-part}
-use Rattle.lexer.proofs.StringWalk.{finish, turn, at-start, RunEnd, run-end}
+use Rattle.lexer.proofs.run.PlainRuns.{plains, plain-part}
+use Rattle.lexer.proofs.string.StringSteps.{stringFinish, turn, at-start, RunEnd, run-end}
 use Rattle.lexer.proofs.Contents.{isClosed, closed-string, content-inner, quoted-inside, quoted-over, quoted-done, good-piece}
 
 -- ---- pieces stand for no more bytes than they have
@@ -47,8 +47,8 @@ pieces-few (p ∷ ps) =
       length-append (pieceBefore p []) (piecesBefore ps []),
     )
 
-finish-fits : (n i d : ℕ) (q : Quoted) → finish n i d q .number ≡ 0 → finish n i d q .length + i + 1 ≤ finish n i d q .next + d
-unfolding finish badString
+finish-fits : (n i d : ℕ) (q : Quoted) → stringFinish n i d q .number ≡ 0 → stringFinish n i d q .length + i + 1 ≤ stringFinish n i d q .next + d
+unfolding stringFinish badString
 finish-fits n i d (closed ps) = cond-case Fits (eqb (d + length (piecesValue ps)) 0) (λ e z. absurd (omega arith)) (λ e z. omega (arith, pieces-few ps))
   where
     Fits : StringEnd → Type 0
@@ -56,8 +56,8 @@ finish-fits n i d (closed ps) = cond-case Fits (eqb (d + length (piecesValue ps)
 finish-fits n i d unclosed = λ z. absurd (omega arith)
 finish-fits n i d (bad-escape p) = λ z. absurd (omega arith)
 
-finish-none : (n i d : ℕ) → finish n i d (closed []) .number ≡ 0 → finish n i d (closed []) .next ≡ i + 1
-unfolding finish badString piecesBefore
+finish-none : (n i d : ℕ) → stringFinish n i d (closed []) .number ≡ 0 → stringFinish n i d (closed []) .next ≡ i + 1
+unfolding stringFinish badString piecesBefore
 finish-none n i d = cond-case Next (eqb (d + length (piecesValue [])) 0) (λ e z. absurd (omega arith)) (λ e z. omega arith)
   where
     Next : StringEnd → Type 0
@@ -76,7 +76,7 @@ module _ (text : List ℕ) (place found next size : ℕ) (e : found ≡ stringAt
 
   pub string-span : place + 2 + size ≤ next
   string-span =
-      let start : finish place (place + 1) 0 (quotedFrom 0 (place + 1) (drop (place + 1) text)) ≡ answer = at-start text place in
+      let start : stringFinish place (place + 1) 0 (quotedFrom 0 (place + 1) (drop (place + 1) text)) ≡ answer = at-start text place in
       omega (arith, rw start at (finish-fits place (place + 1) 0 (quotedFrom 0 (place + 1) (drop (place + 1) text)) (ap (λ (a : StringEnd). a .number) start ∙ sym e ∙ z)))
 
   -- The run at its front ends at `end`.
@@ -102,7 +102,7 @@ module _ (text : List ℕ) (place found next size : ℕ) (e : found ≡ stringAt
   unfolding quotedFrom
   at-quote h =
       let none : quotedFrom 0 end (drop end text) ≡ closed [] = rw (drop-cons text end 0 inside, h) in
-      let last : finish place end (0 + (end - (place + 1))) (closed []) ≡ answer = rw none at (run .same) in
+      let last : stringFinish place end (0 + (end - (place + 1))) (closed []) ≡ answer = rw none at (run .same) in
       let after : next ≡ end + 1
       = f ∙ ap (λ (a : StringEnd). a .next) (sym last) ∙ finish-none place end (0 + (end - (place + 1))) (ap (λ (a : StringEnd). a .number) last ∙ sym e ∙ z) in
       let size : next - 1 - (place + 1) ≡ plains text (place + 1) = omega arith in
@@ -123,7 +123,7 @@ module _ (text : List ℕ) (place found next size : ℕ) (e : found ≡ stringAt
       = rw escape (escape-longer (drop (end + 1) text) (true-T (rw escape at good))) in
       let j : ℕ = end + length (pieceBefore p []) in
       let d : ℕ = 0 + (end - (place + 1)) + length (pieceValue p) in
-      let rest : finish place j d (quotedFrom 0 j (drop j text)) ≡ answer = turn text place end (0 + (end - (place + 1))) inside good ∙ run .same in
+      let rest : stringFinish place j d (quotedFrom 0 j (drop j text)) ≡ answer = turn text place end (0 + (end - (place + 1))) inside good ∙ run .same in
       omega (arith, rw rest at (finish-fits place j d (quotedFrom 0 j (drop j text)) (ap (λ (a : StringEnd). a .number) rest ∙ sym e ∙ z)))
 
   pub unescaped : size ≡ next - 1 - (place + 1) → Between

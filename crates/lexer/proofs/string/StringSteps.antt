@@ -18,20 +18,20 @@ use Rattle.lexer.specs.internal.Step.{badString, stoppedAt, pieceLength}
 use Rattle.lexer.specs.internal.Run.{plainRun}
 use Rattle.syntax.proofs.Strings.{piece-append}
 use Rattle.lexer.proofs.PieceAt.{piece-few, Told, moves, stays, stands-told, read-on, piece-raw, raw-piece}
-use Rattle.lexer.proofs.Runs.{plains, raws, quoted-passed, plain-ended}
+use Rattle.lexer.proofs.run.PlainRuns.{plains, raws, quoted-passed, plain-ended}
 
 -- ---- the answer from a piece on
 
 -- The answer for the string whose quote is at n, where its pieces up to place i stand for d bytes and q follows.
-unfoldable pub finish : ℕ → ℕ → ℕ → Quoted → StringEnd
-finish n i d (closed ps) =
+unfoldable pub stringFinish : ℕ → ℕ → ℕ → Quoted → StringEnd
+stringFinish n i d (closed ps) =
     cond (eqb (d + length (piecesValue ps)) 0) (badString n)
     (record { number = 0; place = 0; next = i + length (piecesBefore ps []) + 1; length = d + length (piecesValue ps) })
-finish n i d unclosed = badString n
-finish n i d (bad-escape p) = badString p
+stringFinish n i d unclosed = badString n
+stringFinish n i d (bad-escape p) = badString p
 
-finish-start : (n : ℕ) (q : Quoted) → finish n (n + 1) 0 q ≡ stringEnd n q
-unfolding finish stringEnd badString piecesValue
+finish-start : (n : ℕ) (q : Quoted) → stringFinish n (n + 1) 0 q ≡ stringEnd n q
+unfolding stringFinish stringEnd badString piecesValue
 finish-start n (closed []) = refl
 finish-start n (closed (p ∷ ps)) =
     let v : List ℕ = piecesValue (p ∷ ps) in
@@ -43,8 +43,8 @@ finish-start n unclosed = refl
 finish-start n (bad-escape p) = refl
 
 finish-piece : (n i d : ℕ) (p : Piece) (q : Quoted)
-    → finish n i d (piece p q) ≡ finish n (i + length (pieceBefore p [])) (d + length (pieceValue p)) q
-unfolding finish piece piecesValue piecesBefore
+    → stringFinish n i d (piece p q) ≡ stringFinish n (i + length (pieceBefore p [])) (d + length (pieceValue p)) q
+unfolding stringFinish piece piecesValue piecesBefore
 finish-piece n i d p (closed ps) =
     let bytes : length (pieceBefore p (piecesBefore ps [])) ≡ length (pieceBefore p []) + length (piecesBefore ps [])
     = ap length (piece-append p (piecesBefore ps [])) ∙ length-append (pieceBefore p []) (piecesBefore ps []) in
@@ -56,20 +56,20 @@ finish-piece n i d p (bad-escape m) = refl
 pub turn : (text : List ℕ) (n i d : ℕ) → i < length text → isPiece (pieceAt (drop i text)) ≡ true
     → let p = pieceAt (drop i text) in
     let j = i + length (pieceBefore p []) in
-    finish n j (d + length (pieceValue p)) (quotedFrom 0 j (drop j text)) ≡ finish n i d (quotedFrom 0 i (drop i text))
+    stringFinish n j (d + length (pieceValue p)) (quotedFrom 0 j (drop j text)) ≡ stringFinish n i d (quotedFrom 0 i (drop i text))
 turn text n i d h e =
     let p : Piece = pieceAt (drop i text) in
     let j : ℕ = i + length (pieceBefore p []) in
-    sym (ap (finish n i d) (read-on text i h e) ∙ finish-piece n i d p (quotedFrom 0 j (drop j text)))
+    sym (ap (stringFinish n i d) (read-on text i h e) ∙ finish-piece n i d p (quotedFrom 0 j (drop j text)))
 
 -- The same of what the code has: a piece is small, and its turn keeps the answer.
-abbrev pub Turned : List ℕ → ℕ → ℕ → ℕ → ℕ → ℕ → Type 0
-Turned text n i d next size =
+abbrev pub PieceTurned : List ℕ → ℕ → ℕ → ℕ → ℕ → ℕ → Type 0
+PieceTurned text n i d next size =
     (i < next) × (i + size ≤ next) × (next ≤ i + 6)
-    × (finish n next (d + size) (quotedFrom 0 next (drop next text)) ≡ finish n i d (quotedFrom 0 i (drop i text)))
+    × (stringFinish n next (d + size) (quotedFrom 0 next (drop next text)) ≡ stringFinish n i d (quotedFrom 0 i (drop i text)))
 
 pub walk : (text : List ℕ) (n i d next size a b c : ℕ) → i < length text → Told (pieceAt (drop i text)) i next size a b c
-    → (next ≡ i → ⊥) → Turned text n i d next size
+    → (next ≡ i → ⊥) → PieceTurned text n i d next size
 walk text n i d next size a b c h t k =
     let p : Piece = pieceAt (drop i text) in
     let good : isPiece p ≡ true = moves p i next (t .0) k in
@@ -79,30 +79,32 @@ walk text n i d next size a b c h t k =
 
 -- ---- where no piece stands
 
-stop-at : (n i d b : ℕ) (s : List ℕ) → isPiece (pieceAt (b ∷ s)) ≡ false → finish n i d (quotedFrom 0 i (b ∷ s)) ≡ stoppedAt n i d (b ∷ s)
-unfolding pieceAt quotedFrom stoppedAt finish piecesValue piecesBefore
+stop-at : (n i d b : ℕ) (s : List ℕ) → isPiece (pieceAt (b ∷ s)) ≡ false → stringFinish n i d (quotedFrom 0 i (b ∷ s)) ≡ stoppedAt n i d (b ∷ s)
+unfolding pieceAt quotedFrom stoppedAt stringFinish piecesValue piecesBefore
 stop-at n i d b s g = go (eqb b 0x22) (eqb b 0x5C) (raw-piece b) g
   where
     go : (x y : Bool) → (x ≡ false → y ≡ false → isPiece (raw b) ≡ true) → isPiece (cond y (escapeAt s) (raw b)) ≡ false
-        → finish n i d (cond x (closed []) (cond y (cond (isPiece (escapeAt s)) (piece (escapeAt s) (quotedFrom (length (pieceBefore (escapeAt s) []) - 1) (i + 1) s)) (bad-escape i)) (piece (raw b) (quotedFrom 0 (i + 1) s))))
+        → stringFinish n i d (cond x (closed [])
+        (cond y (cond (isPiece (escapeAt s)) (piece (escapeAt s) (quotedFrom (length (pieceBefore (escapeAt s) []) - 1) (i + 1) s)) (bad-escape i))
+        (piece (raw b) (quotedFrom 0 (i + 1) s))))
         ≡ cond x (cond (eqb d 0) (badString n) (record { number = 0; place = 0; next = i + 1; length = d })) (badString i)
     go true y r g = rw (add-zero d, add-zero i)
     go false true r g = rw g
     go false false r g = let z : _≡_ {A = ℕ} 0 1 = ap (λ (t : Bool). cond t 1 0) (sym g ∙ r refl refl) in absurd (omega arith)
 
 stop : (text : List ℕ) (n i d : ℕ) → i < length text → isPiece (pieceAt (drop i text)) ≡ false
-    → finish n i d (quotedFrom 0 i (drop i text)) ≡ stoppedAt n i d (drop i text)
+    → stringFinish n i d (quotedFrom 0 i (drop i text)) ≡ stoppedAt n i d (drop i text)
 stop text n i d h e = at (drop i text) (drop-cons text i 0 h) e
   where
-    at : (s : List ℕ) → s ≡ getD text i 0 ∷ drop (suc i) text → isPiece (pieceAt s) ≡ false → finish n i d (quotedFrom 0 i s) ≡ stoppedAt n i d s
+    at : (s : List ℕ) → s ≡ getD text i 0 ∷ drop (suc i) text → isPiece (pieceAt s) ≡ false → stringFinish n i d (quotedFrom 0 i s) ≡ stoppedAt n i d s
     at [] x e = let z : _≡_ {A = ℕ} 0 1 = cc in absurd (omega arith)
     at (b ∷ s) x e = stop-at n i d b s e
 
-at-end : (text : List ℕ) (n i d : ℕ) → length text ≤ i → finish n i d (quotedFrom 0 i (drop i text)) ≡ badString n
-unfolding quotedFrom finish
+at-end : (text : List ℕ) (n i d : ℕ) → length text ≤ i → stringFinish n i d (quotedFrom 0 i (drop i text)) ≡ badString n
+unfolding quotedFrom stringFinish
 at-end text n i d h = rw (drop-of-length-le text h)
 
-pub at-start : (text : List ℕ) (n : ℕ) → finish n (n + 1) 0 (quotedFrom 0 (n + 1) (drop (n + 1) text)) ≡ stringAt n (drop n text)
+pub at-start : (text : List ℕ) (n : ℕ) → stringFinish n (n + 1) 0 (quotedFrom 0 (n + 1) (drop (n + 1) text)) ≡ stringAt n (drop n text)
 unfolding stringAt
 at-start text n = finish-start n (quotedFrom 0 (n + 1) (drop (n + 1) text)) ∙ rw (drop-drop 1 n text)
 
@@ -113,7 +115,7 @@ past-end text n h = rw (drop-of-length-le text h)
 
 -- ---- a run of plain bytes is passed
 
-finish-raws : (r : List ℕ) (n i d : ℕ) (q : Quoted) → finish n i d (raws r q) ≡ finish n (i + length r) (d + length r) q
+finish-raws : (r : List ℕ) (n i d : ℕ) (q : Quoted) → stringFinish n i d (raws r q) ≡ stringFinish n (i + length r) (d + length r) q
 unfolding raws pieceBefore pieceValue
 finish-raws [] n i d q = rw (add-zero i, add-zero d)
 finish-raws (b ∷ r) n i d q =
@@ -122,15 +124,15 @@ finish-raws (b ∷ r) n i d q =
 
 -- After a run up to place `end`, whose bytes are counted in d: what follows finishes the string with the answer, and no plain byte stands there.
 pub record RunEnd (text : List ℕ) (n end d : ℕ) (answer : StringEnd) : Type 0 where
-  pub same : finish n end d (quotedFrom 0 end (drop end text)) ≡ answer
+  pub same : stringFinish n end d (quotedFrom 0 end (drop end text)) ≡ answer
   pub after : end < length text → isRaw (getD text end 0) ≡ false
 
 pub run-end : (text : List ℕ) (n i d end : ℕ) (answer : StringEnd) → end ≡ i + plains text i
-    → finish n i d (quotedFrom 0 i (drop i text)) ≡ answer → RunEnd text n end (d + (end - i)) answer
+    → stringFinish n i d (quotedFrom 0 i (drop i text)) ≡ answer → RunEnd text n end (d + (end - i)) answer
 run-end text n i d end answer e f =
     let size : end - i ≡ plains text i = omega arith in
-    let passed : finish n i d (quotedFrom 0 i (drop i text)) ≡ finish n (i + plains text i) (d + plains text i) (quotedFrom 0 end (drop end text))
-    = ap (finish n i d) (quoted-passed text i end e) ∙ finish-raws (plainRun (drop i text)) n i d (quotedFrom 0 end (drop end text)) in
+    let passed : stringFinish n i d (quotedFrom 0 i (drop i text)) ≡ stringFinish n (i + plains text i) (d + plains text i) (quotedFrom 0 end (drop end text))
+    = ap (stringFinish n i d) (quoted-passed text i end e) ∙ finish-raws (plainRun (drop i text)) n i d (quotedFrom 0 end (drop end text)) in
     record { same = rw (size) (rw (← e) at (sym passed) ∙ f); after = plain-ended text i end e }
 
 pub escape-inside : (text : List ℕ) (i : ℕ) → getD text i 0 ≡ 0x5C → i < length text

@@ -1,0 +1,2 @@
+-- Lemmas of src/scanner.rt: the scan step by step.
+pub mod ScanSteps

@@ -1,0 +1,2 @@
+-- Lemmas of src/string.rt: a string read piece by piece.
+pub mod StringSteps
