@@ -40,7 +40,12 @@ module _ (table : List ℕ) (words : (i : ℕ) → getD table i 0 < 2 ^ 32) wher
   lines-length zero h = omega arith
   lines-length (suc n) h =
       rw length-append
-      (omega (arith, lines-length n (omega arith), node-length n (getD table (n * 11) 0) (getD table (n * 11 + 1) 0) (getD table (n * 11 + 2) 0) (omega arith) (words (n * 11)) (words (n * 11 + 1)) (words (n * 11 + 2))))
+      (omega (
+        arith,
+        lines-length n (omega arith),
+        node-length n (getD table (n * 11) 0) (getD table (n * 11 + 1) 0) (getD table (n * 11 + 2) 0) (omega arith)
+            (words (n * 11)) (words (n * 11 + 1)) (words (n * 11 + 2)),
+      ))
 
   pub document-length : (nodes pool : ℕ) → nodes < 2 ^ 32 → pool < 2 ^ 32 → length (documentLines table nodes pool) ≤ 44 * nodes + 33
   unfolding documentLines headerLine codes

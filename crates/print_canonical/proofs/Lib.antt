@@ -1,1 +1,2 @@
+-- What `tidy` prints of a document that was read (Tidying).
 pub mod Tidying

@@ -91,7 +91,8 @@ module _ (text : List ℕ) where
           rw (prints _ _ _ _ out d words strings there, le-ltb (length out) (length (canonical d)) (omega (arith, short)))
 
   -- `tidy` after a read into m that answers 0. The memory m has to be that of the definition.
-  module _ (m : Memory) (out : List ℕ) (room : 6 * lentPool + 100 * lentNodes ≤ length out) (a : Answer) (exit : Memory) (reads : Reads nested text m a exit) (lends : m ≡ lentMemory) (z : a .number ≡ 0) where
+  module _ (m : Memory) (out : List ℕ) (room : 6 * lentPool + 100 * lentNodes ≤ length out) (a : Answer) (exit : Memory) (reads : Reads nested text m a exit)
+      (lends : m ≡ lentMemory) (z : a .number ≡ 0) where
     abbrev lent : Reads nested text lentMemory a exit
     lent = rw lends at reads
 

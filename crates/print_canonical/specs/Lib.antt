@@ -1,1 +1,2 @@
+-- What `tidy` prints (Tidying).
 pub mod Tidying

@@ -21,7 +21,9 @@ returns-2 c =
     let a = r .read-nested .result in
     let e = r .read-nested .ensures .answers in
     let f = c .before .before .before .struct-known .given in
-    lists-refusal nested (args .text .now) (args .out .now) (omega (arith, c .before .put-refusal-arg .given .0 .1)) _ (r .before .before .before .before .if1 .left) (a .number) (a .line) (a .column) (c .before .before .if2 .taken) (f .0 .fits) (f .1 .1 .0 .fits) (f .1 .1 .1 .0 .fits) (e .number) (e .line) (e .column) refl (c .put-refusal .ensures)
+    lists-refusal nested (args .text .now) (args .out .now) (omega (arith, c .before .put-refusal-arg .given .0 .1)) _
+    (r .before .before .before .before .if1 .left) (a .number) (a .line) (a .column) (c .before .before .if2 .taken) (f .0 .fits) (f .1 .1 .0 .fits)
+    (f .1 .1 .1 .0 .fits) (e .number) (e .line) (e .column) refl (c .put-refusal .ensures)
 
 returns-3 : tie.Need-returns-3
 unfolding lentMemory
@@ -31,7 +33,9 @@ returns-3 c =
     let a = r .read-nested .result in
     let e = r .read-nested .ensures .answers in
     let p = c .put-document .ensures in
-    lists-document nested (args .text .now) (args .out .now) (omega (arith, c .before .put-document-arg .given .0 .1)) _ (r .before .before .before .before .if1 .left) (a .number) (a .nodes) (a .pool) _ (c .before .before .before .if2 .left) (e .number) (e .nodes) (e .pool) (r .read-nested .ensures .leaves) refl (p .0, p .1 .0) (p .1 .1)
+    lists-document nested (args .text .now) (args .out .now) (omega (arith, c .before .put-document-arg .given .0 .1)) _
+    (r .before .before .before .before .if1 .left) (a .number) (a .nodes) (a .pool) _ (c .before .before .before .if2 .left) (e .number) (e .nodes) (e .pool)
+    (r .read-nested .ensures .leaves) refl (p .0, p .1 .0) (p .1 .1)
 
 pub list-spec : {M : Type 1} → statement M
 list-spec =

@@ -8,7 +8,10 @@ use Rattle.listing.proofs.put_header.Tie as tie
 
 returns : tie.Need-returns
 unfolding headerLine codes
-returns c = puts-on (c .before .before .before .before .before .before .before .before .before .before .before .before .before .before .before .put-bytes .ensures) (puts-on (c .before .before .before .before .before .before .before .before .before .before .before .put-decimal .ensures) (puts-on (c .before .before .before .before .before .before .put-bytes2 .ensures) (c .before .before .put-number .ensures)))
+returns c =
+    puts-on (c .before .before .before .before .before .before .before .before .before .before .before .before .before .before .before .put-bytes .ensures)
+    (puts-on (c .before .before .before .before .before .before .before .before .before .before .before .put-decimal .ensures)
+    (puts-on (c .before .before .before .before .before .before .put-bytes2 .ensures) (c .before .before .put-number .ensures)))
 
 pub put-header-spec : {M : Type 1} → statement M
 put-header-spec =

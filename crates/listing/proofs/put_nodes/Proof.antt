@@ -19,10 +19,20 @@ loop-holds : tie.Need-loop-holds Inv-loop μ-loop
 loop-holds c = (refl, search needs, lines-none (c .before .before .args .out .now) (c .before .before .args .at) (c .before .before .args .table .now))
 
 loop-again : tie.Need-loop-again Inv-loop μ-loop
-loop-again c = (c .before .before .put-node .kept .0 ∙ c .before .before .before .before .before .before .before .before .loop .inv .0, search needs, lines-next (c .before .before .before .before .before .before .before .before .before .before .before .args .table .now) (c .before .before .before .before .before .before .before .before .loop .k) (c .before .before .before .before .before .word .ensures) (c .before .before .before .before .word2 .ensures) (c .before .before .before .word3 .ensures) (c .before .before .before .before .before .before .before .before .loop .inv .2) (c .before .before .put-node .ensures))
+loop-again c = (
+  c .before .before .put-node .kept .0 ∙ c .before .before .before .before .before .before .before .before .loop .inv .0,
+  search needs,
+  lines-next
+      (c .before .before .before .before .before .before .before .before .before .before .before .args .table .now)
+      (c .before .before .before .before .before .before .before .before .loop .k) (c .before .before .before .before .before .word .ensures)
+      (c .before .before .before .before .word2 .ensures) (c .before .before .before .word3 .ensures)
+      (c .before .before .before .before .before .before .before .before .loop .inv .2) (c .before .before .put-node .ensures),
+)
 
 returns : tie.Need-returns Inv-loop μ-loop
-returns c = lines-all (c .before .before .before .before .args .table .now) (c .before .loop .k) (c .before .before .before .before .args .nodes) (c .before .loop .inv .1) (c .loop-test .left) (c .before .loop .inv .2)
+returns c =
+    lines-all (c .before .before .before .before .args .table .now) (c .before .loop .k) (c .before .before .before .before .args .nodes)
+    (c .before .loop .inv .1) (c .loop-test .left) (c .before .loop .inv .2)
 
 pub put-nodes-spec : {M : Type 1} → statement M
 put-nodes-spec =

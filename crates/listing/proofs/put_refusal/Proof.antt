@@ -9,7 +9,11 @@ use Rattle.listing.proofs.put_refusal.Tie as tie
 
 returns : tie.Need-returns
 unfolding refusedLine codes
-returns c = puts-whole (simp append-assoc at (puts-on (c .before .before .before .before .before .before .before .before .before .before .before .before .before .before .put-bytes .ensures) (puts-on (c .before .before .before .before .before .before .before .before .before .before .put-number .ensures) (puts-on (c .before .before .before .before .before .before .put-number2 .ensures) (c .before .before .put-number3 .ensures)))))
+returns c =
+    puts-whole (simp append-assoc at
+    (puts-on (c .before .before .before .before .before .before .before .before .before .before .before .before .before .before .put-bytes .ensures)
+    (puts-on (c .before .before .before .before .before .before .before .before .before .before .put-number .ensures)
+    (puts-on (c .before .before .before .before .before .before .put-number2 .ensures) (c .before .before .put-number3 .ensures)))))
 
 pub put-refusal-spec : {M : Type 1} → statement M
 put-refusal-spec =

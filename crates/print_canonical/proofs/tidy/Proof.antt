@@ -11,7 +11,9 @@ use Rattle.print_canonical.proofs.tidy.Statement.{statement}
 use Rattle.print_canonical.proofs.tidy.Tie as tie
 
 returns : tie.Need-returns
-returns c = answered-long spellingOf nested (c .before .before .before .before .args .text .now) (omega (arith, c .before .put-too-long-arg .given .0 .1)) (c .before .before .if1 .taken) (c .put-too-long .ensures)
+returns c =
+    answered-long spellingOf nested (c .before .before .before .before .args .text .now) (omega (arith, c .before .put-too-long-arg .given .0 .1))
+    (c .before .before .if1 .taken) (c .put-too-long .ensures)
 
 returns-2 : tie.Need-returns-2
 unfolding lentMemory
@@ -21,21 +23,31 @@ returns-2 c =
     let a = r .read-nested .result in
     let e = r .read-nested .ensures .answers in
     let f = c .before .before .before .struct-known .given in
-    answered-refusal spellingOf nested (args .text .now) _ (r .before .before .before .before .if1 .left) (a .number) (a .line) (a .column) (omega (arith, c .before .put-refusal-arg .given .0 .1)) (c .before .before .if2 .taken) (f .0 .fits) (f .1 .1 .0 .fits) (f .1 .1 .1 .0 .fits) (e .number) (e .line) (e .column) refl (c .put-refusal .ensures)
+    answered-refusal spellingOf nested (args .text .now) _ (r .before .before .before .before .if1 .left) (a .number) (a .line) (a .column)
+    (omega (arith, c .before .put-refusal-arg .given .0 .1)) (c .before .before .if2 .taken) (f .0 .fits) (f .1 .1 .0 .fits) (f .1 .1 .1 .0 .fits) (e .number)
+    (e .line) (e .column) refl (c .put-refusal .ensures)
 
 element-write-out : tie.Need-element-write-out
 unfolding lentMemory
 element-write-out c =
     let r = c .before .before .before .before .before .before .before .before .before .before in
     let args = r .before .before .before .before .before .before .args in
-    omega (arith, c .before .before .print-arg .given .0 .1, line-end-fits (args .text .now) _ (args .out .now) (omega (arith, c .before .before .print-arg .given .0 .1)) (r .read-nested .result) _ (r .read-nested .ensures) refl (c .before .before .before .before .before .if2 .left) (c .before .print .result) _ (c .before .print .ensures))
+    omega (
+      arith,
+      c .before .before .print-arg .given .0 .1,
+      line-end-fits (args .text .now) _ (args .out .now)
+          (omega (arith, c .before .before .print-arg .given .0 .1)) (r .read-nested .result) _ (r .read-nested .ensures) refl
+          (c .before .before .before .before .before .if2 .left) (c .before .print .result) _ (c .before .print .ensures),
+    )
 
 returns-3 : tie.Need-returns-3
 unfolding lentMemory
 returns-3 c =
     let r = c .before .before .before .before .before .before .before .before .before .before in
     let args = r .before .before .before .before .before .before .args in
-    tidies-document (args .text .now) _ (args .out .now) (omega (arith, c .before .before .print-arg .given .0 .1)) (r .read-nested .result) _ (r .read-nested .ensures) refl (c .before .before .before .before .before .if2 .left) (c .before .print .result) _ (c .before .print .ensures) (r .before .before .before .before .if1 .left)
+    tidies-document (args .text .now) _ (args .out .now) (omega (arith, c .before .before .print-arg .given .0 .1)) (r .read-nested .result) _
+    (r .read-nested .ensures) refl (c .before .before .before .before .before .if2 .left) (c .before .print .result) _ (c .before .print .ensures)
+    (r .before .before .before .before .if1 .left)
 
 pub tidy-spec : {M : Type 1} → statement M
 tidy-spec =

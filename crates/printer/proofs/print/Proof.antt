@@ -11,16 +11,28 @@ returns : tie.Need-returns
 returns c = refused _ _ _ _ _ _ (c .before .before .check .ensures) (c .if1 .taken)
 
 slice-aggregate-table : tie.Need-slice-aggregate-table
-slice-aggregate-table c = sym (length-take-le _ _ (words-within _ _ _ _ (now (c .before .before .before .before .before .before .before .args .out)) _ (c .before .before .before .check .ensures) (c .before .if1 .left)))
+slice-aggregate-table c =
+    sym (length-take-le _ _
+    (words-within _ _ _ _ (now (c .before .before .before .before .before .before .before .args .out)) _ (c .before .before .before .check .ensures)
+    (c .before .if1 .left)))
 
 slice-aggregate-strings : tie.Need-slice-aggregate-strings
-slice-aggregate-strings c = sym (length-take-le _ _ (bytes-within _ _ _ _ (now (c .before .before .before .before .before .before .before .before .args .out)) _ (c .before .before .before .before .check .ensures) (c .before .before .if1 .left)))
+slice-aggregate-strings c =
+    sym (length-take-le _ _
+    (bytes-within _ _ _ _ (now (c .before .before .before .before .before .before .before .before .args .out)) _
+    (c .before .before .before .before .check .ensures) (c .before .before .if1 .left)))
 
 returns-2 : tie.Need-returns-2
-returns-2 c = short _ _ _ _ _ _ (c .before .before .before .before .before .before .before .before .check .ensures) (c .before .before .before .before .before .before .if1 .left) _ _ _ (c .before .before .spelled .ensures) (c .if2 .taken)
+returns-2 c =
+    short _ _ _ _ _ _ (c .before .before .before .before .before .before .before .before .check .ensures)
+    (c .before .before .before .before .before .before .if1 .left) _ _ _ (c .before .before .spelled .ensures) (c .if2 .taken)
 
 returns-3 : tie.Need-returns-3
-returns-3 c = whole _ _ _ _ _ _ (c .before .before .before .before .before .before .before .before .before .before .before .before .check .ensures) (c .before .before .before .before .before .before .before .before .before .before .if1 .left) _ _ _ (c .before .before .before .before .before .before .spelled .ensures) (c .before .before .before .before .if2 .left) _ _ (c .before .before .spelled2 .ensures)
+returns-3 c =
+    whole _ _ _ _ _ _ (c .before .before .before .before .before .before .before .before .before .before .before .before .check .ensures)
+    (c .before .before .before .before .before .before .before .before .before .before .if1 .left) _ _ _
+    (c .before .before .before .before .before .before .spelled .ensures) (c .before .before .before .before .if2 .left) _ _
+    (c .before .before .spelled2 .ensures)
 
 pub print-spec : {M : Type 1} → statement M
 print-spec =

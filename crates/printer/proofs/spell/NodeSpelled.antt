@@ -52,7 +52,8 @@ module _ (words bytes : List ℕ) (i end : ℕ) (out : List ℕ) where
 
   pub element-spelled : (kind middle : ℕ) → kind ≡ wordAt words i Word.kind → (kind ≡ Class.text → ⊥) → FirstEnd words i end middle
       → {a b c d e r : ℕ} {o p q s t later : List ℕ} → Adds (0x5B ∷ []) 0 out a o → Adds (Class.nameOf kind) a o b p → Done words bytes (i + 1) middle b p c q
-      → Adds (valuesInside (wordAt words i Word.kind) (stringAt words bytes i Word.key-offset) (stringAt words bytes i Word.type-offset) (wordAt words i Word.width) (wordAt words i Word.height)) c q d s
+      → Adds (valuesInside (wordAt words i Word.kind) (stringAt words bytes i Word.key-offset) (stringAt words bytes i Word.type-offset)
+      (wordAt words i Word.width) (wordAt words i Word.height)) c q d s
       → Done words bytes middle end d s e t → Adds (0x5D ∷ []) e t r later → SpellsNode words bytes i end out r later
   unfolding Stored count
   element-spelled kind middle w t f opened named first valued others closed (node k key type text width height ns) parent start stored e =

@@ -25,7 +25,8 @@ returns c =
     let digit4 = c .before .before .before .before .before .before .before .before .digit4 in
     let digit5 = c .before .before .before .before .before .before .before .digit5 in
     let leading = c .before .before .before .before .before .before .leading in
-    adds-as (last-digits (args .n) (leading .result) (digit .result) (digit2 .result) (digit3 .result) (digit4 .result) (digit5 .result) (leading .ensures) (digit .ensures) (digit2 .ensures) (digit3 .ensures) (digit4 .ensures) (digit5 .ensures)) (adds-put (c .before .before .put-bytes .ensures))
+    adds-as (last-digits (args .n) (leading .result) (digit .result) (digit2 .result) (digit3 .result) (digit4 .result) (digit5 .result) (leading .ensures)
+    (digit .ensures) (digit2 .ensures) (digit3 .ensures) (digit4 .ensures) (digit5 .ensures)) (adds-put (c .before .before .put-bytes .ensures))
 
 pub put-digits-spec : {M : Type 1} → statement M
 put-digits-spec =

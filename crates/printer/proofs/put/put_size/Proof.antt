@@ -13,14 +13,17 @@ returns c =
 
 returns-2 : tie.Need-returns-2
 returns-2 c =
-    let args = c .before .before .before .before .before .before .before .before .before .before .before .before .before .before .before .before .before .before .before .before .before .before .before .args in
-    let if1 = c .before .before .before .before .before .before .before .before .before .before .before .before .before .before .before .before .before .before .before .before .before .if1 in
-    let put-bytes = c .before .before .before .before .before .before .before .before .before .before .before .before .before .before .before .before .before .before .put-bytes in
+    let early = c .before .before .before .before .before .before .before .before .before .before .before .before .before .before .before .before .before .before in
+    let args = early .before .before .before .before .before .args in
+    let if1 = early .before .before .before .if1 in
+    let put-bytes = early .put-bytes in
     let put-digits = c .before .before .before .before .before .before .before .before .before .before .before .before .before .before .put-digits in
     let put-byte = c .before .before .before .before .before .before .before .before .before .before .put-byte in
     let put-digits2 = c .before .before .before .before .before .before .put-digits2 in
     adds-as (size-parts (args .width) (args .height) (if1 .left))
-    (adds-join (adds-put {s = 0x20 ∷ 0x5B ∷ 0x73 ∷ 0x69 ∷ 0x7A ∷ 0x65 ∷ 0x20 ∷ []} (put-bytes .ensures)) (adds-join (put-digits .ensures) (adds-join (adds-byte (put-byte .ensures)) (adds-join (put-digits2 .ensures) (adds-byte (c .before .before .put-byte2 .ensures))))))
+    (adds-join (adds-put {s = 0x20 ∷ 0x5B ∷ 0x73 ∷ 0x69 ∷ 0x7A ∷ 0x65 ∷ 0x20 ∷ []} (put-bytes .ensures))
+    (adds-join (put-digits .ensures)
+    (adds-join (adds-byte (put-byte .ensures)) (adds-join (put-digits2 .ensures) (adds-byte (c .before .before .put-byte2 .ensures))))))
 
 pub put-size-spec : {M : Type 1} → statement M
 put-size-spec =

@@ -21,7 +21,8 @@ returns-2 c =
     let if2 = c .before .before .before .before .before .before .before .if2 in
     let hex = c .before .before .before .before .before .before .hex in
     let hex2 = c .before .before .before .before .before .hex2 in
-    adds-as (byte-coded (args .b) (letter .result) (letter .ensures) (if1 .left) (is-coded .result) (is-coded .ensures) (if2 .taken) (hex .result) (hex2 .result) (hex .ensures) (hex2 .ensures)) (adds-put (c .before .before .put-bytes2 .ensures))
+    adds-as (byte-coded (args .b) (letter .result) (letter .ensures) (if1 .left) (is-coded .result) (is-coded .ensures) (if2 .taken) (hex .result)
+    (hex2 .result) (hex .ensures) (hex2 .ensures)) (adds-put (c .before .before .put-bytes2 .ensures))
 
 returns-3 : tie.Need-returns-3
 returns-3 c =
@@ -29,7 +30,8 @@ returns-3 c =
     let letter = c .before .before .before .before .before .before .before .letter in
     let if1 = c .before .before .before .before .before .before .if1 in
     let is-coded = c .before .before .before .before .before .is-coded in
-    adds-as (byte-raw (args .b) (letter .result) (letter .ensures) (if1 .left) (is-coded .result) (is-coded .ensures) (c .before .before .before .before .if2 .left)) (adds-byte (c .before .before .put-byte .ensures))
+    adds-as (byte-raw (args .b) (letter .result) (letter .ensures) (if1 .left) (is-coded .result) (is-coded .ensures)
+    (c .before .before .before .before .if2 .left)) (adds-byte (c .before .before .put-byte .ensures))
 
 pub put-string-byte-spec : {M : Type 1} → statement M
 put-string-byte-spec =

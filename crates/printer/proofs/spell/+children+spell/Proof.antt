@@ -101,7 +101,8 @@ children-returns t c =
     let args = c .before .before .before .before .before .before .before .args in
     let loop = c .before .before .before .loop in
     let word = c .before .word in
-    upto-never (args .nodes .now) (args .pool .now) (args .from) (args .end) (args .at) (args .out .now) (loop .i) (loop .k) (word .result) (loop .out) (loop .inv .2) (c .before .before .loop-test .taken) (word .ensures) (λ l g. omega (arith, c .if1 .taken))
+    upto-never (args .nodes .now) (args .pool .now) (args .from) (args .end) (args .at) (args .out .now) (loop .i) (loop .k) (word .result) (loop .out)
+    (loop .inv .2) (c .before .before .loop-test .taken) (word .ensures) (λ l g. omega (arith, c .if1 .taken))
 
 children-same-length-2 : (t : ℕ) → children-lts.Need-same-length-2 (children-calls t) (children-at t) children.Post children-Inv-loop children-μ-loop
 children-same-length-2 t c = c .before .before .before .before .loop .inv .1
@@ -111,7 +112,8 @@ children-returns-2 t c =
     let args = c .before .before .before .before .before .before .before .before .args in
     let loop = c .before .before .before .before .loop in
     let word = c .before .before .word in
-    upto-never (args .nodes .now) (args .pool .now) (args .from) (args .end) (args .at) (args .out .now) (loop .i) (loop .k) (word .result) (loop .out) (loop .inv .2) (c .before .before .before .loop-test .taken) (word .ensures) (λ l g. omega (arith, c .if2 .taken))
+    upto-never (args .nodes .now) (args .pool .now) (args .from) (args .end) (args .at) (args .out .now) (loop .i) (loop .k) (word .result) (loop .out)
+    (loop .inv .2) (c .before .before .before .loop-test .taken) (word .ensures) (λ l g. omega (arith, c .if2 .taken))
 
 children-sub-spell : (t : ℕ) → children-lts.Need-sub-spell (children-calls t) (children-at t) children.Post children-Inv-loop children-μ-loop
 children-sub-spell t c = omega (arith, c .lesser .ensures)
@@ -140,8 +142,14 @@ children-loop-again t c =
     let put-byte = c .before .before .before .before .before .before .before .put-byte in
     let lesser = c .before .before .before .before .lesser in
     let spell = c .before .before .spell in
-    let step = upto-turn (args .nodes .now) (args .pool .now) (args .from) (args .end) (args .at) (args .out .now) (loop .i) (loop .k) (word .result) (put-byte .result) (lesser .result) (spell .result) (put-byte .result + spell .result) (loop .out) (put-byte .last .0) (spell .last .1 .1 .1 .1 .0) (loop .inv .2) (loop-test .taken) (word .ensures) (adds-byte (put-byte .ensures)) (lesser .ensures) (spell .ensures .1) (λ h. refl) in
-    (omega (arith, loop .inv .0, if1 .left), same-len-mid (lesser .result) (length (put-byte .last .0) - lesser .result) (put-byte .last .0) (spell .last .1 .1 .1 .1 .0) (spell .kept .1 .1 .1 .1 .0) ∙ put-byte .kept .0 ∙ loop .inv .1, step)
+    let step = upto-turn (args .nodes .now) (args .pool .now) (args .from) (args .end) (args .at) (args .out .now) (loop .i) (loop .k) (word .result)
+    (put-byte .result) (lesser .result) (spell .result) (put-byte .result + spell .result) (loop .out) (put-byte .last .0) (spell .last .1 .1 .1 .1 .0)
+    (loop .inv .2) (loop-test .taken) (word .ensures) (adds-byte (put-byte .ensures)) (lesser .ensures) (spell .ensures .1) (λ h. refl) in (
+      omega (arith, loop .inv .0, if1 .left),
+      same-len-mid (lesser .result) (length (put-byte .last .0) - lesser .result) (put-byte .last .0)
+          (spell .last .1 .1 .1 .1 .0) (spell .kept .1 .1 .1 .1 .0) ∙ put-byte .kept .0 ∙ loop .inv .1,
+      step,
+    )
 
 children-same-length-3 : (t : ℕ) → children-lts.Need-same-length-3 (children-calls t) (children-at t) children.Post children-Inv-loop children-μ-loop
 children-same-length-3 t c = c .before .loop .inv .1
@@ -163,22 +171,30 @@ spell-returns-2 t c =
     let word = c .before .before .before .before .before .before .before .word in
     let if2 = c .before .before .before .before .before .if2 in
     let string = c .before .before .before .string in
-    let put-quoted = c .before .before .put-quoted in
-    (put-quoted .ensures .0, text-spelled (args .nodes .now) (args .pool .now) (args .i) (args .end) (args .out .now) (word .result) (put-quoted .result) (string .result .now) (put-quoted .last .0) (word .ensures) (if2 .taken) (string .ensures) (put-quoted .ensures .1))
+    let put-quoted = c .before .before .put-quoted in (
+      put-quoted .ensures .0,
+      text-spelled (args .nodes .now) (args .pool .now) (args .i) (args .end) (args .out .now) (word .result) (put-quoted .result)
+          (string .result .now) (put-quoted .last .0) (word .ensures) (if2 .taken) (string .ensures) (put-quoted .ensures .1),
+    )
 
 spell-returns-3 : (t : ℕ) → spell-lts.Need-returns-3 (spell-calls t) (spell-at t) spell.Post
 spell-returns-3 t c =
-    let args = c .before .before .before .before .before .before .before .before .before .before .before .before .before .before .before .before .before .before .before .before .before .before .before .before .before .before .before .before .before .before .before .before .args in
-    let word = c .before .before .before .before .before .before .before .before .before .before .before .before .before .before .before .before .before .before .before .before .before .before .before .before .before .before .before .word in
-    let if2 = c .before .before .before .before .before .before .before .before .before .before .before .before .before .before .before .before .before .before .before .before .before .before .before .before .before .if2 in
-    let first-end = c .before .before .before .before .before .before .before .before .before .before .before .before .before .before .before .before .before .before .before .before .before .before .before .before .first-end in
-    let put-byte = c .before .before .before .before .before .before .before .before .before .before .before .before .before .before .before .before .before .before .before .before .before .before .put-byte in
-    let put-name = c .before .before .before .before .before .before .before .before .before .before .before .before .before .before .before .before .before .before .put-name in
+    let early = c .before .before .before .before .before .before .before .before .before .before .before .before .before .before .before .before .before .before in
+    let args = early .before .before .before .before .before .before .before .before .before .before .before .before .before .before .args in
+    let word = early .before .before .before .before .before .before .before .before .before .word in
+    let if2 = early .before .before .before .before .before .before .before .if2 in
+    let first-end = early .before .before .before .before .before .before .first-end in
+    let put-byte = early .before .before .before .before .put-byte in
+    let put-name = early .put-name in
     let children = c .before .before .before .before .before .before .before .before .before .before .before .before .before .before .children in
     let values = c .before .before .before .before .before .before .before .before .before .before .values in
     let children2 = c .before .before .before .before .before .before .children2 in
-    let put-byte2 = c .before .before .put-byte2 in
-    (sum-most _ _ (put-byte2 .ensures .0), element-spelled (args .nodes .now) (args .pool .now) (args .i) (args .end) (args .out .now) (word .result) (first-end .result) (word .ensures) (if2 .left) (first-end .ensures .2) (adds-byte (put-byte .ensures)) (put-name .ensures) (children .ensures) (values .ensures) (children2 .ensures) (adds-byte (put-byte2 .ensures)))
+    let put-byte2 = c .before .before .put-byte2 in (
+      sum-most _ _ (put-byte2 .ensures .0),
+      element-spelled (args .nodes .now) (args .pool .now) (args .i) (args .end) (args .out .now) (word .result)
+          (first-end .result) (word .ensures) (if2 .left) (first-end .ensures .2) (adds-byte (put-byte .ensures)) (put-name .ensures) (children .ensures)
+          (values .ensures) (children2 .ensures) (adds-byte (put-byte2 .ensures)),
+    )
 
 pub +children+spell-spec : {M : Type 1} → statement M
 +children+spell-spec = close μ-children μ-spell (λ t. children-lts.spec (children-calls t)

@@ -15,8 +15,12 @@ returns-2 : tie.Need-returns-2
 returns-2 c =
     let args = c .before .before .before .before .before .args in
     let word = c .before .before .word in
-    let is-titled = c .before .is-titled in
-    (omega arith, omega arith, first-untitled (args .nodes .now) (args .i) (args .end) (word .result) (is-titled .result) (word .ensures) (is-titled .ensures) (not-true (is-titled .result) (c .if2 .taken)))
+    let is-titled = c .before .is-titled in (
+      omega arith,
+      omega arith,
+      first-untitled (args .nodes .now) (args .i) (args .end) (word .result) (is-titled .result) (word .ensures) (is-titled .ensures)
+          (not-true (is-titled .result) (c .if2 .taken)),
+    )
 
 returns-3 : tie.Need-returns-3
 returns-3 c =
@@ -38,8 +42,12 @@ returns-5 c =
     let if1 = c .before .before .before .before .before .before .if1 in
     let word = c .before .before .before .before .before .word in
     let is-titled = c .before .before .before .before .is-titled in
-    let word2 = c .before .before .word2 in
-    (omega arith, omega arith, first-titled (args .nodes .now) (args .i) (args .end) (word .result) (is-titled .result) (word2 .result) (word .ensures) (is-titled .ensures) (not-false (is-titled .result) (c .before .before .before .if2 .left)) (word2 .ensures) (if1 .left))
+    let word2 = c .before .before .word2 in (
+      omega arith,
+      omega arith,
+      first-titled (args .nodes .now) (args .i) (args .end) (word .result) (is-titled .result) (word2 .result) (word .ensures)
+          (is-titled .ensures) (not-false (is-titled .result) (c .before .before .before .if2 .left)) (word2 .ensures) (if1 .left),
+    )
 
 pub first-end-spec : {M : Type 1} → statement M
 first-end-spec =

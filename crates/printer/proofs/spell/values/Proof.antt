@@ -22,7 +22,8 @@ returns-2 c =
     let word3 = c .before .before .before .before .before .before .before .before .before .word3 in
     let put-size = c .before .before .before .before .before .before .before .before .put-size in
     let string2 = c .before .before .before .string2 in
-    adds-as (values-as (key-class .result) (word .result) _ (string .result .now) _ (string2 .result .now) _ (word2 .result) _ (word3 .result) _ (key-class .ensures) (word .ensures) (string .ensures) (word2 .ensures) (word3 .ensures) (string2 .ensures))
+    adds-as (values-as (key-class .result) (word .result) _ (string .result .now) _ (string2 .result .now) _ (word2 .result) _ (word3 .result) _
+    (key-class .ensures) (word .ensures) (string .ensures) (word2 .ensures) (word3 .ensures) (string2 .ensures))
     (adds-join (put-value .ensures) (adds-join (put-size .ensures) (c .before .before .put-value2 .ensures)))
 
 pub values-spec : {M : Type 1} → statement M
