@@ -1,3 +1,4 @@
 pub mod Stored
 pub mod Parts
 pub mod Titled
+pub mod Stores

@@ -7,6 +7,7 @@ use Rattle.document.specs.rules.Document.{Node, node, Nodes, childless, child}
 use Rattle.document.specs.rules.Record.{recordLength}
 use Rattle.document.specs.rules.Table.{count, countAll, pool, offset}
 use Rattle.document.specs.reference.Printing.{part}
+use Rattle.table.specs.declared.record.Record.{Record}
 
 -- Word j of the record of node i, and 0 past the end.
 unfoldable pub wordAt : List ℕ → ℕ → ℕ → ℕ
@@ -15,6 +16,11 @@ wordAt words i j = getD words (recordLength * i + j) 0
 -- The string that words j and j + 1 of the record of node i name, as far as the pool has it.
 unfoldable pub stringAt : List ℕ → List ℕ → ℕ → ℕ → List ℕ
 stringAt words bytes i j = part bytes (wordAt words i j) (wordAt words i (j + 1))
+
+-- The words of a record, in their order.
+abbrev pub wordsOf : Record → List ℕ
+wordsOf r =
+    r .kind ∷ r .parent ∷ r .end ∷ r .key ∷ r .«key_length» ∷ r .typename ∷ r .«type_length» ∷ r .text ∷ r .«text_length» ∷ r .width ∷ r .height ∷ []
 
 -- The record of node i has these words.
 unfoldable pub Recorded : List ℕ → ℕ → List ℕ → Type 0

@@ -4,5 +4,4 @@ pub mod AnswerGroups
 pub mod ExpressionPlaces
 pub mod FaultPlaces
 pub mod Located
-pub mod PoolPlaces
 pub mod Promises

@@ -1,9 +1,9 @@
--- `reader::read` meets its contract: each way passes what the parts ensure to its lemma of `Promises`.
+-- `reader::read` meets its contract: each way passes what the parts ensure to its lemma of `Answered`.
 use mathlib.Core.Path.{sym, _∙_}
 use native.Mathlib.Omega.{arith}
 use denote.Ref.{now}
 use Rattle.document.specs.rules.Memory.{Memory}
-use Rattle.reader.proofs.lemmas.read.Promises.{room-few, group-fits, group-short, group-reads, walk-fits, walk-reads, full-reads, check-fits, filled-reads}
+use Rattle.reader.proofs.lemmas.read.Promises.{room-fits, group-fits, group-short, group-reads, walk-fits, walk-reads, full-reads, check-fits, filled-reads}
 use borrow.Author.Needs.{needs}
 use Rattle.reader.proofs.read.Statement.{statement}
 use Rattle.reader.proofs.read.Tie as tie
@@ -46,11 +46,10 @@ returns-3 c =
 
 fill-requires : tie.Need-fill-requires
 fill-requires c κs =
-    let c₁ = c .before .before .before .before .before .before .before .before in (
-      group-short _ _ _ _ (c₁ .before .before .before .before .first-groups .ensures) (c₁ .before .before .if1 .left),
-      room-few _ _ _ _ _
-          (sym (c .before .before .before .before .before .room .ensures) ∙ c .before .before .before .before .if3 .left),
-    )
+    let c₁ = c .before .before .before .before .before .before .before .before in
+    let (few, words, places) = room-fits _ _ _ _ _
+    (sym (c .before .before .before .before .before .room .ensures) ∙ c .before .before .before .before .if3 .left) in
+    (group-short _ _ _ _ (c₁ .before .before .before .before .first-groups .ensures) (c₁ .before .before .if1 .left), few, words, places)
 
 checked-requires : tie.Need-checked-requires
 checked-requires c κs =

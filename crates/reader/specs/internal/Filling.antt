@@ -1,5 +1,5 @@
 -- What the fill of a run of expressions leaves in the lent memory. It serves the contracts of private functions.
-use Prim.Native.Nat.{ℕ, _+_, _*_, _≤_}
+use Prim.Native.Nat.{ℕ, _+_, _*_, _≤_, _<_}
 use mathlib.Core.Path.{_≡_}
 use mathlib.Core.Bool.{cond}
 use mathlib.Core.List.{List, [], _∷_, _++_}
@@ -9,13 +9,11 @@ use lib.Seq.{sets}
 use Rattle.elements.specs.rules.Class as Class
 use Rattle.lexer.specs.Token.{atomValue}
 use Rattle.syntax.specs.rules.Expression.{Exprs}
-use Rattle.base.specs.rules.Limits.{missing}
+use Rattle.base.specs.rules.Limits.{mostBytes, mostNodes, missing}
 use Rattle.document.specs.rules.Document.{Nodes, sayAll}
 use Rattle.document.specs.reference.Meaning.{treesOf}
-use Rattle.document.specs.rules.Table.{poolAll, offset}
 use Rattle.document.specs.rules.Record.{recordLength}
-use Rattle.reader.specs.internal.TapeWord as Word
-use Rattle.reader.specs.internal.TapeWord.{nodeWords, mostWord}
+use Rattle.document.specs.rules.Table.{offset}
 use Rattle.reader.specs.declared.fill.Entry.{Entry}
 
 -- How far a fill has got: the numbers of the next node and the next pool byte, and the lent memory.
@@ -29,10 +27,6 @@ pub record Filling : Type 0 where
 -- The nodes that a run of expressions says.
 unfoldable pub saidBy : Exprs → Nodes
 saidBy es = sayAll (treesOf es)
-
--- Pool places that fit a word.
-unfoldable pub Fits32 : ℕ → Exprs → Type 0
-Fits32 bytes es = bytes + length (poolAll (saidBy es)) ≤ mostWord
 
 -- The bytes of the symbol or string that a word of the tape says the place of; none where it says none.
 unfoldable pub heldAt : List ℕ → ℕ → List ℕ
@@ -63,14 +57,14 @@ withRow at kind parent end width height key type text a = record {
 -- The entry of node n on the tape t.
 unfoldable pub entryAt : List ℕ → ℕ → Entry
 entryAt t n = record {
-  place = getD t (nodeWords * n) 0;
-  class = getD t (nodeWords * n + Word.class) 0;
-  parent = getD t (nodeWords * n + Word.parent) 0;
-  end = getD t (nodeWords * n + Word.end) 0;
-  key = getD t (nodeWords * n + Word.key) 0;
-  typename = getD t (nodeWords * n + Word.type) 0;
-  width = getD t (nodeWords * n + Word.width) 0;
-  height = getD t (nodeWords * n + Word.height) 0;
+  place = getD t (8 * n) 0;
+  class = getD t (8 * n + 1) 0;
+  parent = getD t (8 * n + 2) 0;
+  end = getD t (8 * n + 3) 0;
+  key = getD t (8 * n + 4) 0;
+  typename = getD t (8 * n + 5) 0;
+  width = getD t (8 * n + 6) 0;
+  height = getD t (8 * n + 7) 0;
 }
 
 -- The row of the next node of the text s from its entry: of a text, of an element, of either.
@@ -84,6 +78,14 @@ elementRow s e a =
 unfoldable pub nextRow : List ℕ → Entry → Filling → Filling
 nextRow s e a = cond (eqb (e .class) Class.text) (textRow s e a) (elementRow s e a)
 
--- From a to z a row was written, where the pool places fit a word.
-pub record Rowed (row : Filling → Filling) (a z : Filling) : Type 0 where
-  pub same : row a .bytes ≤ mostWord → z ≡ row a
+-- From a to z a row was written.
+abbrev pub Rowed : (Filling → Filling) → Filling → Filling → Type 0
+Rowed row a z = z ≡ row a
+
+-- In a text within the limits there is room for the row of the next node. A row has two strings of the text at most: so no place of the pool passes a word.
+pub record RoomFor (s : List ℕ) (a : Filling) : Type 0 where
+  pub short : length s ≤ mostBytes
+  pub few : a .node < mostNodes
+  pub words-within : recordLength * a .node + recordLength ≤ length (a .words)
+  pub places-within : a .node < length (a .places)
+  pub bytes-within : a .bytes ≤ 2 * mostBytes * a .node

@@ -1,10 +1,11 @@
--- `fill::fill` meets its contract. The loop's invariant: the rows of the entries passed are written.
-use Prim.Native.Nat.{_+_, _-_, _≤_}
-use mathlib.Core.Path.{_≡_, refl, _∙_}
+-- `fill::fill` meets its contract. The loop's invariant: the rows of the entries passed are written, each with two strings of the text at most.
+use Prim.Native.Nat.{_+_, _*_, _-_, _≤_}
+use mathlib.Core.Path.{_≡_, refl, ap, _∙_}
 use native.Mathlib.Omega.{arith}
 use lib.ListN.{length}
+use Rattle.base.specs.rules.Limits.{mostBytes}
 use Rattle.reader.specs.internal.Filling.{Filling}
-use Rattle.reader.proofs.lemmas.fill.Rows.{Written, written-none, written-on}
+use Rattle.reader.proofs.lemmas.fill.Rows.{rowsOf, row-grows, rows-on}
 use Rattle.reader.proofs.lemmas.fill.WholeDocument.{filled-whole}
 use Rattle.reader.proofs.fill.fill.Statement.{statement}
 use Rattle.reader.proofs.fill.fill.Tie as tie
@@ -15,20 +16,28 @@ Inv-loop text tape count nodes₀ places₀ pool₀ k₀ b₀ nodes places pool 
     × (length nodes ≡ length nodes₀)
     × (length places ≡ length places₀)
     × (length pool ≡ length pool₀)
-    × Written text tape k (record { node = 0; bytes = 0; words = nodes₀; places = places₀; pool = pool₀ })
-    (record { node = k; bytes = b; words = nodes; places = places; pool = pool })
+    × (b ≤ 2 * mostBytes * k)
+    × (_≡_ {A = Filling} (record { node = k; bytes = b; words = nodes; places = places; pool = pool })
+    (rowsOf text tape k (record { node = 0; bytes = 0; words = nodes₀; places = places₀; pool = pool₀ })))
 
 abbrev μ-loop : tie.MeasureT-loop
 μ-loop text tape count nodes₀ places₀ pool₀ k₀ b₀ nodes places pool k b = count - k
 
 loop-holds : tie.Need-loop-holds Inv-loop μ-loop
-loop-holds c = (omega arith, refl, refl, refl, written-none _ _ _)
+unfolding rowsOf
+loop-holds c = (omega arith, refl, refl, refl, omega arith, refl)
 
 entry-at-requires : tie.Need-entry-at-requires Inv-loop μ-loop
 entry-at-requires c κs = omega arith
 
 row-requires : tie.Need-row-requires Inv-loop μ-loop
-row-requires c κs = omega arith
+row-requires c κs = record {
+  short = omega arith;
+  few = omega arith;
+  words-within = omega arith;
+  places-within = omega arith;
+  bytes-within = omega arith;
+}
 
 add-k : tie.Need-add-k Inv-loop μ-loop
 add-k c = omega arith
@@ -56,8 +65,15 @@ loop-again c =
       o .kept .1 .1 .1 .1 .0 ∙ v .inv .1,
       o .kept .1 .1 .1 .1 .1 .0 ∙ v .inv .2,
       o .kept .1 .1 .1 .1 .1 .1 .0 ∙ v .inv .3,
-      written-on (g .text .now) (g .tape .now) (v .k) a m z (c₁ .before .before .entry-at .result) (c₁ .before .before .entry-at .ensures)
-          (v .inv .4) (o .ensures),
+      omega (
+        arith,
+        ap (λ (x : Filling). x .bytes) (o .ensures),
+        row-grows (g .text .now) (c₁ .before .before .entry-at .result) m .1,
+        v .inv .4,
+        c₂ .before .pre .0,
+      ),
+      rows-on (g .text .now) (g .tape .now) (v .k) a m z (c₁ .before .before .entry-at .result) (c₁ .before .before .entry-at .ensures)
+          (v .inv .5) (o .ensures),
     )
 
 same-length : tie.Need-same-length Inv-loop μ-loop
@@ -75,7 +91,7 @@ returns c =
     let v = c .before .loop in
     let a : Filling = record { node = 0; bytes = 0; words = g .nodes .now; places = g .places .now; pool = g .pool .now } in
     let z : Filling = record { node = v .k; bytes = v .b; words = v .nodes; places = v .places; pool = v .pool } in
-    λ e t o f l is n fits. filled-whole (g .text .now) (g .tape .now) (v .k) a z refl refl (omega arith) (v .inv .4) e t o f l is (omega arith) fits
+    λ e t o f l is n. filled-whole (g .text .now) (g .tape .now) (v .k) a z refl refl (omega arith) (v .inv .5) e t o f l is (omega arith)
 
 pub fill-spec : {M : Type 1} → statement M
 fill-spec =

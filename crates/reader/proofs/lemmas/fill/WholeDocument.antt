@@ -16,8 +16,8 @@ use Rattle.document.specs.rules.Table.{pool, poolAll, rowsAll, tableOf}
 use Rattle.document.proofs.Blocks.{root-document}
 use Rattle.reader.specs.internal.Counts.{nodeCount}
 use Rattle.reader.specs.internal.Tape.{taped, Located}
-use Rattle.reader.specs.internal.Filling.{Filling, saidBy, Fits32}
-use Rattle.reader.proofs.lemmas.fill.Rows.{rowsOf, Written}
+use Rattle.reader.specs.internal.Filling.{Filling, saidBy}
+use Rattle.reader.proofs.lemmas.fill.Rows.{rowsOf}
 use Rattle.reader.proofs.lemmas.fill.RunWrites.{WroteRun}
 use Rattle.reader.proofs.lemmas.fill.DocumentRows.{wrote-one}
 
@@ -46,13 +46,10 @@ root-whole e a z n b c w = (
   w .pool-is ∙ rw (b, root-said e (root-node e c), append-nil),
 )
 
-pub filled-whole : (s T : List ℕ) (k : ℕ) (a z : Filling) → a .node ≡ 0 → a .bytes ≡ 0 → k ≤ 4096 → Written s T k a z → (e : Expr) (t : List ℕ)
-    → Located s e → judgeRoot e ≡ fine → length t ≡ 32768 → T ≡ taped t 0 missing e → k ≡ nodeCount e → Fits32 0 (and e none) → WroteDocument e a z
-unfolding Fits32
-filled-whole s T k a z n b few w e t o f l is c fits =
+pub filled-whole : (s T : List ℕ) (k : ℕ) (a z : Filling) → a .node ≡ 0 → a .bytes ≡ 0 → k ≤ 4096 → z ≡ rowsOf s T k a → (e : Expr) (t : List ℕ)
+    → Located s e → judgeRoot e ≡ fine → length t ≡ 32768 → T ≡ taped t 0 missing e → k ≡ nodeCount e → WroteDocument e a z
+filled-whole s T k a z n b few w e t o f l is c =
     let r = root-document e f in
     let v : WroteRun missing (and e none) a (rowsOf s T (nodeCount e) a) =
     wrote-one s T e 0 t 0 missing a n (omega arith) (λ i h h′. ap (λ (u : List ℕ). getD u i 0) is) o (r .1) in
-    let v′ : WroteRun missing (and e none) a (rowsOf s T k a) = rw c v in
-    let i : z ≡ rowsOf s T k a = w .same (omega (arith, v′ .pooled)) in
-    root-whole e a z n b (r .0) (rw i v′)
+    root-whole e a z n b (r .0) (rw (w, c) v)

@@ -10,6 +10,7 @@ use Rattle.base.proofs.Booleans.{true-T}
 use lib.Dec.{ltb}
 use lib.ListN.{length, length-append, take, drop, getD, replicate, length-replicate, List·getD-append, List·getD-eq-default}
 use lib.Seq.{sets, sets-eq, take-at}
+use Rattle.base.specs.rules.Limits.{mostNodes}
 use Rattle.syntax.specs.rules.Expression.{Expr, none, and}
 use Rattle.document.specs.rules.Document.{Node, says, Document}
 use Rattle.document.specs.rules.Spelling.{Spelling, mostLevels}
@@ -39,9 +40,7 @@ use Rattle.reader.specs.internal.FirstGroups.{groupNumber, groupPlace, r
 use Rattle.reader.specs.Read.{SameAnswer, Reads}
 use Rattle.reader.specs.internal.Counts.{nodeCount}
 use Rattle.reader.specs.internal.Tape.{taped, Located}
-use Rattle.reader.specs.internal.Filling.{Fits32}
 use Rattle.reader.proofs.lemmas.walk.Counts.{nodes-places}
-use Rattle.reader.proofs.lemmas.read.PoolPlaces.{read-fits}
 use Rattle.reader.proofs.lemmas.read.Located.{form-located}
 use Rattle.reader.proofs.lemmas.read.FaultPlaces.{Placed}
 use Rattle.reader.proofs.lemmas.read.AnswerBounds.{group-place, place-list-within, read-placed, walk-within}
@@ -62,14 +61,15 @@ module _ (words places bytes n p : ℕ) where
   unfolding roomNumber
   room-enough h g = rw (le-ltb (min 4096 (min (words / recordLength) places)) n h, le-ltb bytes p g)
 
-  -- Where there is room, the nodes are few.
-  pub room-few : roomNumber words places bytes n p ≡ 0 → n ≤ 4096
+  -- Where there is room, the nodes are few and fit what is lent.
+  pub room-fits : roomNumber words places bytes n p ≡ 0 → (n ≤ mostNodes) × (recordLength * n ≤ words) × (n ≤ places)
   unfolding roomNumber
-  room-few = go (ltb (min 4096 (min (words / recordLength) places)) n) refl
+  room-fits = go (ltb (min 4096 (min (words / recordLength) places)) n) refl
     where
-      go : (a : Bool) → ltb (min 4096 (min (words / recordLength) places)) n ≡ a → _≡_ {A = ℕ} (cond a 13 (cond (ltb bytes p) 14 0)) 0 → n ≤ 4096
+      go : (a : Bool) → ltb (min 4096 (min (words / recordLength) places)) n ≡ a → _≡_ {A = ℕ} (cond a 13 (cond (ltb bytes p) 14 0)) 0
+          → (n ≤ mostNodes) × (recordLength * n ≤ words) × (n ≤ places)
       go true e z = absurd (omega arith)
-      go false e z = omega (arith, ltb-false (min 4096 (min (words / recordLength) places)) n e)
+      go false e z = let h = ltb-false (min 4096 (min (words / recordLength) places)) n e in (omega (arith, h), omega (arith, h), omega (arith, h))
 
 -- ---- the ways through `checked`
 
@@ -224,7 +224,7 @@ filled-written m exit e (a, b, c) = rw (← a, ← b, ← c)
 
 abbrev pub Fills : List ℕ → List ℕ → ℕ → Memory → Memory → Type 0
 Fills text tape n m exit =
-    (e : Expr) (t : List ℕ) → Located text e → judgeRoot e ≡ fine → length t ≡ 32768 → tape ≡ taped t 0 4294967295 e → n ≡ nodeCount e → Fits32 0 (and e none)
+    (e : Expr) (t : List ℕ) → Located text e → judgeRoot e ≡ fine → length t ≡ 32768 → tape ≡ taped t 0 4294967295 e → n ≡ nodeCount e
     → Filled m exit e
 
 -- ---- the ways through a read
@@ -315,8 +315,7 @@ module _ (s : Spelling) (text : List ℕ) (m : Memory) where
               filled-written m exit (found .expr)
               (fills (found .expr) blankTape (form-located s text (passed .es) (found .expr) (found .form) (passed .stands) (found .fine-root)) (found .fine-root) long
               (tapes (passed .es) (found .expr) (found .form) (passed .stands) (passed .shallow) z′ long)
-              (found .nodes-are ∙ sym (root-places (found .expr) (found .fine-root)) ∙ nodes-places (found .expr))
-              (read-fits s text (passed .es) (passed .stands) (passed .short) (found .expr) (found .reads)))
+              (found .nodes-are ∙ sym (root-places (found .expr) (found .fine-root)) ∙ nodes-places (found .expr)))
 
           few-bytes : w .pool ≤ 65536
           few-bytes = walk-fits s text n p group z w judges .2

@@ -4,13 +4,14 @@ use mathlib.Core.Path.{_≡_, refl, ap, _∙_}
 use mathlib.Core.List.{List, [], _∷_}
 use native.Mathlib.Omega.{arith}
 use lib.Dec.{eqb}
-use lib.ListN.{length, length-append}
+use lib.ListN.{length, length-append, getD, drop, length-drop}
 use Rattle.base.proofs.Booleans.{cond-case}
 use Rattle.syntax.specs.rules.Syntax.{Piece, raw, letter, number, pieceBefore, piecesBefore, isPiece, pieceValue, piecesValue}
 use Rattle.syntax.specs.reference.Scan.{Quoted, closed, unclosed, bad-escape, piece, escapeAt, quotedFrom}
 use Rattle.lexer.specs.Token.{StringEnd, stringEnd, stringAt, contentOf, atomValue}
 use Rattle.syntax.proofs.Strings.{piece-append}
 use Rattle.lexer.proofs.PieceAt.{piece-few}
+use Rattle.lexer.proofs.Blanks.{run-fits}
 use Rattle.lexer.proofs.Contents.{content-anywhere}
 
 -- ---- what a string stands for is no longer than its spelling
@@ -109,3 +110,20 @@ string-good n b s h = end-good n (quotedFrom 0 (n + 1) s) h
 pub string-value : (n : ℕ) (s : List ℕ) → stringAt n (0x22 ∷ s) .number ≡ 0 → stringAt n (0x22 ∷ s) .length ≡ length (atomValue (0x22 ∷ s))
 unfolding stringAt atomValue
 string-value n s e = end-content n (quotedFrom 0 (n + 1) s) e ∙ ap length (content-anywhere s (n + 1) 1)
+
+-- ---- a symbol or string stands for no more bytes than the text has from its place on
+
+content-short : (m : ℕ) (q : Quoted) → QuotedWithin m 0 q → length (contentOf q) ≤ m
+unfolding QuotedWithin contentOf
+content-short m (closed ps) h = omega (arith, values-length ps)
+content-short m unclosed h = omega arith
+content-short m (bad-escape p) h = omega arith
+
+atom-short : (s : List ℕ) → length (atomValue s) ≤ length s
+unfolding atomValue
+atom-short s =
+    cond-case (λ (v : List ℕ). length v ≤ length s) (eqb (getD s 0 0) 0x22)
+    (λ e. omega (arith, content-short (length (drop 1 s)) (quotedFrom 0 1 (drop 1 s)) (quoted-within 0 1 (drop 1 s)), length-drop 1 s)) (λ e. run-fits s)
+
+pub atom-within : (s : List ℕ) (i : ℕ) → length (atomValue (drop i s)) ≤ length s
+atom-within s i = omega (arith, atom-short (drop i s), length-drop i s)
