@@ -213,9 +213,6 @@ module _ (s : Spelling) (text : List ℕ) (es : Exprs) (st : RunStands text 0 es
   pub read-placed : (e : Expr) → oneExpression s (length text) es ≡ read e → Placed (length text) e
   read-placed e o = (rw o at reading-within) .0
 
-  pub read-weight : (e : Expr) → oneExpression s (length text) es ≡ read e → weight e ≤ length text
-  read-weight e o = (rw o at reading-within) .1
-
   -- The place and both counts are within the text.
   pub walk-within : (w : Walked) → w ≡ readWalked (oneExpression s (length text) es)
       → (w .place ≤ length text) × (w .nodes ≤ length text) × (w .pool ≤ length text)
