@@ -13,44 +13,44 @@ use Rattle.syntax.specs.rules.Syntax.{Piece, raw, piecesBefore, piecesValue}
 use Rattle.syntax.specs.reference.Scan.{Quoted, closed, unclosed, bad-escape, quotedFrom, escapeAt, ordinaryRun, Scanned, refused, scanned}
 
 -- The numbers of the classes of bytes, as the code has them (src/class.rt).
-abbrev pub blankClass : ℕ
-blankClass = 0
+abbrev pub blankCode : ℕ
+blankCode = 0
 
-abbrev pub returnClass : ℕ
-returnClass = 1
+abbrev pub returnCode : ℕ
+returnCode = 1
 
-abbrev pub quoteClass : ℕ
-quoteClass = 2
+abbrev pub quoteCode : ℕ
+quoteCode = 2
 
-abbrev pub forbiddenClass : ℕ
-forbiddenClass = 3
+abbrev pub forbiddenCode : ℕ
+forbiddenCode = 3
 
-abbrev pub ordinaryClass : ℕ
-ordinaryClass = 4
+abbrev pub ordinaryCode : ℕ
+ordinaryCode = 4
 
-abbrev pub roundClass : ℕ
-roundClass = 5
+abbrev pub roundCode : ℕ
+roundCode = 5
 
-abbrev pub squareClass : ℕ
-squareClass = 6
+abbrev pub squareCode : ℕ
+squareCode = 6
 
-abbrev pub roundEndClass : ℕ
-roundEndClass = 7
+abbrev pub roundEndCode : ℕ
+roundEndCode = 7
 
-abbrev pub squareEndClass : ℕ
-squareEndClass = 8
+abbrev pub squareEndCode : ℕ
+squareEndCode = 8
 
 -- A number for each class of bytes.
 unfoldable pub codeOf : ByteClass → ℕ
-codeOf blank = blankClass
-codeOf return = returnClass
-codeOf quote = quoteClass
-codeOf forbidden = forbiddenClass
-codeOf ordinary = ordinaryClass
-codeOf (opening round) = roundClass
-codeOf (opening square) = squareClass
-codeOf (closing round) = roundEndClass
-codeOf (closing square) = squareEndClass
+codeOf blank = blankCode
+codeOf return = returnCode
+codeOf quote = quoteCode
+codeOf forbidden = forbiddenCode
+codeOf ordinary = ordinaryCode
+codeOf (opening round) = roundCode
+codeOf (opening square) = squareCode
+codeOf (closing round) = roundEndCode
+codeOf (closing square) = squareEndCode
 
 -- How many bytes of white space stand at the front. U+000D counts where U+000A follows, which counts itself.
 unfoldable pub blanks : List ℕ → ℕ

@@ -7,7 +7,7 @@ use lib.ListN.{length, getD}
 use Rattle.base.specs.rules.Numbers as Number
 use Rattle.syntax.specs.rules.Byte.{Bracket, round, square}
 use Rattle.syntax.specs.rules.Syntax.{Piece, isPiece, pieceBefore, pieceValue}
-use Rattle.lexer.specs.Token.{returnClass, quoteClass, forbiddenClass, roundClass, roundEndClass, squareEndClass, StringEnd, stringAt}
+use Rattle.lexer.specs.Token.{returnCode, quoteCode, forbiddenCode, roundCode, roundEndCode, squareEndCode, StringEnd, stringAt}
 
 -- How many bytes a piece takes, and those that it stands for; nothing for what is no piece.
 unfoldable pub pieceLength : Piece → ℕ
@@ -43,12 +43,12 @@ pastString e = record { number = e .number; place = e .place; next = e .next }
 -- By the class of the byte at place n, with which the bytes s begin. A symbol is gone through byte by byte, and so is the end of a line.
 unfoldable pub passedAt : ℕ → ℕ → List ℕ → Passed
 passedAt class n s =
-    cond (eqb class returnClass) (cond (eqb (getD s 1 0) 0x0A) (goesOn n) (stops n))
-    (cond (eqb class quoteClass) (pastString (stringAt n s)) (cond (eqb class forbiddenClass) (stops n) (goesOn n)))
+    cond (eqb class returnCode) (cond (eqb (getD s 1 0) 0x0A) (goesOn n) (stops n))
+    (cond (eqb class quoteCode) (pastString (stringAt n s)) (cond (eqb class forbiddenCode) (stops n) (goesOn n)))
 
 -- The bracket of an opening byte's class, and whether a closing byte of a class is its partner.
 unfoldable pub bracketOf : ℕ → Bracket
-bracketOf class = cond (eqb class roundClass) round square
+bracketOf class = cond (eqb class roundCode) round square
 
 unfoldable pub closesIt : ℕ → ℕ → Bool
-closesIt opened class = cond (eqb opened roundClass) (eqb class roundEndClass) (eqb class squareEndClass)
+closesIt opened class = cond (eqb opened roundCode) (eqb class roundEndCode) (eqb class squareEndCode)
