@@ -20,14 +20,10 @@ loop-holds c = λ x b. rw (c .word .ensures) b
 
 returns : tie.Need-returns Inv-loop μ-loop
 returns c =
-    let args-call = c .before .before .before .before .before .before .before .args in
-    let loop-call = c .before .before .before .before .loop in
-    let word2-call = c .before .before .before .word2 in
-    let if1-call = c .before .before .if1 in
-    let args = args-call in
-    let loop = loop-call in
-    let word2 = word2-call in
-    let if1 = if1-call in
+    let args = c .before .before .before .before .before .before .before .args in
+    let loop = c .before .before .before .before .loop in
+    let word2 = c .before .before .before .word2 in
+    let if1 = c .before .before .if1 in
     let word3 = c .before .word3 in
     λ x b.
     let (l, r) = up (args .nodes .now) (loop .a) x (sym (word2 .ensures) ∙ if1 .taken) (loop .inv x b) in
@@ -38,14 +34,10 @@ loop-less c = omega arith
 
 loop-again : tie.Need-loop-again Inv-loop μ-loop
 loop-again c =
-    let args-call = c .before .before .before .before .before .before .before .args in
-    let loop-call = c .before .before .before .before .loop in
-    let word2-call = c .before .before .before .word2 in
-    let if1-call = c .before .before .if1 in
-    let args = args-call in
-    let loop = loop-call in
-    let word2 = word2-call in
-    let if1 = if1-call in
+    let args = c .before .before .before .before .before .before .before .args in
+    let loop = c .before .before .before .before .loop in
+    let word2 = c .before .before .before .word2 in
+    let if1 = c .before .before .if1 in
     let word3 = c .before .word3 in
     λ x b. rw (word3 .ensures) (up (args .nodes .now) (loop .a) x (sym (word2 .ensures) ∙ if1 .taken) (loop .inv x b) .1)
 

@@ -14,20 +14,15 @@ returns c =
 
 first-repeated-requires : tie.Need-first-repeated-requires
 first-repeated-requires c κs =
-    let pre-call = c .before .before .before .before .before .before .before .pre in
-    let args-call = c .before .before .before .before .before .before .before .args in
-    let pre = pre-call in
-    let args = args-call in
+    let pre = c .before .before .before .before .before .before .before .pre in
+    let args = c .before .before .before .before .before .before .before .args in
     (pre .0, pre .1, none-entered (args .nodes .now) (args .pool .now))
 
 returns-2 : tie.Need-returns-2
 returns-2 c =
-    let first-bad-row-call = c .before .before .before .before .before .before .before .before .first-bad-row in
-    let enum-told-call = c .before .before .before .before .before .before .enum-told in
-    let first-repeated-call = c .before .before .before .first-repeated in
-    let first-bad-row = first-bad-row-call in
-    let enum-told = enum-told-call in
-    let first-repeated = first-repeated-call in
+    let first-bad-row = c .before .before .before .before .before .before .before .before .first-bad-row in
+    let enum-told = c .before .before .before .before .before .before .enum-told in
+    let first-repeated = c .before .before .before .first-repeated in
     let id = c .before .id in
     λ d h.
     answer-16 _ _ _ d h _ (first-bad-row .ensures) (enum-told .given .1) _
@@ -35,26 +30,18 @@ returns-2 c =
 
 first-unknown-requires : tie.Need-first-unknown-requires
 first-unknown-requires c κs =
-    let pre-call = c .before .before .before .before .before .before .before .before .before .before .before .before .pre in
-    let first-repeated-call = c .before .before .before .before .first-repeated in
-    let enum-told2-call = c .before .before .enum-told2 in
-    let first-repeated = first-repeated-call in
-    let enum-told2 = enum-told2-call in
-    let pre = pre-call in
+    let pre = c .before .before .before .before .before .before .before .before .before .before .before .before .pre in
+    let first-repeated = c .before .before .before .before .first-repeated in
+    let enum-told2 = c .before .before .enum-told2 in
     (pre .1, first-repeated .ensures .1 (enum-told2 .given .1))
 
 returns-3 : tie.Need-returns-3
 returns-3 c =
-    let first-bad-row-call = c .before .before .before .before .before .before .before .before .before .before .before .before .before .first-bad-row in
-    let enum-told-call = c .before .before .before .before .before .before .before .before .before .before .before .enum-told in
-    let first-repeated-call = c .before .before .before .before .before .before .before .before .first-repeated in
-    let enum-told2-call = c .before .before .before .before .before .before .enum-told2 in
-    let first-unknown-call = c .before .before .before .first-unknown in
-    let first-bad-row = first-bad-row-call in
-    let enum-told = enum-told-call in
-    let first-repeated = first-repeated-call in
-    let enum-told2 = enum-told2-call in
-    let first-unknown = first-unknown-call in
+    let first-bad-row = c .before .before .before .before .before .before .before .before .before .before .before .before .before .first-bad-row in
+    let enum-told = c .before .before .before .before .before .before .before .before .before .before .before .enum-told in
+    let first-repeated = c .before .before .before .before .before .before .before .before .first-repeated in
+    let enum-told2 = c .before .before .before .before .before .before .enum-told2 in
+    let first-unknown = c .before .before .before .first-unknown in
     let link = c .before .link in
     λ d h.
     answer-17 _ _ _ d h _ (first-bad-row .ensures) (enum-told .given .1) _
@@ -63,29 +50,22 @@ returns-3 c =
 
 first-unknown-requires-2 : tie.Need-first-unknown-requires-2
 first-unknown-requires-2 c κs =
-    let pre-call = c .before .before .before .before .before .before .before .before .before .before .before .before .before .before .before .before .before .pre in
-    let first-repeated-call = c .before .before .before .before .before .before .before .before .before .first-repeated in
-    let enum-told2-call = c .before .before .before .before .before .before .before .enum-told2 in
-    let first-repeated = first-repeated-call in
-    let enum-told2 = enum-told2-call in
-    let pre = pre-call in
+    let pre = c .before .before .before .before .before .before .before .before .before .before .before .before .before .before .before .before .before .pre in
+    let first-repeated = c .before .before .before .before .before .before .before .before .before .first-repeated in
+    let enum-told2 = c .before .before .before .before .before .before .before .enum-told2 in
     (pre .1, first-repeated .ensures .1 (enum-told2 .given .1))
 
 returns-4 : tie.Need-returns-4
 returns-4 c =
     let before = c .before .before .before .before .before .before .before .before .before .before .before .before .before in
-    let enum-told2-call = c .before .before .before .before .before .before .before .before .before .before .before .enum-told2 in
-    let first-unknown-call = c .before .before .before .before .before .before .before .before .first-unknown in
-    let enum-told3-call = c .before .before .before .before .before .before .enum-told3 in
-    let first-unknown2-call = c .before .before .before .first-unknown2 in
+    let enum-told2 = c .before .before .before .before .before .before .before .before .before .before .before .enum-told2 in
+    let first-unknown = c .before .before .before .before .before .before .before .before .first-unknown in
+    let enum-told3 = c .before .before .before .before .before .before .enum-told3 in
+    let first-unknown2 = c .before .before .before .first-unknown2 in
     let repeated = before in
     let first-bad-row = repeated .before .before .before .before .before .first-bad-row in
     let enum-told = repeated .before .before .before .enum-told in
     let first-repeated = repeated .first-repeated in
-    let enum-told2 = enum-told2-call in
-    let first-unknown = first-unknown-call in
-    let enum-told3 = enum-told3-call in
-    let first-unknown2 = first-unknown2-call in
     let note = c .before .note in
     λ d h.
     answer-18 _ _ _ d h _ (first-bad-row .ensures) (enum-told .given .1) _
@@ -96,18 +76,14 @@ returns-4 c =
 returns-5 : tie.Need-returns-5
 returns-5 c =
     let before = c .before .before .before .before .before .before .before .before .before .before .before .before in
-    let enum-told2-call = c .before .before .before .before .before .before .before .before .before .before .enum-told2 in
-    let first-unknown-call = c .before .before .before .before .before .before .before .first-unknown in
-    let enum-told3-call = c .before .before .before .before .before .enum-told3 in
-    let first-unknown2-call = c .before .before .first-unknown2 in
+    let enum-told2 = c .before .before .before .before .before .before .before .before .before .before .enum-told2 in
+    let first-unknown = c .before .before .before .before .before .before .before .first-unknown in
+    let enum-told3 = c .before .before .before .before .before .enum-told3 in
+    let first-unknown2 = c .before .before .first-unknown2 in
     let repeated = before in
     let first-bad-row = repeated .before .before .before .before .before .first-bad-row in
     let enum-told = repeated .before .before .before .enum-told in
     let first-repeated = repeated .first-repeated in
-    let enum-told2 = enum-told2-call in
-    let first-unknown = first-unknown-call in
-    let enum-told3 = enum-told3-call in
-    let first-unknown2 = first-unknown2-call in
     λ d h.
     answer-sound _ _ _ d h _ (first-bad-row .ensures) (enum-told .given .1) _
     (first-repeated .ensures .0) (enum-told2 .given .1) _

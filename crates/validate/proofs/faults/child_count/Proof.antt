@@ -26,14 +26,10 @@ loop-holds c =
 
 returns-2 : tie.Need-returns-2 Inv-loop μ-loop
 returns-2 c =
-    let args-call = c .before .before .before .before .before .before .before .args in
-    let word-call = c .before .before .before .before .before .word in
-    let loop-call = c .before .before .before .loop in
-    let loop-test-call = c .before .before .loop-test in
-    let args = args-call in
-    let word = word-call in
-    let loop = loop-call in
-    let loop-test = loop-test-call in
+    let args = c .before .before .before .before .before .before .before .args in
+    let word = c .before .before .before .before .before .word in
+    let loop = c .before .before .before .loop in
+    let loop-test = c .before .before .loop-test in
     let word2 = c .before .word2 in
     λ ns f.
     let (l, r) = counted-on (args .nodes .now) (args .i) (word .result) ns (loop .at) (loop .n) (loop .inv .1 ns f) (loop-test .taken) in
@@ -41,14 +37,10 @@ returns-2 c =
 
 loop-again : tie.Need-loop-again Inv-loop μ-loop
 loop-again c =
-    let args-call = c .before .before .before .before .before .before .before .args in
-    let word-call = c .before .before .before .before .before .word in
-    let loop-call = c .before .before .before .loop in
-    let loop-test-call = c .before .before .loop-test in
-    let args = args-call in
-    let word = word-call in
-    let loop = loop-call in
-    let loop-test = loop-test-call in
+    let args = c .before .before .before .before .before .before .before .args in
+    let word = c .before .before .before .before .before .word in
+    let loop = c .before .before .before .loop in
+    let loop-test = c .before .before .loop-test in
     let word2 = c .before .word2 in (
       omega arith,
       λ ns f.

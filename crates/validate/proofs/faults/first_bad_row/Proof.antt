@@ -31,12 +31,9 @@ row-differs-requires c κs = sym (kind-read _ _) ∙ c .if1 .taken
 returns : tie.Need-returns Inv-loop μ-loop
 unfolding found
 returns c =
-    let args-call = c .before .before .before .before .before .before .before .args in
-    let loop-call = c .before .before .before .before .before .loop in
-    let loop-test-call = c .before .before .before .before .loop-test in
-    let args = args-call in
-    let loop = loop-call in
-    let loop-test = loop-test-call in
+    let args = c .before .before .before .before .before .before .before .args in
+    let loop = c .before .before .before .before .before .loop in
+    let loop-test = c .before .before .before .before .loop-test in
     let row-differs = c .before .row-differs in
     λ f s.
     let t = search-step (args .nodes .now) (args .count) (loop .i) f (loop-test .taken) (loop .inv f s) in
@@ -45,12 +42,9 @@ returns c =
 
 loop-again : tie.Need-loop-again Inv-loop μ-loop
 loop-again c =
-    let args-call = c .before .before .before .before .before .args in
-    let loop-call = c .before .before .before .loop in
-    let loop-test-call = c .before .before .loop-test in
-    let args = args-call in
-    let loop = loop-call in
-    let loop-test = loop-test-call in
+    let args = c .before .before .before .before .before .args in
+    let loop = c .before .before .before .loop in
+    let loop-test = c .before .before .loop-test in
     λ f s.
     let t = search-step (args .nodes .now) (args .count) (loop .i) f (loop-test .taken) (loop .inv f s) in
     t .on (⊎-elim (λ w. sym (w .1 .ensures (t .test) (t .spot)) ∙ w .2 .left)

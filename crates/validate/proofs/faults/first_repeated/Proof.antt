@@ -34,21 +34,16 @@ cast-if1 c = omega (arith, c .shared-slice-known3 .given (11 * c .before .before
 
 repeats-requires : tie.Need-repeats-requires Inv-loop μ-loop
 repeats-requires c κs =
-    let pre-call = c .before .before .before .before .before .before .before .before .pre in
-    let loop-call = c .before .before .before .before .before .loop in
-    let loop-test-call = c .before .before .before .before .loop-test in
-    let pre = pre-call in
-    let loop = loop-call in
-    let loop-test = loop-test-call in
+    let pre = c .before .before .before .before .before .before .before .before .pre in
+    let loop = c .before .before .before .before .before .loop in
+    let loop-test = c .before .before .before .before .loop-test in
     (omega (arith, pre .0, loop-test .taken), loop .inv .1)
 
 returns : tie.Need-returns Inv-loop μ-loop
 unfolding found
 returns c =
-    let loop-call = c .before .before .before .before .before .before .before .loop in
-    let loop-test-call = c .before .before .before .before .before .before .loop-test in
-    let loop = loop-call in
-    let loop-test = loop-test-call in
+    let loop = c .before .before .before .before .before .before .before .loop in
+    let loop-test = c .before .before .before .before .before .before .loop-test in
     let repeats = c .before .repeats in (
       ap found (sym (repeated-here _ _ _ _ (loop-test .taken) (sym (repeats .ensures .0) ∙ c .if2 .taken)) ∙ loop .inv .2),
       λ e. let z : _≡_ {A = ℕ} 0 1 = cc in absurd (omega arith),
@@ -56,14 +51,10 @@ returns c =
 
 loop-again : tie.Need-loop-again Inv-loop μ-loop
 loop-again c =
-    let args-call = c .before .before .before .before .before .before .args in
-    let pre-call = c .before .before .before .before .before .before .pre in
-    let loop-call = c .before .before .before .loop in
-    let loop-test-call = c .before .before .loop-test in
-    let args = args-call in
-    let pre = pre-call in
-    let loop = loop-call in
-    let loop-test = loop-test-call in
+    let args = c .before .before .before .before .before .before .args in
+    let pre = c .before .before .before .before .before .before .pre in
+    let loop = c .before .before .before .loop in
+    let loop-test = c .before .before .loop-test in
     let turn : (repeatsAt (args .nodes .now) (args .pool .now) (loop .i) ≡ false)
     × Indexed (args .nodes .now) (args .pool .now) (loop .i + 1) (c .if1 .heads) (c .if1 .nexts) =
     ⊎-elim (λ w. (sym (w .3 .ensures .0) ∙ w .4 .left, rw (w .5, w .6) (w .3 .ensures .1 (w .4 .left))))

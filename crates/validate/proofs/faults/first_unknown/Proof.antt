@@ -33,10 +33,8 @@ dangles-requires c κs = (sym (kind-read _ _) ∙ c .if1 .taken, c .before .befo
 returns : tie.Need-returns Inv-loop μ-loop
 unfolding found
 returns c =
-    let loop-call = c .before .before .before .before .before .loop in
-    let loop-test-call = c .before .before .before .before .loop-test in
-    let loop = loop-call in
-    let loop-test = loop-test-call in
+    let loop = c .before .before .before .before .before .loop in
+    let loop-test = c .before .before .before .before .loop-test in
     let dangles = c .before .dangles in
     ap found (sym (unknown-here _ _ _ _ _ _ (loop-test .taken) (sym (dangles .ensures) ∙ c .if2 .taken)) ∙ loop .inv)
 

@@ -27,12 +27,9 @@ loop-holds c =
 returns-2 : tie.Need-returns-2 Inv-loop μ-loop
 unfolding cellsFound
 returns-2 c =
-    let loop-call = c .before .before .before .before .loop in
-    let loop-test-call = c .before .before .before .loop-test in
-    let word2-call = c .before .before .word2 in
-    let loop = loop-call in
-    let loop-test = loop-test-call in
-    let word2 = word2-call in
+    let loop = c .before .before .before .before .loop in
+    let loop-test = c .before .before .before .loop-test in
+    let word2 = c .before .before .word2 in
     let if2 = c .before .if2 in
     λ ns f.
     let (ms, g, e) = sought-head _ _ _ ns _ (loop .inv ns f) (loop-test .taken) (sym (word2 .ensures) ∙ if2 .taken) in
@@ -40,27 +37,19 @@ returns-2 c =
 
 returns-3 : tie.Need-returns-3 Inv-loop μ-loop
 returns-3 c =
-    let loop-call = c .before .before .before .before .before .loop in
-    let loop-test-call = c .before .before .before .before .loop-test in
-    let word2-call = c .before .before .before .word2 in
-    let if2-call = c .before .before .if2 in
-    let loop = loop-call in
-    let loop-test = loop-test-call in
-    let word2 = word2-call in
-    let if2 = if2-call in
+    let loop = c .before .before .before .before .before .loop in
+    let loop-test = c .before .before .before .before .loop-test in
+    let word2 = c .before .before .before .word2 in
+    let if2 = c .before .before .if2 in
     let word3 = c .before .word3 in
     λ ns f. absurd (omega (arith, sought-on _ _ _ ns _ (loop .inv ns f) (loop-test .taken) (λ k. if2 .left (word2 .ensures ∙ k)) .0, word3 .ensures))
 
 loop-again : tie.Need-loop-again Inv-loop μ-loop
 loop-again c =
-    let loop-call = c .before .before .before .before .before .loop in
-    let loop-test-call = c .before .before .before .before .loop-test in
-    let word2-call = c .before .before .before .word2 in
-    let if2-call = c .before .before .if2 in
-    let loop = loop-call in
-    let loop-test = loop-test-call in
-    let word2 = word2-call in
-    let if2 = if2-call in
+    let loop = c .before .before .before .before .before .loop in
+    let loop-test = c .before .before .before .before .loop-test in
+    let word2 = c .before .before .before .word2 in
+    let if2 = c .before .before .if2 in
     let word3 = c .before .word3 in
     λ ns f. rw (word3 .ensures) (sought-on _ _ _ ns _ (loop .inv ns f) (loop-test .taken) (λ k. if2 .left (word2 .ensures ∙ k)) .1)
 

@@ -22,14 +22,10 @@ returns c =
 
 returns-2 : tie.Need-returns-2
 returns-2 c =
-    let args-call = c .before .before .before .before .before .before .before .before .before .before .args in
-    let has-id-call = c .before .before .before .before .before .before .before .has-id in
-    let if1-call = c .before .before .before .before .before .before .if1 in
-    let string-call = c .before .before .before .before .before .string in
-    let args = args-call in
-    let has-id = has-id-call in
-    let if1 = if1-call in
-    let string = string-call in
+    let args = c .before .before .before .before .before .before .before .before .before .before .args in
+    let has-id = c .before .before .before .before .before .before .before .has-id in
+    let if1 = c .before .before .before .before .before .before .if1 in
+    let string = c .before .before .before .before .before .string in
     let known = c .before .known in
     let h : hasId (entryOfNode (args .nodes .now) (args .pool .now) (args .i)) ≡ true =
     sym (any-block (args .nodes .now) (args .pool .now) (args .i)) ∙ (sym (has-id .ensures) ∙ not-false _ (if1 .left)) in
@@ -37,30 +33,20 @@ returns-2 c =
 
 enter-requires : tie.Need-enter-requires
 enter-requires c κs =
-    let pre-call = c .before .before .before .before .before .before .before .before .before .before .before .before .pre in
-    let slot-call = c .before .before .before .before .before .before .slot in
-    let pre = pre-call in
-    let slot = slot-call in
+    let pre = c .before .before .before .before .before .before .before .before .before .before .before .before .pre in
+    let slot = c .before .before .before .before .before .before .slot in
     (rw (slot .ensures) (slot-below _), pre .0)
 
 returns-3 : tie.Need-returns-3
 returns-3 c =
-    let args-call = c .before .before .before .before .before .before .before .before .before .before .before .before .before .args in
-    let pre-call = c .before .before .before .before .before .before .before .before .before .before .before .before .before .pre in
-    let has-id-call = c .before .before .before .before .before .before .before .before .before .before .has-id in
-    let if1-call = c .before .before .before .before .before .before .before .before .before .if1 in
-    let string-call = c .before .before .before .before .before .before .before .before .string in
-    let slot-call = c .before .before .before .before .before .before .before .slot in
-    let known-call = c .before .before .before .before .known in
-    let if2-call = c .before .before .before .if2 in
-    let args = args-call in
-    let pre = pre-call in
-    let has-id = has-id-call in
-    let if1 = if1-call in
-    let string = string-call in
-    let slot = slot-call in
-    let known = known-call in
-    let if2 = if2-call in
+    let args = c .before .before .before .before .before .before .before .before .before .before .before .before .before .args in
+    let pre = c .before .before .before .before .before .before .before .before .before .before .before .before .before .pre in
+    let has-id = c .before .before .before .before .before .before .before .before .before .before .has-id in
+    let if1 = c .before .before .before .before .before .before .before .before .before .if1 in
+    let string = c .before .before .before .before .before .before .before .before .string in
+    let slot = c .before .before .before .before .before .before .before .slot in
+    let known = c .before .before .before .before .known in
+    let if2 = c .before .before .before .if2 in
     let h : hasId (entryOfNode (args .nodes .now) (args .pool .now) (args .i)) ≡ true =
     sym (any-block (args .nodes .now) (args .pool .now) (args .i)) ∙ (sym (has-id .ensures) ∙ not-false _ (if1 .left)) in (
       rw (h, ← string .ensures) (sym (if2 .left) ∙ known .ensures),

@@ -16,16 +16,12 @@ returns c =
 
 returns-2 : tie.Need-returns-2
 returns-2 c =
-    let pre-call = c .before .before .before .before .before .before .before .pre in
-    let binder-call = c .before .before .before .before .before .binder in
+    let pre = c .before .before .before .before .before .before .before .pre in
+    let binder = c .before .before .before .before .before .binder in
     let word = c .before .before .before .before .word in
-    let if1-call = c .before .before .before .if1 in
-    let head-names-call = c .before .before .head-names in
-    let binder = binder-call in
+    let if1 = c .before .before .before .if1 in
+    let head-names = c .before .before .head-names in
     let kind = word in
-    let if1 = if1-call in
-    let head-names = head-names-call in
-    let pre = pre-call in
     λ b s.
     spot-no-head _ _ b s pre _
     (binder .ensures) (sym (kind .ensures) ∙ if1 .left) _
@@ -33,18 +29,13 @@ returns-2 c =
 
 returns-3 : tie.Need-returns-3
 returns-3 c =
-    let pre-call = c .before .before .before .before .before .before .before .before .before .pre in
-    let binder-call = c .before .before .before .before .before .before .before .binder in
+    let pre = c .before .before .before .before .before .before .before .before .before .pre in
+    let binder = c .before .before .before .before .before .before .before .binder in
     let word = c .before .before .before .before .before .before .word in
-    let if1-call = c .before .before .before .before .before .if1 in
-    let head-names-call = c .before .before .before .before .head-names in
-    let names-call = c .before .before .names in
-    let binder = binder-call in
+    let if1 = c .before .before .before .before .before .if1 in
+    let head-names = c .before .before .before .before .head-names in
+    let names = c .before .before .names in
     let kind = word in
-    let if1 = if1-call in
-    let head-names = head-names-call in
-    let names = names-call in
-    let pre = pre-call in
     λ b s.
     spot-head _ _ b s pre _
     (binder .ensures) (sym (kind .ensures) ∙ if1 .left) _

@@ -24,23 +24,19 @@ returns-2 c =
 
 returns-3 : tie.Need-returns-3
 returns-3 c =
-    let args-call = c .before .before .before .before .before .before .before .args in
+    let args = c .before .before .before .before .before .before .before .args in
     let word = c .before .before .before .before .word in
-    let args = args-call in
     let kind = word in
     let if3 = c .before .if3 in
     sym (other-kind (args .nodes .now) (args .pool .now) (args .only) (args .i) (if3 .taken) (λ e. c .if4 .taken (e ∙ sym (kind .ensures))))
 
 returns-4 : tie.Need-returns-4
 returns-4 c =
-    let args-call = c .before .before .before .before .before .before .before .args in
+    let args = c .before .before .before .before .before .before .before .args in
     let word = c .before .before .before .before .word in
-    let if1-call = c .before .before .before .if1 in
-    let if2-call = c .before .before .if2 in
-    let args = args-call in
+    let if1 = c .before .before .before .if1 in
+    let if2 = c .before .before .if2 in
     let kind = word in
-    let if1 = if1-call in
-    let if2 = if2-call in
     let if3 = c .before .if3 in
     let k = wordAt (args .nodes .now) (args .i) 0 in
     let b : isBlock k ≡ true = a-block k (rw (kind .ensures) at (if1 .left)) (rw (kind .ensures) at (if2 .left)) in
