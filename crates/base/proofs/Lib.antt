@@ -4,3 +4,4 @@ pub mod Tables
 pub mod Stores
 pub mod Copied
 pub mod Adding
+pub mod EqualBytes

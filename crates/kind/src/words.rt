@@ -1,33 +1,18 @@
 // A name's length and one or two of its bytes leave one word that it can be, and it is compared with that.
 use super::Keyword;
 use super::Kind;
+use base::equal;
 ghost use mathlib.Core.Path.{_≡_};
 ghost use mathlib.Core.Bool.{cond};
 ghost use lib.ListN.{length};
 ghost use Rattle.elements.specs.rules.Bytes.{same};
 ghost use Rattle.elements.specs.rules.Class.{classOf};
 
-fn is(name: &[u8], word: &[u8]) -> bool
-    ensures { λ r. ⌜ r ≡ same (now (name .entry)) (now (word .entry)) ⌝ }
-{
-    if name.len() != word.len() {
-        return false;
-    }
-    let mut i = 0;
-    while i < name.len() {
-        if name[i] != word[i] {
-            return false;
-        }
-        i += 1;
-    }
-    true
-}
-
 // The class where the name is the word, else 0.
 pub fn if_is(name: &[u8], word: &[u8], class: u8) -> u8
     ensures { λ r. ⌜ r ≡ cond (same (now (name .entry)) (now (word .entry))) class 0 ⌝ }
 {
-    if is(name, word) {
+    if equal(name, word) {
         return class;
     }
     0

@@ -1,5 +1,6 @@
 // An index of the ids of blocks, so that faults 16 to 18 take no pass over the nodes for each id.
 // Each id has a slot; there are as many slots as a table may have nodes. `heads` has the last node of each slot, and `nexts` the one before each node in its slot: its number + 1, or 0 for none.
+use base::equal;
 use base::limit::MOST_NODES;
 use kind::Kind;
 use table::KEY;
@@ -12,7 +13,6 @@ ghost use Prim.Native.Nat.{_+_, _<_};
 ghost use lib.ListN.{set, getD};
 ghost use Rattle.base.specs.rules.Limits.{mostNodes};
 ghost use Rattle.document.specs.rules.Record as Word;
-ghost use Rattle.elements.specs.rules.Bytes.{same};
 ghost use Rattle.document.specs.reference.Check.{isAmong, hasId};
 ghost use Rattle.table.specs.Stored.{wordAt};
 ghost use Rattle.validate.specs.internal.TableWords.{entryOfNode, wanted, idsBefore};
@@ -36,22 +36,6 @@ pub fn slot(id: &[u8]) -> usize
         i += 1;
     }
     h % MOST_NODES
-}
-
-fn equal(a: &[u8], b: &[u8]) -> bool
-    ensures { λ r. ⌜ r ≡ same (now (a .entry)) (now (b .entry)) ⌝ }
-{
-    if a.len() != b.len() {
-        return false;
-    }
-    let mut i = 0;
-    while i < a.len() {
-        if a[i] != b[i] {
-            return false;
-        }
-        i += 1;
-    }
-    true
 }
 
 // Whether node `i` is a block with an id, and of the kind `only` where that is not 0.

@@ -5,6 +5,7 @@ use mathlib.Core.Logic.{⊎-elim}
 use native.Mathlib.Omega.{arith}
 use borrow.Author.Needs.{needs}
 use Rattle.elements.specs.rules.Bytes.{same}
+use Rattle.elements.proofs.Same.{same-told}
 use Rattle.document.specs.reference.Check.{isAmong}
 use Rattle.validate.specs.internal.TableWords.{idsBefore}
 use Rattle.validate.proofs.lemmas.index.BlockIds.{known-here, known-other, known-none, known-end}
@@ -39,70 +40,49 @@ loop-holds c = left-first _ _ _ _ _ _ _ (c .before .before .before .before .pre 
 
 returns : tie.Need-returns Inv-loop μ-loop
 returns c =
-    let args-call = c .before .before .before .before .before .before .before .before .before .before .before .args in
-    let loop-call = c .before .before .before .before .before .before .loop in
-    let loop-test-call = c .before .before .before .before .before .loop-test in
-    let has-id-call = c .before .before .before .before .has-id in
-    let if1-call = c .before .before .before .if1 in
-    let string-call = c .before .before .string in
-    let args = args-call in
-    let loop = loop-call in
-    let loop-test = loop-test-call in
-    let has-id = has-id-call in
-    let if1 = if1-call in
-    let string = string-call in
+    let args = c .before .before .before .before .before .before .before .before .before .before .before .args in
+    let loop = c .before .before .before .before .before .before .loop in
+    let loop-test = c .before .before .before .before .before .loop-test in
+    let has-id = c .before .before .before .before .has-id in
+    let if1 = c .before .before .before .if1 in
+    let string = c .before .before .string in
     let equal = c .before .equal in
     sym (known-here _ _ _ _ _ (loop-test .taken) (sym (has-id .ensures) ∙ if1 .taken)
-    (sym (ap (same (args .id .now)) (string .ensures)) ∙ (sym (equal .ensures) ∙ c .if2 .taken))) ∙ loop .inv .among
+    (sym (ap (same (args .id .now)) (string .ensures)) ∙ (sym (same-told _ _ _ (equal .ensures)) ∙ c .if2 .taken))) ∙ loop .inv .among
 
 mul-j-2 : tie.Need-mul-j-2 Inv-loop μ-loop
 mul-j-2 c =
-    let pre-call = c .before .before .before .before .before .before .before .before .pre in
-    let loop-call = c .before .before .before .loop in
-    let pre = pre-call in
-    let loop = loop-call in
+    let pre = c .before .before .before .before .before .before .before .before .pre in
+    let loop = c .before .before .before .loop in
     omega (arith, pre .1 .few, loop .inv .within)
 
 element-copy-out-j-2 : tie.Need-element-copy-out-j-2 Inv-loop μ-loop
 element-copy-out-j-2 c =
-    let pre-call = c .before .before .before .before .before .before .before .before .pre in
-    let loop-call = c .before .before .before .loop in
-    let pre = pre-call in
-    let loop = loop-call in
+    let pre = c .before .before .before .before .before .before .before .before .pre in
+    let loop = c .before .before .before .loop in
     omega (arith, pre .1 .few, loop .inv .within)
 
 cast-j-2 : tie.Need-cast-j-2 Inv-loop μ-loop
 cast-j-2 c =
-    let pre-call = c .before .before .before .before .before .before .before .before .before .pre in
-    let loop-call = c .before .before .before .before .loop in
-    let loop-test-call = c .before .before .before .loop-test in
-    let pre = pre-call in
-    let loop = loop-call in
-    let loop-test = loop-test-call in
+    let pre = c .before .before .before .before .before .before .before .before .before .pre in
+    let loop = c .before .before .before .before .loop in
+    let loop-test = c .before .before .before .loop-test in
     omega (arith, pre .1 .few, loop .inv .within, next-below _ _ _ _ _ _ _ (pre .1) _ (loop-test .taken) (loop .inv))
 
 loop-less : tie.Need-loop-less Inv-loop μ-loop
 loop-less c =
-    let pre-call = c .before .before .before .before .before .before .before .before .before .pre in
-    let loop-call = c .before .before .before .before .loop in
-    let loop-test-call = c .before .before .before .loop-test in
-    let pre = pre-call in
-    let loop = loop-call in
-    let loop-test = loop-test-call in
+    let pre = c .before .before .before .before .before .before .before .before .before .pre in
+    let loop = c .before .before .before .before .loop in
+    let loop-test = c .before .before .before .loop-test in
     next-below _ _ _ _ _ _ _ (pre .1) _ (loop-test .taken) (loop .inv)
 
 loop-again : tie.Need-loop-again Inv-loop μ-loop
 loop-again c =
-    let args-call = c .before .before .before .before .before .before .before .before .before .args in
-    let pre-call = c .before .before .before .before .before .before .before .before .before .pre in
-    let loop-call = c .before .before .before .before .loop in
-    let loop-test-call = c .before .before .before .loop-test in
-    let has-id-call = c .before .before .has-id in
-    let args = args-call in
-    let pre = pre-call in
-    let loop = loop-call in
-    let loop-test = loop-test-call in
-    let has-id = has-id-call in
+    let args = c .before .before .before .before .before .before .before .before .before .args in
+    let pre = c .before .before .before .before .before .before .before .before .before .pre in
+    let loop = c .before .before .before .before .loop in
+    let loop-test = c .before .before .before .loop-test in
+    let has-id = c .before .before .has-id in
     let if1 = c .before .if1 in
     let words = args .nodes .now in
     let bytes = args .pool .now in
@@ -111,7 +91,7 @@ loop-again c =
     let j = loop .j in
     let e : isAmong id (idsBefore words bytes only (j - 1)) ≡ isAmong id (idsBefore words bytes only j) =
     ⊎-elim (λ w. known-other words bytes id only j (loop-test .taken) (sym (has-id .ensures) ∙ w .0 .taken)
-    (sym (ap (same id) (w .1 .ensures)) ∙ (sym (w .2 .ensures) ∙ w .3 .left)))
+    (sym (ap (same id) (w .1 .ensures)) ∙ (sym (same-told _ _ _ (w .2 .ensures)) ∙ w .3 .left)))
     (λ w. known-none words bytes id only j (loop-test .taken) (sym (has-id .ensures) ∙ w .left)) (if1 .came) in
     left-next _ _ _ _ _ _ _ (pre .1) _ (loop-test .taken) (loop .inv) e
 
