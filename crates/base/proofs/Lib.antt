@@ -1,4 +1,4 @@
--- Laws that every crate cites: of conditions, of whole tables, of stores, and of pieces written one after another.
+-- Laws that every crate cites: of conditions, whole tables, stores, pieces written one after another, and the comparison of two lists.
 pub mod Booleans
 pub mod Tables
 pub mod Stores

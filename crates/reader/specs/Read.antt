@@ -5,7 +5,7 @@ use Prim.Native.Nat.{ℕ}
 use Rattle.document.specs.rules.Spelling.{Spelling}
 use Rattle.document.specs.rules.Memory as Defined
 use Rattle.document.specs.reference.Outcome.{outcome}
-use Rattle.document.specs.rules.Memory.{Memory, Outcome}
+use Rattle.document.specs.rules.Memory.{Memory}
 use Rattle.reader.specs.declared.Answer.{Answer}
 
 -- The answer that a function gives is the definition's.
@@ -21,11 +21,3 @@ pub record SameAnswer (a : Defined.Answer) (r : Answer) : Type 0 where
 pub record Reads (s : Spelling) (text : List ℕ) (m : Memory) (r : Answer) (exit : Memory) : Type 0 where
   pub answers : SameAnswer (outcome s text m .answer) r
   pub leaves : exit ≡ outcome s text m .memory
-
--- The outcome of a call: what it answered and what it left in the lent memory.
-unfoldable pub called : Answer → Memory → Outcome
-called r exit =
-    record {
-      answer = record { number = r .number; place = r .place; line = r .line; column = r .column; nodes = r .nodes; pool = r .pool };
-      memory = exit;
-    }

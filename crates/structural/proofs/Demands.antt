@@ -18,9 +18,9 @@ use Rattle.document.proofs.PrintAccount.{print-answers, print-answers-only}
 use Rattle.printer.specs.declared.Printed.{Printed}
 use Rattle.printer.specs.Prints.{Prints}
 use Rattle.reader.specs.declared.Answer.{Answer}
-use Rattle.reader.specs.Read.{Reads, called}
-use Rattle.reader.proofs.Called.{called-as}
-use Rattle.structural.specs.Demands.{Demand-1, Unaltered, Demand-3, One-document, Same-document, Print-account, Demand-2, Refused-exactly, Read-printed}
+use Rattle.reader.specs.Read.{Reads}
+use Rattle.structural.specs.Demands.{called, Demand-1, Unaltered, Demand-3, One-document, Same-document, Print-account, Demand-2, Refused-exactly, Read-printed}
+use Rattle.structural.proofs.Called.{called-as}
 use Rattle.structural.proofs.PrintedTables as Tables
 
 -- A call of `read_nested` or `read_imperative`.

@@ -29,10 +29,10 @@ use Rattle.document.proofs.RoundTrip.{canonical-spelling, readable-back, printa
 use Rattle.printer.specs.declared.Printed.{Printed}
 use Rattle.printer.specs.Prints.{Prints}
 use Rattle.reader.specs.declared.Answer.{Answer}
-use Rattle.reader.specs.Read.{Reads, called}
-use Rattle.reader.proofs.Called.{called-as}
+use Rattle.reader.specs.Read.{Reads}
 use Rattle.reader.proofs.Pools.{pool-within}
-use Rattle.structural.specs.Demands.{printed, Wrote, ReadBack, Demand-2, Refused-exactly}
+use Rattle.structural.specs.Demands.{called, printed, Wrote, ReadBack, Demand-2, Refused-exactly}
+use Rattle.structural.proofs.Called.{called-as}
 
 -- A spelling is written, or the output is too short: never 20.
 written-not-20 : (s out : List ℕ) → written s out .number ≡ Number.not-a-table → ⊥

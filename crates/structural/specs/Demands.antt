@@ -20,7 +20,15 @@ use Rattle.document.specs.rules.Draft.{Holds}
 use Rattle.document.specs.rules.PrintAccount.{PrintAnswers}
 use Rattle.printer.specs.declared.Printed.{Printed}
 use Rattle.reader.specs.declared.Answer.{Answer}
-use Rattle.reader.specs.Read.{Reads, called}
+use Rattle.reader.specs.Read.{Reads}
+
+-- The outcome of a call of either reading function: what it answered and what it left in the lent memory.
+unfoldable pub called : Answer → Memory → Outcome
+called r exit =
+    record {
+      answer = record { number = r .number; place = r .place; line = r .line; column = r .column; nodes = r .nodes; pool = r .pool };
+      memory = exit;
+    }
 
 -- Demand 1. "Every text gets an answer": the account tells what the call answered and left, number by number, and nothing else that it tells is so.
 abbrev pub Demand-1 : Spelling → List ℕ → Memory → Answer → Memory → Type 0

@@ -5,8 +5,9 @@ use Prim.Native.Nat.{ℕ}
 use Rattle.document.specs.rules.Spelling.{Spelling}
 use Rattle.document.specs.rules.Memory.{Memory}
 use Rattle.document.specs.reference.Outcome.{outcome}
 use Rattle.reader.specs.declared.Answer.{Answer}
-use Rattle.reader.specs.Read.{Reads, called}
+use Rattle.reader.specs.Read.{Reads}
+use Rattle.structural.specs.Demands.{called}
 
 pub called-as : (s : Spelling) (text : List ℕ) (m : Memory) (r : Answer) (exit : Memory) → Reads s text m r exit → called r exit ≡ outcome s text m
 unfolding called
