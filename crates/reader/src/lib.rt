@@ -22,7 +22,8 @@ ghost use Rattle.document.specs.reference.Check.{check};
 ghost use Rattle.document.specs.rules.Spelling.{nested, imperative, mostLevels};
 ghost use Rattle.document.specs.rules.Memory.{answerAt};
 ghost use Rattle.validate.specs.CheckNumbers.{checkNumber};
-ghost use Rattle.reader.specs.internal.TableCheck.{checkPlace, Held};
+ghost use Rattle.document.specs.rules.Draft.{Holds};
+ghost use Rattle.reader.specs.internal.TableCheck.{checkPlace};
 ghost use Rattle.reader.specs.internal.FirstGroups.{groupNumber, groupPlace, roomNumber};
 ghost use Rattle.reader.specs.internal.JudgedText.{spelled, JudgesText, TapeOfText};
 ghost use Rattle.reader.specs.Read.{SameAnswer, Reads};
@@ -117,7 +118,7 @@ fn room(words: usize, places: usize, bytes: usize, nodes: usize, pool: usize) ->
 // The check of a table that was filled, 15 to 18 at the place of their node, or 0.
 fn checked(nodes: &[u32], places: &[u32], pool: &[u8], count: usize, bytes: usize) -> Group
     requires { ⌜ (count ≤ mostBytes) × (bytes ≤ mostBytes) ⌝ }
-    ensures { λ r. ⌜ ((d : Node) → Held (now (nodes .entry)) count (now (pool .entry)) bytes d
+    ensures { λ r. ⌜ ((d : Node) → Holds (now (nodes .entry)) count (now (pool .entry)) bytes d
         → (r .number ≡ checkNumber (check d)) × (r .place ≡ checkPlace (now (places .entry)) (check d))) ⌝ }
 {
     let c = validate::check(nodes, count as u32, pool, bytes as u32);

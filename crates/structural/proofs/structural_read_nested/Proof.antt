@@ -9,7 +9,9 @@ returns : tie.Need-returns
 returns c = read-short nested _ _ _ (c .if1 .taken)
 
 returns-2 : tie.Need-returns-2
-returns-2 c = read-whole nested _ _ _ (c .before .before .before .before .before .before .before .before .before .before .before .before .before .before .if1 .left) _ _ (c .before .before .before .before .before .before .before .before .before .before .read-nested .ensures) _ (c .before .before .put-answer .ensures)
+returns-2 c =
+    let read = c .before .before .before .before .before .before .before .before .before .before in
+    read-whole nested _ _ _ (read .before .before .before .before .if1 .left) _ _ (read .read-nested .ensures) _ (c .before .before .put-answer .ensures)
 
 pub structural-read-nested-spec : {M : Type 1} → statement M
 structural-read-nested-spec =

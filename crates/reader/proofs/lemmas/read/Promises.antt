@@ -34,7 +34,8 @@ use Rattle.validate.specs.declared.Checked.{Checked}
 use Rattle.reader.specs.declared.Answer.{Answer}
 use Rattle.reader.specs.declared.walk.Walked.{Walked}
 use Rattle.reader.specs.internal.WalkAnswer.{readWalked}
-use Rattle.reader.specs.internal.TableCheck.{checkPlace, Held}
+use Rattle.document.specs.rules.Draft.{Holds}
+use Rattle.reader.specs.internal.TableCheck.{checkPlace}
 use Rattle.reader.specs.internal.JudgedText.{JudgesText, TapeOfText}
 use Rattle.reader.specs.internal.FirstGroups.{groupNumber, groupPlace, roomNumber}
 use Rattle.reader.specs.Read.{SameAnswer, Reads}
@@ -74,7 +75,7 @@ module _ (words places bytes n p : ℕ) where
 -- ---- the ways through `checked`
 
 -- The check of a table that holds a document answers of that document.
-pub document-checked : (words : List ℕ) (n : ℕ) (bytes : List ℕ) (m : ℕ) (r : Checked) → Checks (checking words n bytes m) r → (d : Node) → Held words n bytes m d
+pub document-checked : (words : List ℕ) (n : ℕ) (bytes : List ℕ) (m : ℕ) (r : Checked) → Checks (checking words n bytes m) r → (d : Node) → Holds words n bytes m d
     → (r .number ≡ checkNumber (check d)) × (r .node ≡ checkNode (check d))
 unfolding checkNumber checkNode checkedAs
 document-checked words n bytes m r c d h =
@@ -146,7 +147,7 @@ module _ (text : List ℕ) (m : Memory) (ps : List ℕ) (d : Node) where
     written-over =
         rw (sets-over (m .nodes) (tableOf d) (omega (arith, table-length d)), sets-over (m .places) ps (omega arith), sets-over (m .pool) (pool d) bytes)
 
-    written-holds : Document d → treeLevels (layout d) ≤ 64 → length (pool d) ≤ 65536 → Held (written m ps d .nodes) (count d) (written m ps d .pool) (length (pool d)) d
+    written-holds : Document d → treeLevels (layout d) ≤ 64 → length (pool d) ≤ 65536 → Holds (written m ps d .nodes) (count d) (written m ps d .pool) (length (pool d)) d
     unfolding over nodeRoom
     written-holds doc levels short =
         let words = ap (λ (x : Memory). x .nodes) written-over in
@@ -234,7 +235,8 @@ module _ (s : Spelling) (text : List ℕ) (m : Memory) where
   reads-of a exit r e h = record { answers = rw e h; leaves = rw e }
 
   -- After the judge, over the expression that it found.
-  module _ (e : Expr) (ok : judgeRoot e ≡ fine) (doc : Document (says (treeOf e))) (levels : treeLevels (layout (says (treeOf e))) ≤ 64) (goes-on : outcome s text m ≡ stored text m (places e) (says (treeOf e)))
+  module _ (e : Expr) (ok : judgeRoot e ≡ fine) (doc : Document (says (treeOf e)))
+      (levels : treeLevels (layout (says (treeOf e))) ≤ 64) (goes-on : outcome s text m ≡ stored text m (places e) (says (treeOf e)))
       (nodes bytes : ℕ) (nodes-are : nodes ≡ count (says (treeOf e))) (bytes-are : bytes ≡ length (pool (says (treeOf e))))
       (f : ℕ) (room : f ≡ roomNumber (length (m .nodes)) (length (m .places)) (length (m .pool)) nodes bytes) where
     abbrev d : Node
@@ -250,7 +252,7 @@ module _ (s : Spelling) (text : List ℕ) (m : Memory) where
 
     module _ (y : f ≡ 0) (exit : Memory) (exit-is : exit ≡ written m (places e) d) (number place : ℕ)
         (short : bytes ≤ 65536)
-        (checks : (d : Node) → Held (exit .nodes) nodes (exit .pool) bytes d
+        (checks : (d : Node) → Holds (exit .nodes) nodes (exit .pool) bytes d
         → (number ≡ checkNumber (check d)) × (place ≡ checkPlace (exit .places) (check d))) where
       room-enough-for : (stored text m (places e) d ≡ checked text m (places e) d (check d)) × (count d ≤ nodeRoom m) × (length (pool d) ≤ length (m .pool))
       room-enough-for = stored-fits text m (places e) d (sym room-is ∙ y)
@@ -258,7 +260,7 @@ module _ (s : Spelling) (text : List ℕ) (m : Memory) where
       check-is : (number ≡ checkNumber (check d)) × (place ≡ checkPlace (places e) (check d))
       check-is =
           let (q, few, fit) = room-enough-for in
-          let holds : Held (exit .nodes) nodes (exit .pool) bytes d
+          let holds : Holds (exit .nodes) nodes (exit .pool) bytes d
           = rw (exit-is, nodes-are, bytes-are) (written-holds text m (places e) d few fit (root-places e ok) doc levels (rw bytes-are at short)) in
           let (a, b) = checks d holds in
           (a, b ∙ ap (λ (x : Memory). checkPlace (x .places) (check d)) exit-is ∙ checked-place text m (places e) d few fit (root-places e ok))
@@ -308,7 +310,7 @@ module _ (s : Spelling) (text : List ℕ) (m : Memory) where
 
         module _ (y : f ≡ 0) (exit : Memory) (tape : List ℕ) (tapes : TapeOfText s text (w .number) blankTape tape)
             (fills : Fills text tape (w .nodes) m exit) (number place : ℕ)
-            (checks : (d : Node) → Held (exit .nodes) (w .nodes) (exit .pool) (w .pool) d
+            (checks : (d : Node) → Holds (exit .nodes) (w .nodes) (exit .pool) (w .pool) d
             → (number ≡ checkNumber (check d)) × (place ≡ checkPlace (exit .places) (check d))) where
           exit-is : exit ≡ written m (places (found .expr)) (says (treeOf (found .expr)))
           exit-is =
