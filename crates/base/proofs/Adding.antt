@@ -8,8 +8,7 @@ use lib.Dec.{leb}
 use lib.ListN.{length, take, drop, set, length-append}
 use lib.Seq.{sets}
 use borrow.Author.Tests.{leb-true, le-leb, lt-leb}
-use Rattle.base.specs.rules.Limits.{greatestWord}
-use Rattle.base.specs.Adds.{wordSum, Adds}
+use Rattle.base.specs.Adds.{greatestWord, wordSum, Adds}
 use Rattle.base.proofs.Booleans.{cond-case}
 use Rattle.base.proofs.Stores.{sets-append, sets-lesser}
 

@@ -6,7 +6,10 @@ use mathlib.Core.List.{List}
 use lib.Dec.{leb}
 use lib.ListN.{length}
 use lib.Seq.{sets}
-use Rattle.base.specs.rules.Limits.{greatestWord}
+
+-- The greatest number of a word of 32 bits.
+abbrev pub greatestWord : ℕ
+greatestWord = 4294967295
 
 -- The sum of two numbers where it fits a word of 32 bits, and else 0.
 unfoldable pub wordSum : ℕ → ℕ → ℕ

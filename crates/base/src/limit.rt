@@ -8,6 +8,3 @@ pub const MOST_NODES: usize = 4096;
 pub const NESTED_LEVELS: usize = 64;
 
 pub const IMPERATIVE_LEVELS: usize = 59;
-
-// The greatest number of a word of 32 bits.
-pub const GREATEST_WORD: usize = 4294967295;

@@ -7,7 +7,8 @@ use borrow.Author.Tests.{lt-ltb, le-ltb}
 use lib.Dec.{ltb, leb→le}
 use lib.ListN.{length, take}
 use lib.Seq.{sets}
-use Rattle.base.specs.rules.Limits.{missing, greatestWord}
+use Rattle.base.specs.rules.Limits.{missing}
+use Rattle.base.specs.Adds.{greatestWord}
 use Rattle.base.proofs.Stores.{sets-front}
 use Rattle.document.specs.rules.Document.{Node}
 use Rattle.document.specs.rules.Record.{recordLength}

@@ -13,7 +13,8 @@ use Rattle.elements.specs.rules.Bytes.{codes}
 use Rattle.elements.specs.rules.Class.{Named, nameOf, nameIn, names, as-name}
 use Rattle.elements.specs.rules.Class as Class
 use Rattle.elements.specs.rules.Rules.{ruleOf}
-use Rattle.base.specs.rules.Limits.{missing, greatestWord}
+use Rattle.base.specs.rules.Limits.{missing}
+use Rattle.base.specs.Adds.{greatestWord}
 use Rattle.document.specs.rules.Document.{Node, node, Nodes, childless, child}
 use Rattle.document.specs.rules.Table.{count, countAll, pool, poolAll}
 use Rattle.document.specs.rules.Canonical.{nodeFirst, keyClass, unicodeBefore, byteBefore, bytesBefore, quotedBefore, digits, stringBefore, canonical}

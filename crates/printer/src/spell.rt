@@ -35,8 +35,7 @@ ghost use Rattle.document.specs.rules.Record as Word;
 ghost use Rattle.document.specs.rules.Table.{count, countAll};
 ghost use Rattle.document.specs.rules.Canonical.{nodeFirst, canonical};
 ghost use Rattle.table.specs.Stored.{wordAt, Stored, StoredAll};
-ghost use Rattle.base.specs.rules.Limits.{greatestWord};
-ghost use Rattle.base.specs.Adds.{Adds};
+ghost use Rattle.base.specs.Adds.{greatestWord, Adds};
 ghost use Rattle.table.specs.Stored.{stringAt};
 ghost use Rattle.printer.specs.internal.Inside.{Valueless, insideAll, valuesInside, childrenFirst};
 

@@ -65,7 +65,7 @@ fn offset_word(at: usize, length: usize) -> u32
     at as u32
 }
 
-// Writes what stands at the place that a word of the tape says, or nothing where it says none. SameAnswer its length.
+// Writes what stands at the place that a word of the tape says, or nothing where it says none. Answers its length.
 fn put_held(text: &[u8], place: u32, pool: &mut [u8], at: usize) -> usize
     requires { ⌜ length (now text) ≤ mostBytes ⌝ }
     ensures { λ r. ⌜ (r ≤ mostBytes) × (r ≡ length (heldAt (now (text .entry)) place))
@@ -77,7 +77,7 @@ fn put_held(text: &[u8], place: u32, pool: &mut [u8], at: usize) -> usize
     put_atom(text, place as usize, pool, at)
 }
 
-// The row of a text. SameAnswer the next place in the pool.
+// The row of a text. Answers the next place in the pool.
 fn text_row(
     text: &[u8],
     e: Entry,
@@ -114,7 +114,7 @@ fn text_row(
     bytes + length
 }
 
-// The row of an element. SameAnswer the next place in the pool.
+// The row of an element. Answers the next place in the pool.
 fn element_row(
     text: &[u8],
     e: Entry,
@@ -153,7 +153,7 @@ fn element_row(
     middle + typename
 }
 
-// The row of a node. SameAnswer the next place in the pool.
+// The row of a node. Answers the next place in the pool.
 fn row(
     text: &[u8],
     e: Entry,

@@ -20,7 +20,3 @@ imperativeLevels = 59
 -- "4,294,967,295": the parent of the root, a missing width or height, and what a call returns that has no room for its answer.
 abbrev pub missing : ℕ
 missing = 4294967295
-
--- The greatest number of a word of 32 bits.
-abbrev pub greatestWord : ℕ
-greatestWord = 4294967295

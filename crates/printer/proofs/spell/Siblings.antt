@@ -6,13 +6,12 @@ use native.Mathlib.Nat.{zero-add}
 use native.Mathlib.Omega.{arith}
 use lib.ListN.{length, take, drop, length-drop, drop-of-length-le}
 use lib.Seq.{sets, take-all}
-use Rattle.base.specs.rules.Limits.{greatestWord}
+use Rattle.base.specs.Adds.{greatestWord, Adds}
 use Rattle.document.specs.rules.Record as Word
 use Rattle.document.specs.rules.Document.{Node, Nodes, childless, child}
 use Rattle.document.specs.rules.Table.{count, countAll, pool}
 use Rattle.document.specs.rules.Canonical.{canonical}
 use Rattle.table.specs.Stored.{wordAt, Stored, StoredAll}
-use Rattle.base.specs.Adds.{Adds}
 use Rattle.printer.specs.internal.Inside.{insideAll}
 use Rattle.base.proofs.Adding.{adds-as, adds-none, adds-join, adds-tail}
 use Rattle.document.proofs.Determined.{count-positive}
