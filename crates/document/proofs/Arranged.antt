@@ -16,9 +16,9 @@ use Rattle.elements.specs.rules.Inside.{State, expecting, Step, go, step, start
 use Rattle.elements.specs.rules.Characters.{typeCharacter, idCharacter}
 use Rattle.document.specs.rules.Value.{nonEmpty, every, targetCharacter, isValue, isSize}
 use Rattle.base.specs.rules.Limits.{missing}
-use Rattle.document.specs.rules.Document.{Tree, text, value, size, element, Trees, empty, holds, treeClass}
+use Rattle.document.specs.rules.Document.{Tree, text, value, size, element, Trees, empty, holds, treeClass, keyOf, typeOf}
+use Rattle.document.specs.rules.Document.{widthOr, heightOr, keyIn, typeIn, widthIn, heightIn, isNode, says, sayAll}
 use Rattle.document.specs.reference.RulesTest.{goesOn, keepsRules, keepRules}
-use Rattle.document.specs.rules.Document.{keyOf, typeOf, widthOr, heightOr, keyIn, typeIn, widthIn, heightIn, isNode, says, sayAll}
 use Rattle.document.specs.rules.Canonical.{valueBefore, sizeBefore, keyClass, nodeFirst, placeValues, treeLevels, mostLevelsIn}
 use Rattle.document.specs.rules.Faults.{Next, Begun, due, children, Taken}
 use Rattle.document.proofs.Steps.{begunOf, stepped}

@@ -4,25 +4,24 @@ use mathlib.Core.Path.{_≡_, refl, sym, ap, _∙_}
 use mathlib.Core.Bool.{Bool}
 use mathlib.Core.List.{List, [], _∷_, _++_}
 use native.Mathlib.Omega.{arith}
-use lib.Dec.{T, eqb, leb, leb→le, eqb→eq, lit<}
+use lib.Dec.{T, eqb, leb, leb→le, lit<}
 use lib.ListN.{length}
 use borrow.Author.Tests.{eqb-true}
 use Rattle.base.proofs.Booleans.{cond-case, both}
 use Rattle.utf8.specs.reference.Sequence.{validUpTo}
 use Rattle.utf8.specs.rules.Scalar.{IsUtf8}
-use Rattle.utf8.proofs.Agree.{nil-utf8, valid-utf8}
+use Rattle.utf8.proofs.Agree.{nil-utf8}
 use Rattle.elements.specs.rules.Class as Class
 use Rattle.elements.specs.rules.Characters.{typeCharacter, idCharacter}
 use Rattle.elements.specs.rules.Inside.{State, step, start}
 use Rattle.syntax.specs.rules.Byte.{square, openByte, closeByte, byteClass, blankClass, isBlank}
-use Rattle.syntax.specs.rules.Syntax.{Leaf, Forest, end, leaf, brackets, space, word, string, leafBefore, bytesBefore, bytesOf, isLeaf}
-use Rattle.syntax.specs.rules.Syntax.{Before, a-symbol, another, mayFollow, after, Ok, levels}
+use Rattle.syntax.specs.rules.Syntax.{Leaf, Forest, end, leaf, brackets, space, word, string, leafBefore, bytesBefore, bytesOf, isLeaf, Before, a-symbol, another, mayFollow, after, Ok, levels}
 use Rattle.syntax.specs.rules.Expression.{Expr, symbol, quoted, list, Exprs, and, locateLeaf, locate}
 use Rattle.document.specs.rules.Value.{nonEmpty, every, isValue, isSize, targetCharacter}
 use Rattle.document.specs.reference.RulesTest.{isText, goesOn, keepsRules, keepRules, isDocument}
 use Rattle.document.specs.rules.Document.{Tree, text, value, size, element, Trees, empty, holds, treeClass, says}
-use Rattle.document.specs.rules.Spelling.{nested, Spells, as-nested, as-symbol, as-string, Writes, writes-text, writes-value, writes-type, writes-size, writes-element}
-use Rattle.document.specs.rules.Spelling.{WritesAll, writes-none, writes-and, bracketed, holdsText, WritesNumber}
+use Rattle.document.specs.rules.Spelling.{nested, Spells, as-nested, as-symbol, as-string, Writes, writes-text, writes-value, writes-type}
+use Rattle.document.specs.rules.Spelling.{writes-size, writes-element, WritesAll, writes-none, writes-and, bracketed, holdsText, WritesNumber}
 use Rattle.document.specs.rules.Canonical.{quotedBefore, digits, bracketsBefore, stringBefore, spelledBefore, insideBefore, treeLevels, mostLevelsIn}
 use Rattle.document.proofs.Nested.{goes-on}
 use Rattle.document.proofs.RulesTest.{test-text, test-lawful}

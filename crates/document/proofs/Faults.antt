@@ -14,8 +14,7 @@ use Rattle.syntax.specs.rules.Expression.{Expr, symbol, quoted, list, Exprs, no
 use Rattle.syntax.specs.rules.Atoms.{AtomsOf}
 use Rattle.document.specs.reference.RulesTest.{keepsRules}
 use Rattle.document.specs.rules.Lead.{leadClass, listClass, exprClass}
-use Rattle.document.specs.reference.Meaning.{Verdict, fine, fault, Progress, reached, faultAt, advance, finish, judgeValue, valueTree}
-use Rattle.document.specs.reference.Meaning.{judge, judgeList, run, judgeRoot, treeOf}
+use Rattle.document.specs.reference.Meaning.{Verdict, fine, fault, Progress, reached, faultAt, advance, finish, judgeValue, valueTree, judge, judgeList, run, judgeRoot, treeOf}
 use Rattle.document.specs.rules.Faults.{Begun, due, Taken, Fine, FaultIn, FaultOf, fault-of, RootFault, no-document, in-document}
 use Rattle.document.proofs.Leads.{by-lead}
 use Rattle.document.proofs.RulesTest.{kept-test, test-kept}

@@ -4,7 +4,7 @@ use mathlib.Core.Path.{_≡_}
 use mathlib.Core.List.{[]}
 use Rattle.document.specs.rules.Document.{Node, Document}
 use Rattle.document.specs.rules.WellFormed.{BadRow, RepeatedId, UnknownLink, UnknownFootnote, None, FirstFault, bad-row, repeated-id, unknown-link, unknown-footnote, WellFormed}
-use Rattle.document.specs.reference.Check.{First, nowhere, at-node, any-number, badRow, entries, repeatedId, unknownLink, unknownFootnote, Check, sound, unsound, checkedBy, check, Decides}
+use Rattle.document.specs.reference.Check.{First, nowhere, at-node, any-number, badRow, entries, repeatedId, unknownLink, unknownFootnote, sound, unsound, checkedBy, check, Decides}
 use Rattle.document.specs.reference.Prose.{RowsMatchHead, IdsDiffer, LinksFound, RefsFound, Prose}
 use Rattle.document.proofs.Searches.{Finds, finds-none, finds-first}
 use Rattle.document.proofs.TableRows.{rows-match-head}

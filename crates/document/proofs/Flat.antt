@@ -11,8 +11,8 @@ use Rattle.elements.specs.rules.Inside.{start}
 use Rattle.syntax.specs.rules.Expression.{Expr, symbol, quoted, list, Exprs, none, and, place}
 use Rattle.document.specs.rules.Document.{Tree, text, value, size, element, Trees, empty, holds, treeClass, isNode}
 use Rattle.document.specs.reference.RulesTest.{keepsRules, keepRules}
-use Rattle.document.specs.rules.Spelling.{as-symbol, as-string, Writes, writes-text, writes-value, writes-type, writes-size, writes-element}
-use Rattle.document.specs.rules.Spelling.{WritesAll, writes-none, writes-and, bracketed, isBlockParameter, parametersOf, contentOf, Bracketed, brackets-around}
+use Rattle.document.specs.rules.Spelling.{as-symbol, as-string, Writes, writes-text, writes-value, writes-type, writes-size, writes-element, WritesAll}
+use Rattle.document.specs.rules.Spelling.{writes-none, writes-and, bracketed, isBlockParameter, parametersOf, contentOf, Bracketed, brackets-around}
 use Rattle.document.specs.rules.Spelling.{Flat, flat-block, flat-other, FlatAll, flat-none, flat-and, placesOf, placesOfAll, flatPlaces, flatPlacesAll}
 use Rattle.document.specs.rules.Lead.{leadClass, listClass, exprClass}
 use Rattle.document.specs.reference.Meaning.{valueTree, treeOf, treesOf, places, allPlaces}

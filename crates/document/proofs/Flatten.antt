@@ -13,8 +13,7 @@ use Rattle.elements.specs.rules.Inside.{State, expecting, holding, go, start}
 use Rattle.syntax.specs.rules.Expression.{Expr, symbol, quoted, list, Exprs, none, and}
 use Rattle.document.specs.rules.Spelling.{isBlockParameter}
 use Rattle.document.specs.reference.Imperative.{parameters, flatten, flattenContent, stillOpen, childOf, opened, atInnermost, contentsOf, innermost, regroup}
-use Rattle.document.specs.rules.Command.{join, inCommand}
-use Rattle.document.specs.rules.Command.{loose, isCommand, block}
+use Rattle.document.specs.rules.Command.{join, inCommand, loose, isCommand, block}
 use Rattle.document.specs.rules.Lead.{leadClass, listClass, exprClass}
 use Rattle.document.specs.reference.Meaning.{fine, judge, judgeList, judgeRoot}
 use Rattle.document.proofs.Nested.{not-fine}

@@ -3,8 +3,10 @@
 use mathlib.Core.Path.{_≡_, refl}
 use mathlib.Core.List.{List, map}
 use Rattle.document.specs.examples.Expected.{bytes, numbers, lentMemory, row, bare, keyed, typed, texts, joined, leaves, Whole, left}
-use Rattle.document.specs.examples.Judged.{titled-A, untitled, same-id-twice, link-to-nowhere, listed, Example, examples, settlements, open-points, answered, room, Lent, memoryOf, readInto, short-of-room, Tidied, printable, paper, printedFrom, readIn, spelledOut}
-use Rattle.document.specs.examples.Outcomes.{outcomes, id-behind-type, escaped-by-number, images-and-a-link, table-and-list, two-spellings, row-too-short, id-again, link-on-line-3, reference-to-a-section}
+use Rattle.document.specs.examples.Judged.{titled-A, untitled, same-id-twice, link-to-nowhere, listed, Example, examples, settlements, open-points, answered}
+use Rattle.document.specs.examples.Judged.{room, Lent, memoryOf, readInto, short-of-room, Tidied, printable, paper, printedFrom, readIn, spelledOut}
+use Rattle.document.specs.examples.Outcomes.{outcomes, id-behind-type, escaped-by-number, images-and-a-link, table-and-list}
+use Rattle.document.specs.examples.Outcomes.{two-spellings, row-too-short, id-again, link-on-line-3, reference-to-a-section}
 use Rattle.document.specs.examples.Printing.{Print, printedAs, blank, escaped, prints}
 use Rattle.document.proofs.Compute.{computes}
 

@@ -8,9 +8,8 @@ use Rattle.base.proofs.Booleans.{cond-case, both, both-true, T-true, not-true}
 use Rattle.elements.specs.rules.Class as Class
 use Rattle.elements.specs.rules.Rules.{ruleOf}
 use Rattle.elements.specs.rules.Inside.{State, step, start}
-use Rattle.document.specs.rules.Document.{Tree, text, value, size, element, Trees, empty, holds, treeClass}
+use Rattle.document.specs.rules.Document.{Tree, text, value, size, element, Trees, empty, holds, treeClass, Node, node, child, keyOf, typeOf, widthOr, heightOr, isNode, says, sayAll, Document}
 use Rattle.document.specs.reference.RulesTest.{keepsRules, keepRules, isDocument}
-use Rattle.document.specs.rules.Document.{Node, node, child, keyOf, typeOf, widthOr, heightOr, isNode, says, sayAll, Document}
 use Rattle.document.specs.rules.Canonical.{layout, layoutAll, treeLevels}
 use Rattle.document.proofs.RulesTest.{lawful-test}
 use Rattle.document.proofs.Nested.{goes-on}

@@ -15,11 +15,11 @@ use Rattle.syntax.specs.rules.Atoms.{AtomsOf, AllAtoms}
 use Rattle.document.specs.rules.Value.{nonEmpty, isValue}
 use Rattle.document.specs.reference.RulesTest.{isText, goesOn, keepsRules, keepRules, isDocument}
 use Rattle.document.specs.rules.Document.{Tree, text, value, size, element, Trees, empty, holds, treeClass}
-use Rattle.document.specs.rules.Spelling.{Writes, writes-text, writes-value, writes-type, writes-size, writes-element, WritesAll}
-use Rattle.document.specs.rules.Spelling.{writes-none, writes-and, WritesText, as-symbol, as-string, bracketed}
+use Rattle.document.specs.rules.Spelling.{Writes, writes-text, writes-value, writes-type, writes-size, writes-element}
+use Rattle.document.specs.rules.Spelling.{WritesAll, writes-none, writes-and, WritesText, as-symbol, as-string, bracketed}
 use Rattle.document.specs.rules.Lead.{leadClass, listClass, exprClass}
-use Rattle.document.specs.reference.Meaning.{textBytes, onlyOne, sizeTree, valueTree, treeOf, listTree, treesOf, Verdict, fine, fault, Progress}
-use Rattle.document.specs.reference.Meaning.{faultAt, advance, finish, judgeValue, judge, judgeList, run, judgeRoot}
+use Rattle.document.specs.reference.Meaning.{textBytes, onlyOne, sizeTree, valueTree, treeOf, listTree, treesOf, Verdict, fine, fault}
+use Rattle.document.specs.reference.Meaning.{Progress, faultAt, advance, finish, judgeValue, judge, judgeList, run, judgeRoot}
 use Rattle.document.proofs.Leads.{by-lead}
 use Rattle.document.proofs.Values.{value-written, OfText, of-text, text-bytes, type-tree, size-tree}
 use Rattle.elements.proofs.Names.{name-of-class}

@@ -19,10 +19,9 @@ use Rattle.document.specs.rules.Document.{Tree, value, size, element, Tr
 use Rattle.document.specs.reference.RulesTest.{keepsRules, keepRules}
 use Rattle.document.specs.rules.Table.{count}
 use Rattle.document.specs.rules.Visits.{nodeKind, nodeText, Visit, visitsOf, upFrom}
-use Rattle.document.specs.rules.Spelling.{Spelling, as-symbol, as-string, Writes, writes-text, writes-value, writes-type, writes-size, writes-element}
-use Rattle.document.specs.rules.Spelling.{WritesAll, writes-none, writes-and, parametersOf, contentOf, Bracketed, brackets-around}
-use Rattle.document.specs.rules.Spelling.{Flat, flat-block, flat-other, FlatAll, flat-none, flat-and, WritesIn, as-nested, as-imperative, Spells}
-use Rattle.document.specs.rules.Spelling.{placesOf, placesOfAll, flatPlaces, flatPlacesAll, placesIn, nodePlaces}
+use Rattle.document.specs.rules.Spelling.{Spelling, as-symbol, as-string, Writes, writes-text, writes-value, writes-type, writes-size, writes-element, WritesAll}
+use Rattle.document.specs.rules.Spelling.{writes-none, writes-and, parametersOf, contentOf, Bracketed, brackets-around, Flat, flat-block, flat-other, FlatAll, flat-none}
+use Rattle.document.specs.rules.Spelling.{flat-and, WritesIn, as-nested, as-imperative, Spells, placesOf, placesOfAll, flatPlaces, flatPlacesAll, placesIn, nodePlaces}
 use Rattle.document.specs.rules.Placed.{Blank, SymbolEnds, Begins, Ascending, Placed}
 use Rattle.document.proofs.BlockParts.{Kept, element-kept, parameters-kept, content-kept, block-parts}
 use Rattle.document.proofs.NodeOrder.{nodesOf, visitedOf, visits-nodes, treeNodes, treesNodes, holds-nodes, parts-nodes}

@@ -14,8 +14,7 @@ use Rattle.syntax.specs.rules.Expression.{Expr, symbol, quoted, list, Exprs, no
 use Rattle.document.specs.rules.Document.{Tree, element, Trees, holds, isNode, says, sayAll, child}
 use Rattle.document.specs.rules.Table.{count, countAll}
 use Rattle.document.specs.rules.Lead.{leadClass, listClass, exprClass}
-use Rattle.document.specs.reference.Meaning.{sizeTree, valueTree, treeOf, listTree, treesOf, Verdict, fine, finish, judgeValue, judge}
-use Rattle.document.specs.reference.Meaning.{judgeList, run, judgeRoot, places, listPlaces, allPlaces}
+use Rattle.document.specs.reference.Meaning.{sizeTree, valueTree, treeOf, listTree, treesOf, Verdict, fine, finish, judgeValue, judge, judgeList, run, judgeRoot, places, listPlaces, allPlaces}
 use Rattle.document.proofs.Nested.{not-fine, passed}
 
 -- The nodes of what a tree says; a value says none.

@@ -1,6 +1,6 @@
 -- Printing answers as `specs/rules/PrintAccount.antt` tells, and in no other way.
 use Prim.Native.Nat.{ℕ, _*_}
-use mathlib.Core.Path.{_≡_, refl, sym, ap, _∙_}
+use mathlib.Core.Path.{_≡_, ap, _∙_}
 use mathlib.Core.List.{List}
 use borrow.Author.Tests.{lt-ltb, le-ltb, ltb-true, ltb-false, eqb-true, eqb-false}
 use lib.Dec.{eqb, ltb}
@@ -10,7 +10,6 @@ use Rattle.document.specs.rules.Document.{Node}
 use Rattle.document.specs.rules.WellFormed.{WellFormed}
 use Rattle.document.specs.rules.Record.{recordLength}
 use Rattle.document.specs.rules.Canonical.{canonical}
-use Rattle.document.specs.reference.Check.{check}
 use Rattle.document.specs.reference.Printing.{Checked, checkedAs, checking, written, printing}
 use Rattle.document.specs.rules.Draft.{IsTableOf, Holds, Printed}
 use Rattle.document.specs.rules.PrintAccount.{PrintAnswers, no-table, too-short, spelled}

@@ -11,8 +11,7 @@ use Rattle.document.specs.rules.Table.{count, pool}
 use Rattle.document.specs.reference.Outcome.{outcome}
 use Rattle.document.specs.rules.Memory.{answerAt, Memory, Outcome, refusal, noRoom, filled, nodeRoom}
 use Rattle.document.specs.rules.Account as Account
-use Rattle.document.specs.rules.Account.{Answers, too-long, ill-formed}
-use Rattle.document.specs.rules.Account.{no-node-room, no-pool-room, has-fault, accepted}
+use Rattle.document.specs.rules.Account.{Answers, too-long, ill-formed, no-node-room, no-pool-room, has-fault, accepted}
 use Rattle.document.specs.rules.Readable.{Fits, Readable, Read}
 use Rattle.document.proofs.NestedForms.{spelled-once, spelled-once-in-both}
 use Rattle.document.proofs.Account.{answers, answers-only}

@@ -2,7 +2,8 @@
 use Prim.Native.Nat.{ℕ, zero, suc, _+_, _*_, _≤_, _<_}
 use mathlib.Core.Path.{_≡_, _∙_, refl, sym, ap, subst}
 use mathlib.Core.Logic.{_⊎_, inl, inr}
-use mathlib.Core.List.{List, [], _∷_, _++_, map, map-map, map-append, append-assoc, append-nil, List·Memᴰ, List·Memᴰ·head, List·Memᴰ·tail, List·Memᴰ·not-nil, List·Memᴰ·cases-cons, List·Memᴰ·append-cases, Memᴰ·append-left, Memᴰ·append-right}
+use mathlib.Core.List.{List, [], _∷_, _++_, map, map-map, map-append, append-assoc, append-nil, List·Memᴰ, List·Memᴰ·head, List·Memᴰ·tail}
+use mathlib.Core.List.{List·Memᴰ·not-nil, List·Memᴰ·cases-cons, List·Memᴰ·append-cases, Memᴰ·append-left, Memᴰ·append-right}
 use native.Mathlib.Nat.{zero-add, add-zero, suc-add, add-suc}
 use native.Mathlib.Numerals.{add-one}
 use native.Mathlib.Omega.{arith}
@@ -13,7 +14,8 @@ use Rattle.document.specs.rules.Document.{Node, node, Nodes, childless, 
 use Rattle.document.specs.rules.Record.{recordLength}
 use Rattle.document.specs.rules.Table.{count, countAll, pool, poolAll, offset, rows, rowsAll, tableOf}
 use Rattle.document.specs.reference.Check.{Entry, entries, entriesAmong}
-use Rattle.document.specs.rules.Visits.{nodeKind, nodeKey, nodeType, nodeText, nodeWidth, nodeHeight, Visit, visits, visitsAll, visitsOf, upFrom, endOf, typeStart, textStart, wordsOf, stringsOf, each, Spans, Holder}
+use Rattle.document.specs.rules.Visits.{nodeKind, nodeKey, nodeType, nodeText, nodeWidth, nodeHeight, Visit, visits, visitsAll}
+use Rattle.document.specs.rules.Visits.{visitsOf, upFrom, endOf, typeStart, textStart, wordsOf, stringsOf, each, Spans, Holder}
 
 upFrom-append : (i m n : ℕ) → upFrom i (m + n) ≡ upFrom i m ++ upFrom (i + m) n
 unfolding upFrom

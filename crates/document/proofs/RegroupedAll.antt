@@ -10,8 +10,7 @@ use Rattle.elements.specs.rules.Class as Class
 use Rattle.syntax.specs.rules.Expression.{Expr, symbol, quoted, list, Exprs, none, and}
 use Rattle.document.specs.rules.Spelling.{isBlockParameter}
 use Rattle.document.specs.reference.Imperative.{stillOpen, childOf, opened, atInnermost, contentsOf, innermost, regroup}
-use Rattle.document.specs.rules.Command.{join, notAllowed, inCommand}
-use Rattle.document.specs.rules.Command.{loose, isCommand, block}
+use Rattle.document.specs.rules.Command.{join, notAllowed, inCommand, loose, isCommand, block}
 use Rattle.document.specs.rules.Lead.{exprClass}
 
 -- The laws of a property of expressions, `P n e`, and of runs of them, `Ps n es`, within a bound n that runs share out.

@@ -4,7 +4,7 @@ use Prim.Native.Nat.{ℕ, _≤_}
 use mathlib.Core.Path.{_≡_, refl}
 use mathlib.Core.List.{List}
 use native.Mathlib.Omega.{arith}
-use lib.Dec.{leb, leb→le}
+use lib.Dec.{leb→le}
 use borrow.Author.Tests.{le-leb}
 use lib.ListN.{length}
 use Rattle.base.proofs.Booleans.{true-T}

@@ -10,8 +10,7 @@ use Rattle.base.proofs.Booleans.{cond-case, bool-case, or-true, or-left, true-T
 use Rattle.elements.specs.rules.Bytes.{among}
 use Rattle.elements.specs.rules.Class as Class
 use Rattle.elements.specs.rules.Rules.{Slot, must, may, id-type, Content, alternatives, exactly-one, alternativesOf, Rule, rules, ruleOf}
-use Rattle.elements.specs.rules.Inside.{State, expecting, holding, Step, go, bad, step, ended, noneRequired, mayBeEmpty}
-use Rattle.elements.specs.rules.Inside.{firstChild, nextChild, nextParameter, isInclude, someHas, chosen}
+use Rattle.elements.specs.rules.Inside.{State, expecting, holding, Step, go, bad, step, ended, noneRequired, mayBeEmpty, firstChild, nextChild, nextParameter, isInclude, someHas, chosen}
 use Rattle.elements.proofs.EachRow.{each-kind}
 use Rattle.elements.proofs.Alternatives.{chosen-case, one-has, some-has, apart, chosen-one}
 use Rattle.document.specs.rules.Faults.{Next, NoneDue, Absent, Begun, due, children, ContentPlace, Allowed, Chooses, SameSort, Taken, NoneRequired, MayEnd}

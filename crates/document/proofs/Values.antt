@@ -13,8 +13,7 @@ use Rattle.elements.specs.rules.Characters.{typeCharacter, idCharacter}
 use Rattle.document.specs.rules.Value.{nonEmpty, every, isValue, isSize, isDecimal, targetCharacter}
 use Rattle.document.specs.rules.Document.{Tree, value, size}
 use Rattle.document.specs.reference.RulesTest.{keepsRules}
-use Rattle.document.specs.rules.Spelling.{WritesText, as-symbol, as-string, WritesNumber, Writes, writes-value, writes-type, writes-size}
-use Rattle.document.specs.rules.Spelling.{holdsText, bracketed}
+use Rattle.document.specs.rules.Spelling.{WritesText, as-symbol, as-string, WritesNumber, Writes, writes-value, writes-type, writes-size, holdsText, bracketed}
 use Rattle.document.specs.reference.Meaning.{textBytes, symbolBytes, onlyOne, numberOf, sizeTree, valueTree}
 
 -- The expression is a symbol of these bytes.

@@ -7,7 +7,7 @@ use Rattle.base.proofs.Tables.{every, below, alike}
 use Rattle.elements.specs.rules.Bytes.{same, among}
 use Rattle.elements.specs.rules.Class.{significance}
 use Rattle.elements.specs.rules.Rules.{alternativesOf, rules, ruleIn, ruleOf}
-use Rattle.elements.specs.rules.Inside.{State, expecting, holding, Step, go, bad, step, start, ended, noneRequired, mayBeEmpty, nextParameter, nextChild, firstChild, allows, chosen, someHas, isInclude}
+use Rattle.elements.specs.rules.Inside.{expecting, holding, Step, go, bad, step, start, ended, noneRequired, mayBeEmpty, nextParameter, nextChild, firstChild, allows, chosen, someHas, isInclude}
 use Rattle.elements.specs.examples.PlainInside.{Entry, entries, said}
 
 -- The next step from where one leads.

@@ -6,7 +6,9 @@ use lib.ListN.{replicate}
 use Rattle.document.specs.examples.Expected.{bytes, numbers, row, bare, texts, joined}
 use Rattle.document.specs.examples.Judged.{Lent, memoryOf, readInto}
 use Rattle.document.specs.examples.Printing.{printedAs, blank}
-use Rattle.examples.specs.Sizes.{times, sameAnswer, asExpected, paragraphs, commands, counted, columns, columnTexts, bareNode, alike, only, columnDocument, columnsChecked, columnsExpected, twoIds, idAndLink, longIds, lists, closed, levels, paragraphRows, paragraphsTable, everyTwelve, paragraphPlaces, fillsAll, listRows, levels-64, levels-65, samePrinted, isPrinted, long-outputs}
+use Rattle.examples.specs.Sizes.{times, sameAnswer, asExpected, paragraphs, commands, counted, columns, columnTexts, bareNode, alike, only, columnDocument}
+use Rattle.examples.specs.Sizes.{columnsChecked, columnsExpected, twoIds, idAndLink, longIds, lists, closed, levels, paragraphRows, paragraphsTable}
+use Rattle.examples.specs.Sizes.{everyTwelve, paragraphPlaces, fillsAll, listRows, levels-64, levels-65, samePrinted, isPrinted, long-outputs}
 use Rattle.document.proofs.Compute.{computes}
 
 -- Counts needed, under 13 and 14.

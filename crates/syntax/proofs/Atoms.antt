@@ -9,7 +9,8 @@ use Rattle.base.proofs.Booleans.{both, cond-case}
 use Rattle.utf8.specs.rules.Scalar.{encode, IsUtf8}
 use Rattle.utf8.proofs.Agree.{nil-utf8, encode-utf8, byte-utf8, encode-not-empty, utf8-append, utf8-split, utf8-tail}
 use Rattle.syntax.specs.rules.Byte.{openByte, closeByte}
-use Rattle.syntax.specs.rules.Syntax.{Piece, raw, letter, number, isPiece, arePieces, pieceBefore, piecesBefore, letterValue, hexValue, pieceValue, piecesValue, Leaf, space, line-end, word, string, leafBefore, isLeaf, Before, a-symbol, another, after, Forest, end, leaf, brackets, bytesBefore, bytesOf, Ok}
+use Rattle.syntax.specs.rules.Syntax.{Piece, raw, letter, number, isPiece, arePieces, pieceBefore, piecesBefore, letterValue, hexValue, pieceValue, piecesValue, Leaf, space}
+use Rattle.syntax.specs.rules.Syntax.{line-end, word, string, leafBefore, isLeaf, Before, a-symbol, another, after, Forest, end, leaf, brackets, bytesBefore, bytesOf, Ok}
 use Rattle.syntax.specs.rules.Expression.{Expr, symbol, quoted, list, Exprs, none, and, locateLeaf, locate}
 use Rattle.syntax.specs.rules.Atoms.{AtomsOf, AllAtoms, IsText}
 use Rattle.syntax.proofs.Classes.{Fits, fits-end, fits-close}

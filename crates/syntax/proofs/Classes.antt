@@ -6,7 +6,8 @@ use mathlib.Core.List.{List, [], _∷_}
 use lib.Dec.{T, eqb, ltb}
 use borrow.Author.Tests.{eqb-true}
 use Rattle.base.proofs.Booleans.{cond-case}
-use Rattle.syntax.specs.rules.Byte.{Bracket, round, square, ByteClass, blank, return, quote, forbidden, ordinary, opening, closing, byteClass, openByte, closeByte, sameBracket, blankClass, ordinaryClass, isBlank, isOrdinary}
+use Rattle.syntax.specs.rules.Byte.{Bracket, round, square, ByteClass, blank, return, quote, forbidden, ordinary, opening, closing}
+use Rattle.syntax.specs.rules.Byte.{byteClass, openByte, closeByte, sameBracket, blankClass, ordinaryClass, isBlank, isOrdinary}
 use Rattle.syntax.specs.rules.Syntax.{Before, a-symbol, another}
 
 -- What is known of a byte of a class.

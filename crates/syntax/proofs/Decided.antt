@@ -7,7 +7,8 @@ use lib.Dec.{T, eqb}
 use borrow.Author.Tests.{eqb-true, eqb-false}
 use Rattle.base.proofs.Booleans.{bool-case}
 use Rattle.syntax.specs.rules.Byte.{Bracket, openByte, closeByte, sameBracket}
-use Rattle.syntax.specs.rules.Syntax.{Leaf, space, line-end, word, string, leafBefore, isLeaf, areOrdinary, Before, a-symbol, another, after, mayFollow, Forest, end, leaf, brackets, bytesBefore, bytesOf, Ok, levels}
+use Rattle.syntax.specs.rules.Syntax.{Leaf, space, line-end, word, string, leafBefore, isLeaf, areOrdinary, Before, a-symbol}
+use Rattle.syntax.specs.rules.Syntax.{another, after, mayFollow, Forest, end, leaf, brackets, bytesBefore, bytesOf, Ok, levels}
 use Rattle.syntax.specs.reference.Scan.{refused, scanned, scan}
 use Rattle.syntax.specs.rules.Fault.{Opened, outside, within, openedBefore, size, openLevels, OkOpened, unopened, other-partner, left-open, too-deep, Fault, Verdict, good, faulty}
 use Rattle.syntax.proofs.Classes.{Fits, bracket-same}

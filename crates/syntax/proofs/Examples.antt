@@ -4,7 +4,8 @@ use mathlib.Core.List.{map}
 use Rattle.utf8.specs.rules.Scalar.{isScalar, encode}
 use Rattle.utf8.specs.examples.Quoted.{utf8Of}
 use Rattle.syntax.specs.rules.Byte.{byteClass, openByte, closeByte, sameBracket, blankClass, ordinaryClass, isBlank, isOrdinary, isRaw}
-use Rattle.syntax.specs.rules.Syntax.{pieceBefore, piecesBefore, leafBefore, bytesBefore, bytesOf, isHex, hexDigit, hexValue, isPiece, arePieces, areOrdinary, isLeaf, letterValue, pieceValue, piecesValue}
+use Rattle.syntax.specs.rules.Syntax.{pieceBefore, piecesBefore, leafBefore, bytesBefore, bytesOf, isHex, hexDigit, hexValue}
+use Rattle.syntax.specs.rules.Syntax.{isPiece, arePieces, areOrdinary, isLeaf, letterValue, pieceValue, piecesValue}
 use Rattle.syntax.specs.rules.Expression.{locateLeaf, locate}
 use Rattle.syntax.specs.reference.Scan.{ordinaryRun, escapeAt, piece, quotedFrom, quotedItem, itemAt, itemsFrom, addLeaf, wrap, endLevel, atEnd, oneMore, oneLess, build, outermost, scan}
 use Rattle.syntax.specs.examples.Scanned.{Example, examples, found, locatedIn, run, Judged, leaves}

@@ -11,7 +11,8 @@ use Rattle.base.proofs.Booleans.{not-T-false}
 use Rattle.syntax.specs.rules.Byte.{forbidden, byteClass, ordinaryClass}
 use Rattle.syntax.specs.rules.Syntax.{Before, Piece, isPiece, pieceBefore, piecesBefore}
 use Rattle.syntax.specs.reference.Scan.{bad-escape, quotedFrom, escapeAt, quotedItem, itemAt, itemsFrom, fault, build, oneMore, oneLess, atEnd, refused, outermost, scan}
-use Rattle.syntax.specs.rules.Fault.{Opened, outside, within, size, openLevels, Hit, control, lone-return, no-escape, empty-string, unclosed-string, unopened, other-partner, left-open, too-deep, Fault}
+use Rattle.syntax.specs.rules.Fault.{Opened, outside, within, size, openLevels, Hit, control, lone-return, no-escape}
+use Rattle.syntax.specs.rules.Fault.{empty-string, unclosed-string, unopened, other-partner, left-open, too-deep, Fault}
 use Rattle.syntax.proofs.Classes.{Fits, fits-end, fits-class, fits-open, fits-close}
 use Rattle.syntax.proofs.Strings.{escape-spelled, pieces, quoted-pieces, pieces-unclosed, pieces-bad}
 use Rattle.syntax.proofs.Items.{item-of, items-open, items-close}

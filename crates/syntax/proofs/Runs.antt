@@ -7,7 +7,8 @@ use native.Mathlib.Omega.{arith}
 use lib.Dec.{T}
 use lib.ListN.{length, length-append}
 use Rattle.syntax.specs.rules.Byte.{closeByte, byteClass, ordinaryClass, isBlank}
-use Rattle.syntax.specs.rules.Syntax.{piecesBefore, Leaf, space, line-end, word, string, leafBefore, isLeaf, Before, a-symbol, another, after, mayFollow, Forest, end, leaf, brackets, bytesBefore, bytesOf, Ok}
+use Rattle.syntax.specs.rules.Syntax.{piecesBefore, Leaf, space, line-end, word, string, leafBefore, isLeaf, Before, a-symbol}
+use Rattle.syntax.specs.rules.Syntax.{another, after, mayFollow, Forest, end, leaf, brackets, bytesBefore, bytesOf, Ok}
 use Rattle.syntax.specs.reference.Scan.{Items, a-leaf, opens, closes, itemsFrom}
 use Rattle.syntax.proofs.Classes.{Fits, fits-class, fits-open, fits-close, blank-class}
 use Rattle.syntax.proofs.Strings.{pieces-append}

@@ -8,8 +8,10 @@ use lib.Dec.{T, eqb}
 use lib.ListN.{length, length-append}
 use borrow.Author.Tests.{eqb-true, eqb-false}
 use Rattle.base.proofs.Booleans.{bool-case, both-true, true-T, false-not-T}
-use Rattle.syntax.specs.rules.Byte.{Bracket, ByteClass, blank, return, quote, forbidden, ordinary, opening, closing, byteClass, openByte, closeByte, blankClass, ordinaryClass, isBlank, isOrdinary, isRaw}
-use Rattle.syntax.specs.rules.Syntax.{Piece, raw, letter, number, isPiece, arePieces, pieceBefore, piecesBefore, areOrdinary, Leaf, space, line-end, word, string, leafBefore, isLeaf, a-symbol, after}
+use Rattle.syntax.specs.rules.Byte.{Bracket, ByteClass, blank, return, quote, forbidden, ordinary, opening, closing}
+use Rattle.syntax.specs.rules.Byte.{byteClass, openByte, closeByte, blankClass, ordinaryClass, isBlank, isOrdinary, isRaw}
+use Rattle.syntax.specs.rules.Syntax.{Piece, raw, letter, number, isPiece, arePieces, pieceBefore, piecesBefore, areOrdinary}
+use Rattle.syntax.specs.rules.Syntax.{Leaf, space, line-end, word, string, leafBefore, isLeaf, a-symbol, after}
 use Rattle.syntax.specs.reference.Scan.{escapeAt}
 use Rattle.syntax.specs.rules.Fault.{Opened, size, Hit, control, lone-return, no-escape, empty-string, unclosed-string}
 use Rattle.syntax.proofs.Classes.{ByteOf, class-byte, Fits}

@@ -11,8 +11,7 @@ use Rattle.syntax.specs.rules.Expression.{Expr, symbol, quoted, list, Exprs, no
 use Rattle.document.specs.rules.Document.{Tree}
 use Rattle.document.specs.rules.Spelling.{Spelling, nested, imperative, isBlockParameter, Writes, Flat, placesOf, flatPlaces}
 use Rattle.document.specs.rules.Lead.{leadClass, exprClass}
-use Rattle.document.specs.rules.Command.{block, isCommand, loose}
-use Rattle.document.specs.rules.Command.{join}
+use Rattle.document.specs.rules.Command.{block, isCommand, loose, join}
 
 unfoldable pub parameters : Exprs → Exprs
 parameters none = none

@@ -7,7 +7,7 @@ use lib.Dec.{T}
 use lib.ListN.{length, getD, drop}
 use Rattle.elements.specs.rules.Class as Class
 use Rattle.syntax.specs.rules.Byte.{Bracket, openByte, isOrdinary}
-use Rattle.syntax.specs.rules.Syntax.{Piece, arePieces, piecesBefore, piecesValue, areOrdinary, Leaf, space, line-end, word, string, Forest, end, leaf, brackets, isLeaf, bytesBefore}
+use Rattle.syntax.specs.rules.Syntax.{Piece, arePieces, piecesBefore, piecesValue, areOrdinary, space, line-end, word, string, Forest, end, leaf, brackets, isLeaf, bytesBefore}
 use Rattle.document.specs.rules.Document.{Node}
 use Rattle.document.specs.rules.Table.{count}
 use Rattle.document.specs.rules.Visits.{nodeKind, nodeText, Visit, visitsOf}
