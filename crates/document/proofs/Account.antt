@@ -23,7 +23,7 @@ use Rattle.document.specs.rules.Memory.{Memory, Outcome, nodeRoom}
 use Rattle.document.specs.rules.Account as Account
 use Rattle.document.specs.rules.Account.{Answers, too-long, ill-formed, no-node-room, no-pool-room, has-fault, accepted}
 use Rattle.document.proofs.NestedForms.{spelled-form, spelled-means}
-use Rattle.document.proofs.Reading.{Found, found, refused-read, spelled-read}
+use Rattle.document.proofs.ReadingDecided.{Found, found, refused-read, spelled-read}
 use Rattle.document.proofs.FirstFaults.{check-decides, well-formed-check, fault-check}
 
 -- What a text spells is a document.

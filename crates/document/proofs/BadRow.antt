@@ -18,10 +18,10 @@ use Rattle.document.specs.rules.Visits.{childCount, nodeKind, nodeChildr
 use Rattle.document.specs.rules.WellFormed.{BadRow, None}
 use Rattle.document.specs.reference.Check.{Cells, any-number, exactly, cellsIn, cellsBelow, differs, badRow, badRowAmong}
 use Rattle.document.specs.reference.Prose.{OneOf, In, RowsMatchHead}
-use Rattle.document.proofs.Counted.{Counted, counted, one-number}
-use Rattle.document.proofs.Searches.{Finds, firstOf, first-append, FirstAnswer, first-answer, test-finds}
+use Rattle.document.proofs.NumberedLists.{Counted, counted, one-number}
+use Rattle.document.proofs.NumberedSearch.{Finds, firstOf, first-append, FirstAnswer, first-answer, test-finds}
 use Rattle.document.proofs.Records.{numbered}
-use Rattle.document.proofs.Visited.{visited-in, child-visited, in-visited}
+use Rattle.document.proofs.VisitedNodes.{visited-in, child-visited, in-visited}
 use Rattle.document.proofs.TableRows.{root-kind, some-head, row-in-body, body-in-table, head-binds}
 
 -- A visit with how many cells a row must have there.

@@ -9,7 +9,7 @@ use Rattle.elements.specs.rules.Inside.{State, expecting, holding, go, step, st
 use Rattle.document.specs.rules.Document.{Tree, element, Trees, empty, holds, treeClass}
 use Rattle.document.specs.reference.RulesTest.{goesOn, keepsRules, keepRules}
 use Rattle.document.specs.rules.Spelling.{isBlockParameter, parametersOf, contentOf}
-use Rattle.document.proofs.Nested.{goes-on}
+use Rattle.document.proofs.NestedMeaning.{goes-on}
 use Rattle.document.proofs.BlockRules.{Within, LeadsTo, Follows, Takes, step-takes, start-within}
 
 -- Each of the trees keeps the rules inside an element of kind k.

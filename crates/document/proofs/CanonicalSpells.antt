@@ -23,7 +23,7 @@ use Rattle.document.specs.rules.Document.{Tree, text, value, size, eleme
 use Rattle.document.specs.rules.Spelling.{nested, Spells, as-nested, as-symbol, as-string, Writes, writes-text, writes-value, writes-type}
 use Rattle.document.specs.rules.Spelling.{writes-size, writes-element, WritesAll, writes-none, writes-and, bracketed, holdsText, WritesNumber}
 use Rattle.document.specs.rules.Canonical.{quotedBefore, digits, bracketsBefore, stringBefore, spelledBefore, insideBefore, treeLevels, mostLevelsIn}
-use Rattle.document.proofs.Nested.{goes-on}
+use Rattle.document.proofs.NestedMeaning.{goes-on}
 use Rattle.document.proofs.RulesTest.{test-text, test-lawful}
 use Rattle.document.proofs.CanonicalStrings.{byte-before, pieceOf, piecesOf, pieces-bytes, are-pieces, pieces-value, bytes-utf8}
 use Rattle.document.proofs.CanonicalSymbols.{isSymbol, symbol-ordinary, symbol-before, symbol-of, type-plain, id-plain, target-utf8, name-symbol, element-symbol, digits-number, digits-symbol}

@@ -19,7 +19,7 @@ use Rattle.elements.proofs.Characters.{none-high}
 use Rattle.document.specs.rules.Value.{nonEmpty, every, isDecimal, decimalAfter, namesBlock, targetCharacter}
 use Rattle.document.specs.rules.Spelling.{WritesNumber}
 use Rattle.document.specs.rules.Canonical.{digit, digits}
-use Rattle.document.proofs.Classes.{leads}
+use Rattle.document.proofs.RuleClasses.{leads}
 use Rattle.document.proofs.CanonicalStrings.{isAscii, ascii-before}
 
 -- What passes one test at every byte passes another.

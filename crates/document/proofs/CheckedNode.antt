@@ -8,10 +8,10 @@ use Rattle.elements.specs.rules.Class as Class
 use Rattle.document.specs.rules.Document.{Node}
 use Rattle.document.specs.rules.Table.{count}
 use Rattle.document.specs.reference.Check.{First, nowhere, at-node, any-number, badRow, Entry, entries, repeatedId, unknownLink, unknownFootnote, Check, sound, unsound, checkedBy, check}
-use Rattle.document.proofs.Searches.{FirstIn, FirstAnswer}
+use Rattle.document.proofs.NumberedSearch.{FirstIn, FirstAnswer}
 use Rattle.document.proofs.Records.{entryOf, visit-below}
 use Rattle.document.proofs.BadRow.{numberOf, boundsOf, isBad, bad-row-answer, bound-visited}
-use Rattle.document.proofs.Prose.{FirstRepeated, block-stands, RepeatAnswer, repeated-answer, entry-visit, target-stands}
+use Rattle.document.proofs.IdsAndReferences.{FirstRepeated, block-stands, RepeatAnswer, repeated-answer, entry-visit, target-stands}
 
 module _ (d : Node) where
   entry-below : (i : ℕ) → (e : Entry) × List·Memᴰ e (entries 0 d) × (e .number ≡ i) → i < count d

@@ -16,12 +16,12 @@ use Rattle.document.specs.reference.RulesTest.{keepsRules}
 use Rattle.document.specs.rules.Lead.{leadClass, listClass, exprClass}
 use Rattle.document.specs.reference.Meaning.{Verdict, fine, fault, Progress, reached, faultAt, advance, finish, judgeValue, valueTree, judge, judgeList, run, judgeRoot, treeOf}
 use Rattle.document.specs.rules.Faults.{Begun, due, Taken, Fine, FaultIn, FaultOf, fault-of, RootFault, no-document, in-document}
-use Rattle.document.proofs.Leads.{by-lead}
+use Rattle.document.proofs.LeadingNames.{by-lead}
 use Rattle.document.proofs.RulesTest.{kept-test, test-kept}
-use Rattle.document.proofs.Values.{value-written}
-use Rattle.document.proofs.Nested.{AllText, AllTexts, not-fine, judge-sound, judge-complete}
-use Rattle.document.proofs.Steps.{begunOf, stateOf, Refused, Stepped, stepped, taken-go, refused-bad, ended-may, may-ended}
-use Rattle.document.proofs.Classes.{leads, Leading, start-leading, next-leads, taken-leading, isChild, allowed-child, chosen-child, lead-no-text}
+use Rattle.document.proofs.WrittenValues.{value-written}
+use Rattle.document.proofs.NestedMeaning.{AllText, AllTexts, not-fine, judge-sound, judge-complete}
+use Rattle.document.proofs.ElementSteps.{begunOf, stateOf, Refused, Stepped, stepped, taken-go, refused-bad, ended-may, may-ended}
+use Rattle.document.proofs.RuleClasses.{leads, Leading, start-leading, next-leads, taken-leading, isChild, allowed-child, chosen-child, lead-no-text}
 
 fine-sound : (k : ℕ) (e : Expr) → AllText e → judge k e ≡ fine → Fine k e
 fine-sound k e a f = let h = judge-sound k e a f in record { tree = treeOf e; writes = h .1; lawful = test-kept k (treeOf e) (h .0) }

@@ -6,10 +6,10 @@ use Rattle.document.specs.rules.Document.{Node, Document}
 use Rattle.document.specs.rules.WellFormed.{BadRow, RepeatedId, UnknownLink, UnknownFootnote, None, FirstFault, bad-row, repeated-id, unknown-link, unknown-footnote, WellFormed}
 use Rattle.document.specs.reference.Check.{First, nowhere, at-node, any-number, badRow, entries, repeatedId, unknownLink, unknownFootnote, sound, unsound, checkedBy, check, Decides}
 use Rattle.document.specs.reference.Prose.{RowsMatchHead, IdsDiffer, LinksFound, RefsFound, Prose}
-use Rattle.document.proofs.Searches.{Finds, finds-none, finds-first}
+use Rattle.document.proofs.NumberedSearch.{Finds, finds-none, finds-first}
 use Rattle.document.proofs.TableRows.{rows-match-head}
 use Rattle.document.proofs.BadRow.{bad-row-found, rows-match-none}
-use Rattle.document.proofs.Prose.{repeated-found, link-found, footnote-found, ids-differ-none, links-found-none, refs-found-none}
+use Rattle.document.proofs.IdsAndReferences.{repeated-found, link-found, footnote-found, ids-differ-none, links-found-none, refs-found-none}
 
 -- The four searches decide in the order of the numbers.
 searches-decide : (d : Node) (f g h k : First) → Finds (BadRow d) f → Finds (RepeatedId d) g → Finds (UnknownLink d) h → Finds (UnknownFootnote d) k

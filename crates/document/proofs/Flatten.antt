@@ -16,9 +16,9 @@ use Rattle.document.specs.reference.Imperative.{parameters, flatten, fla
 use Rattle.document.specs.rules.Command.{join, inCommand, loose, isCommand, block}
 use Rattle.document.specs.rules.Lead.{leadClass, listClass, exprClass}
 use Rattle.document.specs.reference.Meaning.{fine, judge, judgeList, judgeRoot}
-use Rattle.document.proofs.Nested.{not-fine}
+use Rattle.document.proofs.NestedMeaning.{not-fine}
 use Rattle.document.proofs.BlockRules.{Child, Level, Within, LeadsTo, Follows, Takes, step-takes, start-within}
-use Rattle.document.proofs.Blocks.{join-none, join-join, Read, read-on, inside-block, root-document, flatten-child, flatten-leaf}
+use Rattle.document.proofs.BlockExpressions.{join-none, join-join, Read, read-on, inside-block, root-document, flatten-child, flatten-leaf}
 
 -- What follows ends an open block of significance s: nothing, or a command of no lesser significance.
 Ends : ℕ → Exprs → Type 0

@@ -9,8 +9,8 @@ use Rattle.base.proofs.Booleans.{both}
 use Rattle.elements.specs.rules.Class as Class
 use Rattle.syntax.specs.rules.Syntax.{Forest, levels}
 use Rattle.syntax.specs.rules.Expression.{Expr, symbol, quoted, list, Exprs, none, and, locate, depth, depthAll}
-use Rattle.syntax.proofs.Accepted.{same-bytes}
-use Rattle.syntax.proofs.Located.{located-depth}
+use Rattle.syntax.proofs.SyntaxAccepted.{same-bytes}
+use Rattle.syntax.proofs.LocatedDepth.{located-depth}
 use Rattle.document.specs.rules.Document.{Tree, treeClass, Node, says}
 use Rattle.document.specs.reference.RulesTest.{keepsRules, isDocument}
 use Rattle.document.specs.rules.Spelling.{Spelling, nested, imperative, mostLevels, isBlockParameter, Writes, WritesIn, as-nested, as-imperative, Spells, WithinLimits, placesIn}
@@ -18,12 +18,12 @@ use Rattle.document.specs.rules.Lead.{leadClass, exprClass}
 use Rattle.document.specs.reference.Meaning.{fine, judgeRoot, treeOf, places}
 use Rattle.document.specs.reference.Imperative.{parameters, flatten, flattenContent, spelledAs}
 use Rattle.document.specs.rules.Command.{join}
-use Rattle.document.proofs.Nested.{root-complete}
+use Rattle.document.proofs.NestedMeaning.{root-complete}
 use Rattle.document.proofs.RulesTest.{lawful-test}
-use Rattle.document.proofs.Blocks.{join-none}
+use Rattle.document.proofs.BlockExpressions.{join-none}
 use Rattle.document.proofs.Flatten.{regroup-flatten}
-use Rattle.document.proofs.Flat.{flat-nested, nested-flat, written-places}
-use Rattle.document.proofs.Depth.{depth-regrouped}
+use Rattle.document.proofs.ImperativeRuns.{flat-nested, nested-flat, written-places}
+use Rattle.document.proofs.RegroupedDepth.{depth-regrouped}
 
 -- A nested expression that writes the tree, is spelled by these expressions, and has the nodes at the same places.
 pub record Form {s : Spelling} {t : Tree} {es : Exprs} (w : WritesIn s t es) : Type 0 where

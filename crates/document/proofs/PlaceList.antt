@@ -12,8 +12,8 @@ use Rattle.elements.specs.rules.Class as Class
 use Rattle.elements.specs.rules.Inside.{start}
 use Rattle.syntax.specs.rules.Syntax.{space, line-end, word, string, leafBefore, Before, a-symbol, another, after, Forest, end, leaf, brackets, Ok}
 use Rattle.syntax.specs.rules.Expression.{Expr, symbol, Exprs, none, and, place, locateLeaf, locate}
-use Rattle.syntax.proofs.Classes.{Fits}
-use Rattle.syntax.proofs.Standing.{SymbolAt, StringAt, Front, ListAt, Stands, StandAll, stands-forward, forest-stands}
+use Rattle.syntax.proofs.ByteClasses.{Fits}
+use Rattle.syntax.proofs.ExpressionsInBytes.{SymbolAt, StringAt, Front, ListAt, Stands, StandAll, stands-forward, forest-stands}
 use Rattle.base.specs.rules.Limits.{missing}
 use Rattle.document.specs.rules.Document.{Tree, value, size, element, Trees, empty, holds, isNode, Node, says}
 use Rattle.document.specs.reference.RulesTest.{keepsRules, keepRules}
@@ -26,7 +26,7 @@ use Rattle.document.specs.rules.Placed.{Blank, SymbolEnds, Begins, Ascen
 use Rattle.document.proofs.BlockParts.{Kept, element-kept, parameters-kept, content-kept, block-parts}
 use Rattle.document.proofs.NodeOrder.{nodesOf, visitedOf, visits-nodes, treeNodes, treesNodes, holds-nodes, parts-nodes}
 use Rattle.document.proofs.RulesTest.{lawful-test}
-use Rattle.document.proofs.LaidOut.{document-node}
+use Rattle.document.proofs.CanonicalLayout.{document-node}
 use Rattle.document.proofs.Records.{visit-numbers, visits-length}
 
 -- The nodes begin at the places, which ascend from lo on and are below hi.

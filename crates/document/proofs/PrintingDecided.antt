@@ -24,10 +24,10 @@ use Rattle.document.specs.rules.Draft.{IsDraft, IsTableOf}
 use Rattle.document.proofs.RulesTest.{test-lawful}
 use Rattle.document.proofs.Records.{table-length}
 use Rattle.document.proofs.FirstFaults.{check-decides, well-formed-check}
-use Rattle.document.proofs.Prose.{same-refl}
-use Rattle.document.proofs.LaidOut.{laid-out}
-use Rattle.document.proofs.Levels.{document-levels}
-use Rattle.document.proofs.Numbers.{check-number}
+use Rattle.document.proofs.IdsAndReferences.{same-refl}
+use Rattle.document.proofs.CanonicalLayout.{laid-out}
+use Rattle.document.proofs.CanonicalLevels.{document-levels}
+use Rattle.document.proofs.RefusalNumbers.{check-number}
 use Rattle.document.proofs.Rebuild.{rebuilt}
 
 -- The table of a document passes the test.

@@ -15,7 +15,7 @@ use Rattle.document.specs.rules.Account.{Answers, too-long, ill-formed, 
 use Rattle.document.specs.rules.Readable.{Fits, Readable, Read}
 use Rattle.document.proofs.NestedForms.{spelled-once, spelled-once-in-both}
 use Rattle.document.proofs.Account.{answers, answers-only}
-use Rattle.document.proofs.Numbers.{refused-number, fault-number}
+use Rattle.document.proofs.RefusalNumbers.{refused-number, fault-number}
 
 -- How many nodes there is room for, and that a document fits, are the same.
 few : (m : Memory) (d : Node) → count d ≤ nodeRoom m → length (pool d) ≤ length (m .pool) → (count d ≤ 4096) × Fits d m

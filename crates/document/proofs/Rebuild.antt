@@ -10,7 +10,7 @@ use Rattle.base.specs.rules.Limits.{missing}
 use Rattle.document.specs.rules.Document.{Node, node, Nodes, childless, child}
 use Rattle.document.specs.rules.Table.{count, countAll, pool, poolAll, offset, rows, rowsAll, tableOf}
 use Rattle.document.specs.reference.Printing.{Numbered, part, below, notBelow, addRecord, rebuild, candidate}
-use Rattle.document.proofs.Determined.{count-positive}
+use Rattle.document.proofs.TableDetermines.{count-positive}
 use Rattle.document.proofs.Records.{named}
 
 abbrev numbered : ℕ → Node → Numbered

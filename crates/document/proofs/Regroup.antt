@@ -17,8 +17,8 @@ use Rattle.document.specs.reference.Imperative.{parameters, flatten, fla
 use Rattle.document.specs.rules.Command.{join, notAllowed, inCommand, loose, isCommand, block}
 use Rattle.document.specs.rules.Lead.{leadClass, listClass, exprClass}
 use Rattle.document.specs.reference.Meaning.{fine, judge, judgeList, judgeRoot}
-use Rattle.document.proofs.Nested.{not-fine}
-use Rattle.document.proofs.Blocks.{join-none, join-join, Read, read-on, inside-block, root-document, block-no-parameter, parameters-child, flatten-child, flatten-leaf}
+use Rattle.document.proofs.NestedMeaning.{not-fine}
+use Rattle.document.proofs.BlockExpressions.{join-none, join-join, Read, read-on, inside-block, root-document, block-no-parameter, parameters-child, flatten-child, flatten-leaf}
 
 -- No empty list stands in a block, at any depth: what may not stand there is put as one.
 mutual

@@ -5,7 +5,7 @@ use Rattle.syntax.specs.rules.Expression.{Expr, Exprs, and}
 use Rattle.syntax.specs.rules.Atoms.{AtomsOf}
 use Rattle.document.specs.reference.Imperative.{regroup}
 use Rattle.document.specs.rules.Command.{notAllowed}
-use Rattle.document.proofs.Nested.{AllText, AllTexts}
+use Rattle.document.proofs.NestedMeaning.{AllText, AllTexts}
 use Rattle.document.proofs.RegroupedAll.{Laws, regrouped-all}
 
 laws : Laws (λ (n : ℕ) (e : Expr). AllText e) (λ (n : ℕ) (es : Exprs). AllTexts es)

@@ -17,8 +17,8 @@ use Rattle.document.specs.rules.Canonical.{layout, treeLevels, canonical
 use Rattle.document.specs.rules.Draft.{IsTableOf}
 use Rattle.document.specs.rules.Memory.{Memory}
 use Rattle.document.specs.rules.Readable.{Fits, Readable}
-use Rattle.document.proofs.LaidOut.{laid-out}
-use Rattle.document.proofs.Levels.{spelled-levels}
+use Rattle.document.proofs.CanonicalLayout.{laid-out}
+use Rattle.document.proofs.CanonicalLevels.{spelled-levels}
 use Rattle.document.proofs.CanonicalSpells.{canonical-spells}
 
 -- The canonical spelling of a document spells it, by the rules alone, and nests as deep as the document's layout.

@@ -13,7 +13,7 @@ use Rattle.document.specs.rules.Memory.{answerAt, Memory, Outcome, refus
 use Rattle.document.specs.rules.Account as Account
 use Rattle.document.specs.rules.Account.{keepsMemory, Answers, too-long, ill-formed, no-node-room, no-pool-room, has-fault, accepted}
 use Rattle.document.proofs.Account.{answers}
-use Rattle.document.proofs.Numbers.{refused-number, fault-number}
+use Rattle.document.proofs.RefusalNumbers.{refused-number, fault-number}
 
 -- None of 15 to 18 is among the numbers that keep the memory.
 filled-number : (n : ℕ) → (15 ≤ n) × (n ≤ 18) → T (keepsMemory n) → ⊥

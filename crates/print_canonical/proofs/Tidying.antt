@@ -19,7 +19,7 @@ use Rattle.document.specs.reference.Printing.{treeOfTable, written, printing}
 use Rattle.document.specs.rules.Draft.{IsTableOf}
 use Rattle.document.specs.rules.Readable.{Readable, Read}
 use Rattle.document.proofs.Records.{table-length}
-use Rattle.document.proofs.LaidOut.{laid-out}
+use Rattle.document.proofs.CanonicalLayout.{laid-out}
 use Rattle.document.proofs.Rebuild.{rebuilt}
 use Rattle.document.proofs.ReadExactly.{accepted-document, document-accepted}
 use Rattle.document.proofs.PrintingDecided.{prints}

@@ -10,7 +10,7 @@ use Rattle.document.specs.rules.Spelling.{Spelling, Spells, WithinLimits}
 use Rattle.document.specs.rules.Table.{pool}
 use Rattle.document.specs.reference.Outcome.{oneExpression}
 use Rattle.document.proofs.NestedForms.{spelled-form, spelled-fine, spelled-means}
-use Rattle.document.proofs.Reading.{spelled-one}
+use Rattle.document.proofs.ReadingDecided.{spelled-one}
 use Rattle.reader.specs.internal.RunStands.{RunStands}
 use Rattle.reader.specs.internal.Counts.{poolBytes}
 use Rattle.reader.specs.internal.WalkAnswer.{readWalked}

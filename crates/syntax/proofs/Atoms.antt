@@ -13,7 +13,7 @@ use Rattle.syntax.specs.rules.Syntax.{Piece, raw, letter, number, isPiec
 use Rattle.syntax.specs.rules.Syntax.{line-end, word, string, leafBefore, isLeaf, Before, a-symbol, another, after, Forest, end, leaf, brackets, bytesBefore, bytesOf, Ok}
 use Rattle.syntax.specs.rules.Expression.{Expr, symbol, quoted, list, Exprs, none, and, locateLeaf, locate}
 use Rattle.syntax.specs.rules.Atoms.{AtomsOf, AllAtoms, IsText}
-use Rattle.syntax.proofs.Classes.{Fits, fits-end, fits-close}
+use Rattle.syntax.proofs.ByteClasses.{Fits, fits-end, fits-close}
 use Rattle.syntax.proofs.Strings.{Digits, digits-of}
 use Rattle.syntax.proofs.Runs.{lastOf, fits-run}
 use Rattle.syntax.proofs.Ascii.{blank-below, not-ordinary-below, letter-below, hex-below, open-below, close-below}

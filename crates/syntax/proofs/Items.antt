@@ -10,7 +10,7 @@ use Rattle.base.proofs.Booleans.{both, T-true}
 use Rattle.syntax.specs.rules.Byte.{Bracket, ByteClass, blank, return, quote, ordinary, opening, closing, byteClass, openByte, closeByte, isOrdinary}
 use Rattle.syntax.specs.rules.Syntax.{Piece, piecesBefore, arePieces, areOrdinary, Leaf, space, line-end, word, string, leafBefore, isLeaf, a-symbol, after}
 use Rattle.syntax.specs.reference.Scan.{closed, quotedFrom, quotedItem, ordinaryRun, a-leaf, opens, closes, itemAt, itemsFrom}
-use Rattle.syntax.proofs.Classes.{Fits, blank-class, ordinary-class, open-class, close-class}
+use Rattle.syntax.proofs.ByteClasses.{Fits, blank-class, ordinary-class, open-class, close-class}
 use Rattle.syntax.proofs.Strings.{pieces-append, quoted-pieces, pieces-closed}
 
 -- The bytes of an item already read are passed over.

@@ -7,7 +7,7 @@ use lib.ListN.{length}
 use Rattle.syntax.specs.rules.Byte.{Bracket}
 use Rattle.syntax.specs.rules.Syntax.{leafBefore, Forest, end, leaf, brackets, bytesOf, levels}
 use Rattle.syntax.specs.reference.Scan.{Items, closes, Open, Levels, fault, level, addLeaf, wrap, endLevel, oneMore, oneLess, build}
-use Rattle.syntax.proofs.Classes.{same-bracket}
+use Rattle.syntax.proofs.ByteClasses.{same-bracket}
 use Rattle.syntax.proofs.Runs.{itemsOf}
 
 -- A run in front of what follows it.

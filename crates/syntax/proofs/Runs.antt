@@ -10,7 +10,7 @@ use Rattle.syntax.specs.rules.Byte.{closeByte, byteClass, ordinaryClass,
 use Rattle.syntax.specs.rules.Syntax.{piecesBefore, Leaf, space, line-end, word, string, leafBefore, isLeaf, Before, a-symbol}
 use Rattle.syntax.specs.rules.Syntax.{another, after, mayFollow, Forest, end, leaf, brackets, bytesBefore, bytesOf, Ok}
 use Rattle.syntax.specs.reference.Scan.{Items, a-leaf, opens, closes, itemsFrom}
-use Rattle.syntax.proofs.Classes.{Fits, fits-class, fits-open, fits-close, blank-class}
+use Rattle.syntax.proofs.ByteClasses.{Fits, fits-class, fits-open, fits-close, blank-class}
 use Rattle.syntax.proofs.Strings.{pieces-append}
 use Rattle.syntax.proofs.Items.{items-leaf, items-open, items-close}
 

@@ -10,7 +10,7 @@ use Rattle.document.specs.rules.Document.{Node, node, Nodes, childless, child}
 use Rattle.document.specs.rules.Table.{count, countAll, pool, poolAll, rows, rowsAll, tableOf}
 use Rattle.document.specs.reference.Printing.{part}
 use Rattle.document.proofs.Records.{rows-length}
-use Rattle.document.proofs.Determined.{count-positive}
+use Rattle.document.proofs.TableDetermines.{count-positive}
 use Rattle.table.specs.Stored.{wordAt, Recorded, Stored, StoredAll}
 
 -- A part that is there whole and is not empty ends within the list.

@@ -1,5 +1,5 @@
 -- The run of expressions for a nested one, and back: the nested expression that an imperative text stands for. They need not be believed: that the one is what `Flat` tells is proved in
--- `proofs/Flat.antt`, and the other what `Takes` tells in `proofs/Takes.antt`. Document 01, "Imperative": each command takes what follows it, up to the next command that ends it;
+-- `proofs/ImperativeRuns.antt`, and the other what `Takes` tells in `proofs/BlockContents.antt`. Document 01, "Imperative": each command takes what follows it, up to the next command that ends it;
 -- what may not stand where it stands is put as an expression that is allowed nowhere, so that the nested meaning refuses it at its own place.
 use Prim.Native.Nat.{ℕ}
 use mathlib.Core.Path.{_≡_}

@@ -1,6 +1,6 @@
 -- Which block an expression of an imperative text belongs to: what a block takes of the expressions that follow its command, and what it leaves. Document 01, "Imperative":
 -- "A command ends each open block of lesser or equal significance, then opens a child of the innermost block left. Other expressions .. are content of the innermost open block".
--- That the stack of `regroup` finds the same blocks is proved in `proofs/Takes.antt`.
+-- That the stack of `regroup` finds the same blocks is proved in `proofs/BlockContents.antt`.
 use Prim.Native.Nat.{ℕ, _≤_, _<_}
 use mathlib.Core.Path.{_≡_}
 use mathlib.Core.Bool.{true, false}

@@ -18,7 +18,7 @@ use Rattle.syntax.specs.reference.Scan.{Open, Levels, fault, level, addLeaf, wr
 use Rattle.lexer.specs.Token.{codeOf, stringEnd, stringAt, scanNumber, scanPlace}
 use Rattle.lexer.specs.internal.Step.{Passed, goesOn, stops, pastString, passedAt, bracketOf, closesIt}
 use Rattle.lexer.proofs.class.ClassNumbers.{classBy, code-class}
-use Rattle.syntax.proofs.Classes.{ordinary-class}
+use Rattle.syntax.proofs.ByteClasses.{ordinary-class}
 use Rattle.syntax.proofs.Items.{item-of}
 use Rattle.syntax.proofs.Escapes.{later}
 

@@ -17,7 +17,7 @@ use Rattle.base.specs.Adds.{Adds}
 use Rattle.table.specs.Stored.{stringAt}
 use Rattle.printer.specs.internal.Inside.{valuesInside, childrenFirst, childrenAfter}
 use Rattle.base.proofs.Adding.{adds-as, adds-join}
-use Rattle.document.proofs.Determined.{count-positive}
+use Rattle.document.proofs.TableDetermines.{count-positive}
 use Rattle.printer.proofs.spell.StoredNodes.{words-of, FirstEnd}
 use Rattle.printer.proofs.spell.ElementParts.{canonical-text, canonical-parts}
 use Rattle.printer.proofs.spell.Siblings.{SpellsNode, adds-spelled, Done}

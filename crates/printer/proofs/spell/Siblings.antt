@@ -14,7 +14,7 @@ use Rattle.document.specs.rules.Canonical.{canonical}
 use Rattle.table.specs.Stored.{wordAt, Stored, StoredAll}
 use Rattle.printer.specs.internal.Inside.{insideAll}
 use Rattle.base.proofs.Adding.{adds-as, adds-none, adds-join, adds-tail}
-use Rattle.document.proofs.Determined.{count-positive}
+use Rattle.document.proofs.TableDetermines.{count-positive}
 use Rattle.printer.proofs.spell.StoredNodes.{end-word, no-nodes}
 use Rattle.printer.proofs.spell.ElementParts.{inside-child, inside-none}
 

@@ -13,7 +13,7 @@ use Rattle.document.specs.rules.Document.{Node, node, Nodes, childless, child}
 use Rattle.document.specs.rules.Table.{count, countAll, offset}
 use Rattle.document.specs.reference.Printing.{part}
 use Rattle.document.specs.rules.Canonical.{nodeFirst}
-use Rattle.document.proofs.Determined.{count-positive}
+use Rattle.document.proofs.TableDetermines.{count-positive}
 use Rattle.table.specs.Stored.{wordAt, Stored, StoredAll}
 use Rattle.table.proofs.Stored.{recorded-word}
 use Rattle.table.specs.Stored.{stringAt}

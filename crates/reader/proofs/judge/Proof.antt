@@ -8,7 +8,7 @@ use Rattle.syntax.specs.rules.Expression.{Expr, Exprs, none, and, depthAll}
 use Rattle.document.specs.rules.Spelling.{nested, imperative, mostLevels}
 use Rattle.document.specs.rules.Account.{as-it-stands, regrouped}
 use Rattle.document.specs.reference.Imperative.{regroup}
-use Rattle.document.proofs.Takes.{takes-regroup}
+use Rattle.document.proofs.BlockContents.{takes-regroup}
 use Rattle.reader.specs.internal.JudgedText.{TapeOfText}
 use Rattle.reader.specs.internal.RunStands.{RunStands}
 use Rattle.reader.specs.internal.Tape.{taped}

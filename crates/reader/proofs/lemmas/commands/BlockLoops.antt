@@ -22,7 +22,7 @@ use Rattle.document.specs.rules.Command.{join, inCommand}
 use Rattle.document.specs.rules.Command.{isCommand, block}
 use Rattle.document.specs.rules.Lead.{leadClass, exprClass, listClass}
 use Rattle.document.specs.reference.Meaning.{Verdict, fine, fault, finish, run, judge}
-use Rattle.document.proofs.Blocks.{block-element}
+use Rattle.document.proofs.BlockExpressions.{block-element}
 use Rattle.reader.specs.internal.RunStands.{Has, RunStands}
 use Rattle.reader.specs.internal.Counts.{nodeCount, nodeCountIn, poolBytes, poolBytesIn}
 use Rattle.reader.specs.internal.WalkAnswer.{walkedTo, Bounded, PoolBound}
@@ -36,7 +36,7 @@ use Rattle.reader.proofs.lemmas.walk.SeenExpressions.{SeenAs, saw-end, 
 use Rattle.reader.proofs.lemmas.walk.OneTurn.{Looked, none-taken, run-bad, run-fine, run-fault, seen-forward, open-list, seen-within}
 use Rattle.reader.proofs.lemmas.tape.AfterWalk.{taped-on, element-tape, taped-element}
 use Rattle.reader.proofs.lemmas.walk.LoopInvariant.{past-none, past-fault, past-fine, nodes-counted}
-use Rattle.document.proofs.Takes.{taken}
+use Rattle.document.proofs.BlockContents.{taken}
 use Rattle.reader.proofs.lemmas.commands.CommandClasses.{command-itself, parameter-class, loose-itself, loose-same, asParameter, parameter-of-class, parameter-place}
 use Rattle.reader.proofs.lemmas.commands.CommandClasses.{first-taken, FirstSeen, first-seen, AtomSeen, atom-seen}
 

@@ -16,7 +16,7 @@ use Rattle.document.specs.rules.Lead.{exprClass, listClass}
 use Rattle.document.specs.reference.Meaning.{fine, judge}
 use Rattle.document.specs.rules.Command.{notAllowed}
 use Rattle.document.specs.rules.Command.{loose, isCommand, block}
-use Rattle.document.proofs.Blocks.{block-no-parameter}
+use Rattle.document.proofs.BlockExpressions.{block-no-parameter}
 use Rattle.document.proofs.Regroup.{block-class}
 use Rattle.reader.specs.internal.RunStands.{RunStands}
 use Rattle.reader.specs.internal.Counts.{nodeCount, poolBytes}

@@ -16,7 +16,7 @@ use Rattle.document.specs.reference.Imperative.{innermost, contentsOf, regroup}
 use Rattle.document.specs.rules.Command.{block}
 use Rattle.document.specs.reference.Outcome.{tooDeep, judged, oneExpression}
 use Rattle.document.proofs.Regroup.{block-class}
-use Rattle.document.proofs.Depth.{depth-regrouped}
+use Rattle.document.proofs.RegroupedDepth.{depth-regrouped}
 use Rattle.reader.specs.internal.RunStands.{RunStands}
 use Rattle.reader.specs.internal.Counts.{nodeCount, poolBytes}
 use Rattle.reader.specs.internal.WalkAnswer.{walkedTo, Bounded, readWalked}
@@ -27,7 +27,7 @@ use Rattle.reader.specs.internal.BlockWalk.{InCommand}
 use Rattle.reader.specs.declared.walk.Walked.{Walked}
 use Rattle.reader.proofs.lemmas.walk.SeenExpressions.{SeenAs, saw-end, saw-symbol, saw-string, saw-list, look-stands}
 use Rattle.reader.proofs.lemmas.walk.OneTurn.{Looked, seen-forward, open-list}
-use Rattle.document.proofs.Takes.{takes-contents}
+use Rattle.document.proofs.BlockContents.{takes-contents}
 use Rattle.reader.proofs.lemmas.commands.CommandClasses.{FirstSeen, first-seen, block-place}
 use Rattle.reader.proofs.lemmas.commands.BlockLoops.{ChildVerdict, passed, stopped, child-verdict, block-same, block-tape, listed}
 

@@ -17,8 +17,8 @@ use Rattle.base.specs.rules.Limits.{missing}
 use Rattle.document.specs.rules.Document.{text, keyIn, typeIn, widthIn, heightIn}
 use Rattle.document.specs.rules.Lead.{leadClass}
 use Rattle.document.specs.reference.Meaning.{fine, judge, judgeList, treeOf, treesOf, places}
-use Rattle.document.proofs.Nested.{not-fine}
-use Rattle.document.proofs.Blocks.{Read}
+use Rattle.document.proofs.NestedMeaning.{not-fine}
+use Rattle.document.proofs.BlockExpressions.{Read}
 use Rattle.reader.specs.internal.Counts.{nodeCount, nodeCountOfList, nodeCountIn}
 use Rattle.reader.specs.internal.Tape.{entered, left, taped, tapedList, tapedAll, Located, LocatedAll}
 use Rattle.reader.specs.internal.Filling.{Filling, heldAt, withRow, entryAt, textRow, elementRow, nextRow}

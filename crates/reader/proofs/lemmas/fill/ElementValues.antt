@@ -17,7 +17,7 @@ use Rattle.document.specs.reference.RulesTest.{keepsRules}
 use Rattle.document.specs.rules.Spelling.{holdsText}
 use Rattle.document.specs.rules.Lead.{leadClass, listClass, exprClass}
 use Rattle.document.specs.reference.Meaning.{fine, judge, judgeList, textBytes, symbolBytes, onlyOne, sizeTree, valueTree, treeOf, treesOf}
-use Rattle.document.proofs.Values.{value-parts}
+use Rattle.document.proofs.WrittenValues.{value-parts}
 use Rattle.reader.proofs.lemmas.walk.Counts.{size-tree}
 use Rattle.reader.proofs.lemmas.fill.SingleValues.{EachFine, OneText, Without, value-keeps, one-text, symbol-single}
 

@@ -21,8 +21,8 @@ use Rattle.document.specs.rules.Value.{nonEmpty, isValue}
 use Rattle.document.specs.rules.Document.{Tree}
 use Rattle.document.specs.reference.RulesTest.{keepsRules}
 use Rattle.document.specs.reference.Meaning.{fine, fault, judge, judgeList, judgeValue, textBytes, symbolBytes, onlyOne, valueTree}
-use Rattle.document.proofs.Nested.{not-fine}
-use Rattle.document.proofs.Blocks.{Read, read-on}
+use Rattle.document.proofs.NestedMeaning.{not-fine}
+use Rattle.document.proofs.BlockExpressions.{Read, read-on}
 
 -- Each expression of the run is fine inside, in an element of kind k.
 abbrev pub EachFine : ℕ → Exprs → Type 0

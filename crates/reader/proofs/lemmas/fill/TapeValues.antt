@@ -18,8 +18,8 @@ use Rattle.document.specs.rules.Document.{keyIn, typeIn, widthIn, heightIn, wid
 use Rattle.document.specs.reference.RulesTest.{keepsRules}
 use Rattle.document.specs.rules.Lead.{leadClass, listClass, exprClass}
 use Rattle.document.specs.reference.Meaning.{fine, judge, textBytes, onlyOne, sizeTree, valueTree, treesOf}
-use Rattle.document.proofs.Nested.{not-fine}
-use Rattle.document.proofs.Blocks.{Read}
+use Rattle.document.proofs.NestedMeaning.{not-fine}
+use Rattle.document.proofs.BlockExpressions.{Read}
 use Rattle.reader.specs.internal.Counts.{nodeCount}
 use Rattle.reader.specs.internal.Tape.{noted, valuePlace, taped, tapedAll, LocatedAll}
 use Rattle.reader.specs.internal.Filling.{heldAt}

@@ -13,7 +13,7 @@ use Rattle.document.specs.rules.Document.{childless, child, isNode, says, sayAl
 use Rattle.document.specs.rules.Lead.{listClass, exprClass}
 use Rattle.document.specs.reference.Meaning.{fine, judgeRoot, treeOf, treesOf, places, allPlaces}
 use Rattle.document.specs.rules.Table.{pool, poolAll, rowsAll, tableOf}
-use Rattle.document.proofs.Blocks.{root-document}
+use Rattle.document.proofs.BlockExpressions.{root-document}
 use Rattle.reader.specs.internal.Counts.{nodeCount}
 use Rattle.reader.specs.internal.Tape.{taped, Located}
 use Rattle.reader.specs.internal.Filling.{Filling, saidBy}

@@ -17,8 +17,8 @@ use Rattle.syntax.specs.reference.Scan.{Scanned, scan}
 use Rattle.lexer.specs.Token.{scanPlace}
 use Rattle.syntax.specs.rules.Fault.{Opened, openedBefore, size, Hit, control, lone-return, no-escape, empty-string, unclosed-string, unopened, other-partner, left-open, too-deep, Fault}
 use Rattle.syntax.proofs.Strings.{pieces-append}
-use Rattle.syntax.proofs.Prefixes.{opened-length}
-use Rattle.syntax.proofs.Decided.{refused-fault}
+use Rattle.syntax.proofs.BeforeFault.{opened-length}
+use Rattle.syntax.proofs.SyntaxOrFault.{refused-fault}
 use Rattle.elements.specs.rules.Class as Class
 use Rattle.document.specs.rules.Spelling.{Spelling, nested, imperative}
 use Rattle.document.specs.rules.Lead.{leadClass}

@@ -16,23 +16,23 @@ use Rattle.syntax.specs.rules.Expression.{Expr, Exprs, none, and, locate, depth
 use Rattle.syntax.specs.reference.Scan as Scan
 use Rattle.syntax.specs.reference.Scan.{Scanned, scan}
 use Rattle.lexer.specs.Token.{scanNumber, scanPlace}
-use Rattle.syntax.proofs.Decided.{accepts, refused-fault}
-use Rattle.syntax.proofs.Located.{located-depth}
+use Rattle.syntax.proofs.SyntaxOrFault.{accepts, refused-fault}
+use Rattle.syntax.proofs.LocatedDepth.{located-depth}
 use Rattle.elements.specs.rules.Class as Class
 use Rattle.document.specs.rules.Document.{says, Document, isNode}
 use Rattle.document.specs.reference.Meaning.{Verdict, fine, fault, judgeRoot, treeOf, places}
 use Rattle.document.specs.reference.Imperative.{regroup}
 use Rattle.document.specs.rules.Table.{count, pool}
 use Rattle.document.specs.rules.Canonical.{layout, treeLevels}
-use Rattle.document.proofs.Levels.{spelled-levels}
-use Rattle.document.proofs.Reading.{Found, found, regrouped-form}
-use Rattle.document.proofs.Places.{root-places, element-node}
-use Rattle.document.proofs.Blocks.{root-document}
+use Rattle.document.proofs.CanonicalLevels.{spelled-levels}
+use Rattle.document.proofs.ReadingDecided.{Found, found, regrouped-form}
+use Rattle.document.proofs.PlaceCounts.{root-places, element-node}
+use Rattle.document.proofs.BlockExpressions.{root-document}
 use Rattle.document.specs.rules.Spelling.{Spelling, nested, imperative, mostLevels}
 use Rattle.document.specs.reference.Outcome.{Reading, refused, read, tooDeep, judged, oneExpression, afterScan, reading, afterReading, stored, outcome}
 use Rattle.document.specs.rules.Memory.{Memory, refusal}
 use Rattle.document.specs.rules.Account.{no-syntax, NestedForm, as-it-stands}
-use Rattle.document.proofs.Numbers.{refused-number}
+use Rattle.document.proofs.RefusalNumbers.{refused-number}
 use Rattle.reader.specs.declared.walk.Walked.{Walked}
 use Rattle.reader.specs.internal.WalkAnswer.{readWalked}
 use Rattle.reader.specs.internal.RunStands.{RunStands}

@@ -14,7 +14,7 @@ use Rattle.syntax.specs.rules.Syntax.{Before, another, after, Forest, end, leaf
 use Rattle.syntax.specs.rules.Expression.{Exprs, locateLeaf, locate}
 use Rattle.syntax.specs.reference.Scan.{closed, quotedFrom, ordinaryRun}
 use Rattle.lexer.specs.Token.{stringEnd, stringAt, contentOf, atomValue}
-use Rattle.syntax.proofs.Classes.{Fits, blank-class, ordinary-class, open-class, close-class, fits-end, fits-close}
+use Rattle.syntax.proofs.ByteClasses.{Fits, blank-class, ordinary-class, open-class, close-class, fits-end, fits-close}
 use Rattle.syntax.proofs.Strings.{pieces-append}
 use Rattle.syntax.proofs.Items.{run-ends, quoted-string}
 use Rattle.syntax.proofs.Runs.{leaf-append, leaf-length, run-append, run-length, lastOf, fits-run}

@@ -12,9 +12,9 @@ use Rattle.document.specs.reference.Meaning.{fine, judgeRoot}
 use Rattle.document.specs.reference.Imperative.{innermost, contentsOf, regroup}
 use Rattle.document.specs.rules.Command.{notAllowed}
 use Rattle.document.specs.rules.Account.{NestedForm, as-it-stands, regrouped}
-use Rattle.document.proofs.Blocks.{root-document}
+use Rattle.document.proofs.BlockExpressions.{root-document}
 use Rattle.document.proofs.Regroup.{block-class}
-use Rattle.document.proofs.Takes.{takes-regroup}
+use Rattle.document.proofs.BlockContents.{takes-regroup}
 use Rattle.document.proofs.RegroupedAll.{Laws, regrouped-all}
 use Rattle.reader.specs.internal.RunStands.{RunStands, ended, after-blank, after-line-end, a-symbol, a-string, a-list}
 use Rattle.reader.specs.internal.Tape.{Located, LocatedAll}

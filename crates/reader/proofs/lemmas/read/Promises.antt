@@ -21,9 +21,9 @@ use Rattle.document.specs.reference.Check.{Check, sound, unsound, check}
 use Rattle.document.specs.rules.Memory as Defined
 use Rattle.document.specs.reference.Outcome.{oneExpression, checked, stored, outcome}
 use Rattle.document.specs.rules.Memory.{Memory, answerAt, refusal, noRoom, over, filled, nodeRoom}
-use Rattle.document.proofs.Places.{root-places}
+use Rattle.document.proofs.PlaceCounts.{root-places}
 use Rattle.document.proofs.Records.{table-length}
-use Rattle.document.proofs.Numbers.{check-number}
+use Rattle.document.proofs.RefusalNumbers.{check-number}
 use Rattle.document.proofs.CheckedNode.{unsound-below}
 use Rattle.document.specs.rules.Canonical.{layout, treeLevels}
 use Rattle.document.specs.reference.Printing.{checkedAs, checking}

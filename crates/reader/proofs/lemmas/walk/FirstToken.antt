@@ -16,7 +16,7 @@ use Rattle.syntax.specs.rules.Byte.{ByteClass, blank, return, quote, forbidden,
 use Rattle.syntax.specs.rules.Byte.{isOrdinary}
 use Rattle.syntax.specs.reference.Scan.{ordinaryRun}
 use Rattle.lexer.specs.Token.{blanks, stringAt, atomValue, leadClassAt, leadLength, seenBy, seenFirst, seen}
-use Rattle.syntax.proofs.Classes.{ByteOf, class-byte}
+use Rattle.syntax.proofs.ByteClasses.{ByteOf, class-byte}
 use Rattle.lexer.proofs.Blanks.{blanks-fit, run-fits}
 use Rattle.reader.specs.internal.RunStands.{Has}
 use Rattle.reader.proofs.lemmas.walk.QuotedStrings.{StringSpans, string-spans, string-value}

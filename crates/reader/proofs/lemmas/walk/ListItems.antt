@@ -15,8 +15,8 @@ use Rattle.elements.specs.rules.Rules.{Slot, Content, alternatives, rules, rule
 use Rattle.elements.specs.rules.Inside.{State, expecting, holding}
 use Rattle.kind.specs.Machine.{stateOf}
 use Rattle.document.specs.rules.Faults.{Begun, Next, Taken, Allowed}
-use Rattle.document.proofs.Classes.{chosen-allowed}
-use Rattle.document.proofs.Steps.{begunOf, stepped as step-says}
+use Rattle.document.proofs.RuleClasses.{chosen-allowed}
+use Rattle.document.proofs.ElementSteps.{begunOf, stepped as step-says}
 use Rattle.reader.specs.internal.Walk.{StepTakes}
 
 -- No parameter may come.

@@ -18,8 +18,8 @@ use Rattle.lexer.specs.Token.{Seen, seen}
 use Rattle.document.specs.rules.Lead.{exprClass}
 use Rattle.document.specs.rules.Faults.{Begun, Taken, Allowed}
 use Rattle.document.specs.reference.Meaning.{Verdict, fine, fault, stopped, faultAt, advance, finish, run, judge}
-use Rattle.document.proofs.Classes.{allLead, leads, Leading, start-leading, next-leads, allowed-child, chosen-allowed}
-use Rattle.document.proofs.Steps.{begunOf, stepped as step-says}
+use Rattle.document.proofs.RuleClasses.{allLead, leads, Leading, start-leading, next-leads, allowed-child, chosen-allowed}
+use Rattle.document.proofs.ElementSteps.{begunOf, stepped as step-says}
 use Rattle.reader.specs.internal.Counts.{nodeCount, nodeCountIn, poolBytes, poolBytesIn}
 use Rattle.reader.specs.internal.WalkAnswer.{walkedTo, Bounded}
 use Rattle.reader.specs.internal.Tape.{entered, taped, tapedAll}

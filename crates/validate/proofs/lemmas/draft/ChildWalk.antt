@@ -15,11 +15,11 @@ use Rattle.document.specs.rules.Document.{Tree, Trees, holds, treeClass, Node, 
 use Rattle.document.specs.reference.RulesTest.{goesOn, keepsRules, keepRules}
 use Rattle.document.specs.rules.Table.{count, countAll, pool, poolAll}
 use Rattle.document.specs.rules.Canonical.{placeValues, layout, layoutAll, mostLevelsIn}
-use Rattle.document.proofs.Nested.{goes-on}
+use Rattle.document.proofs.NestedMeaning.{goes-on}
 use Rattle.table.specs.Stored.{wordAt, Stored, StoredAll}
 use Rattle.validate.specs.internal.DraftWalk.{DecidesNext, behindFirst, LawfulNodeAt, ChildrenAt, ChildTaken}
 use Rattle.table.proofs.Stored.{recorded-word, rows-stored}
-use Rattle.document.proofs.Determined.{count-positive}
+use Rattle.document.proofs.TableDetermines.{count-positive}
 use Rattle.validate.proofs.lemmas.records.Decided.{Same}
 use Rattle.validate.proofs.lemmas.draft.ValuePlaces.{layout-node}
 use Rattle.validate.proofs.lemmas.draft.LawfulNodes.{element-range}

@@ -16,7 +16,7 @@ use Rattle.document.specs.rules.Table.{count, pool}
 use Rattle.document.specs.rules.Canonical.{layout, treeLevels}
 use Rattle.document.proofs.RulesTest.{test-lawful}
 use Rattle.document.proofs.Records.{table-length}
-use Rattle.document.proofs.LaidOut.{laid-out}
+use Rattle.document.proofs.CanonicalLayout.{laid-out}
 use Rattle.table.specs.Stored.{wordAt}
 use Rattle.validate.specs.internal.DraftWalk.{LawfulNodeAt}
 use Rattle.document.specs.rules.Draft.{IsDraft}

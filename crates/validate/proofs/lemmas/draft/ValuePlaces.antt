@@ -13,7 +13,7 @@ use Rattle.document.specs.rules.Document.{Tree, size, Trees, holds, keyOf, type
 use Rattle.base.specs.rules.Limits.{missing}
 use Rattle.document.specs.rules.Document.{Node, node, Nodes, childless, child, isNode, says, sayAll}
 use Rattle.document.specs.rules.Canonical.{keyClass, valueBefore, sizeBefore, placeValues, layout, layoutAll, treeLevels, mostLevelsIn}
-use Rattle.document.proofs.Arranged.{node-no-value}
+use Rattle.document.proofs.ValueOrder.{node-no-value}
 
 -- The trees say these values and these nodes, and nest so many levels.
 pub record Say (key type : List ℕ) (w h : ℕ) (ns : Nodes) (levels : ℕ) (ts : Trees) : Type 0 where

@@ -20,7 +20,7 @@ use Rattle.document.specs.reference.RulesTest.{goesOn, keepsRules, keepRules}
 use Rattle.document.specs.rules.Table.{count, countAll}
 use Rattle.document.specs.rules.Value.{nonEmpty, every, namesBlock, targetCharacter, isValue, isSize}
 use Rattle.document.specs.rules.Canonical.{nodeFirst, placeValues, layout, layoutAll, valueBefore, sizeBefore}
-use Rattle.document.proofs.Determined.{count-positive}
+use Rattle.document.proofs.TableDetermines.{count-positive}
 use Rattle.table.specs.Stored.{wordAt}
 use Rattle.validate.specs.internal.DraftWalk.{TakesValues, ValuesLead, valueLevels, nodeValues}
 use Rattle.validate.proofs.lemmas.records.NodeRecords.{missing-string}

@@ -18,11 +18,11 @@ use Rattle.document.specs.rules.Lead.{leadClass, listClass, exprClass}
 use Rattle.document.specs.reference.Meaning.{valueTree, treeOf, treesOf, places, allPlaces}
 use Rattle.document.specs.reference.Imperative.{NestedOf, parameters, flatten, flattenContent}
 use Rattle.document.specs.rules.Command.{join}
-use Rattle.document.proofs.Values.{OfText, of-text}
-use Rattle.document.proofs.Nested.{tree-class, judge-complete}
+use Rattle.document.proofs.WrittenValues.{OfText, of-text}
+use Rattle.document.proofs.NestedMeaning.{tree-class, judge-complete}
 use Rattle.document.proofs.BlockRules.{block-range}
 use Rattle.document.proofs.BlockParts.{Kept, element-kept, parameters-kept, content-kept, Parts, no-more, one-more, block-parts}
-use Rattle.document.proofs.Blocks.{join-join, flatten-child, flatten-leaf}
+use Rattle.document.proofs.BlockExpressions.{join-join, flatten-child, flatten-leaf}
 
 -- ---- what a tree that keeps the rules is written by
 

@@ -9,7 +9,7 @@ use Rattle.syntax.specs.rules.Byte.{Bracket, openByte}
 use Rattle.syntax.specs.rules.Syntax.{Before, another, after, Forest, end, leaf, brackets, bytesBefore, bytesOf, Ok, levels}
 use Rattle.syntax.specs.reference.Scan.{Items, opens, itemsFrom, Open, fault, wrap, oneMore, build}
 use Rattle.syntax.specs.rules.Fault.{Opened, outside, within, openedBefore, size, openLevels, OkOpened}
-use Rattle.syntax.proofs.Classes.{Fits, fits-open}
+use Rattle.syntax.proofs.ByteClasses.{Fits, fits-open}
 use Rattle.syntax.proofs.Items.{items-open}
 use Rattle.syntax.proofs.Runs.{lastOf, itemsOf, items-run, run-length}
 use Rattle.syntax.proofs.Levels.{build-run, before-fault}

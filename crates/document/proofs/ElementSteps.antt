@@ -14,7 +14,7 @@ use Rattle.elements.specs.rules.Inside.{State, expecting, holding, Step, go, ba
 use Rattle.elements.proofs.EachRow.{each-kind}
 use Rattle.elements.proofs.Alternatives.{chosen-case, one-has, some-has, apart, chosen-one}
 use Rattle.document.specs.rules.Faults.{Next, NoneDue, Absent, Begun, due, children, ContentPlace, Allowed, Chooses, SameSort, Taken, NoneRequired, MayEnd}
-use Rattle.document.proofs.Classes.{chosen-allowed}
+use Rattle.document.proofs.RuleClasses.{chosen-allowed}
 
 abbrev pub begunOf : State → Begun
 begunOf (expecting ps) = due ps

@@ -15,7 +15,7 @@ use Rattle.document.specs.rules.Document.{Tree, element, Trees, holds, i
 use Rattle.document.specs.rules.Table.{count, countAll}
 use Rattle.document.specs.rules.Lead.{leadClass, listClass, exprClass}
 use Rattle.document.specs.reference.Meaning.{sizeTree, valueTree, treeOf, listTree, treesOf, Verdict, fine, finish, judgeValue, judge, judgeList, run, judgeRoot, places, listPlaces, allPlaces}
-use Rattle.document.proofs.Nested.{not-fine, passed}
+use Rattle.document.proofs.NestedMeaning.{not-fine, passed}
 
 -- The nodes of what a tree says; a value says none.
 unfoldable pub nodes : Tree → ℕ

@@ -8,7 +8,7 @@ use native.Mathlib.Omega.{arith}
 use Rattle.base.proofs.Booleans.{cond-case}
 use Rattle.document.specs.rules.WellFormed.{None, FirstSuch}
 use Rattle.document.specs.reference.Check.{First, nowhere, at-node, orElse}
-use Rattle.document.proofs.Counted.{Counted, at-least}
+use Rattle.document.proofs.NumberedLists.{Counted, at-least}
 
 -- What an answer of a search says of a fault.
 abbrev pub Finds : (ℕ → Type 0) → First → Type 0

@@ -14,7 +14,7 @@ use Rattle.document.specs.rules.Command.{join}
 use Rattle.document.specs.rules.Lead.{leadClass, listClass, exprClass}
 use Rattle.document.specs.reference.Meaning.{fine, judge, judgeList, judgeRoot}
 use Rattle.document.proofs.BlockRules.{Child, Within, LeadsTo, Takes, step-takes, start-within}
-use Rattle.document.proofs.Blocks.{Read, read-on, inside-block, root-document, flatten-leaf}
+use Rattle.document.proofs.BlockExpressions.{Read, read-on, inside-block, root-document, flatten-leaf}
 use Rattle.document.proofs.Regroup.{flatten-regroup}
 
 depth-join : (es fs : Exprs) → depthAll (join es fs) ≡ max (depthAll es) (depthAll fs)

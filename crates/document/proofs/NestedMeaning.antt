@@ -20,8 +20,8 @@ use Rattle.document.specs.rules.Spelling.{WritesAll, writes-none, writes
 use Rattle.document.specs.rules.Lead.{leadClass, listClass, exprClass}
 use Rattle.document.specs.reference.Meaning.{textBytes, onlyOne, sizeTree, valueTree, treeOf, listTree, treesOf, Verdict, fine, fault}
 use Rattle.document.specs.reference.Meaning.{Progress, faultAt, advance, finish, judgeValue, judge, judgeList, run, judgeRoot}
-use Rattle.document.proofs.Leads.{by-lead}
-use Rattle.document.proofs.Values.{value-written, OfText, of-text, text-bytes, type-tree, size-tree}
+use Rattle.document.proofs.LeadingNames.{by-lead}
+use Rattle.document.proofs.WrittenValues.{value-written, OfText, of-text, text-bytes, type-tree, size-tree}
 use Rattle.elements.proofs.Names.{name-of-class}
 
 -- Every symbol and quoted string, at any depth, is a text: one or more code points.

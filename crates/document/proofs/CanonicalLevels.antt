@@ -9,7 +9,7 @@ use Rattle.document.specs.rules.Document.{Tree, text, value, size, eleme
 use Rattle.document.specs.reference.RulesTest.{keepsRules, isDocument}
 use Rattle.document.specs.rules.Spelling.{Spelling, Writes, writes-text, writes-value, writes-type, writes-size, writes-element, WritesAll, writes-none, writes-and, Spells, WithinLimits}
 use Rattle.document.specs.rules.Canonical.{layout, treeLevels, mostLevelsIn}
-use Rattle.document.proofs.LaidOut.{layout-alike, document-node}
+use Rattle.document.proofs.CanonicalLayout.{layout-alike, document-node}
 use Rattle.document.proofs.RulesTest.{lawful-test}
 use Rattle.document.proofs.NestedForms.{spelled-form, nested-depth}
 

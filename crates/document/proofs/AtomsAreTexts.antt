@@ -9,7 +9,7 @@ use Rattle.syntax.specs.rules.Atoms.{IsText}
 use Rattle.syntax.proofs.Atoms.{all-atoms-map, atoms-utf8}
 use Rattle.document.specs.reference.RulesTest.{isText}
 use Rattle.document.proofs.RulesTest.{text-test}
-use Rattle.document.proofs.Nested.{AllTexts}
+use Rattle.document.proofs.NestedMeaning.{AllTexts}
 
 pub texts : (f : Forest) → Ok another f → IsUtf8 (bytesOf f) → AllTexts (locate 0 f)
 texts f ok u = all-atoms-map IsText (λ (s : List ℕ). T (isText s)) text-test (locate 0 f) (atoms-utf8 0 another f ok u)

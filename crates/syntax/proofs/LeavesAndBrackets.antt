@@ -14,7 +14,7 @@ use Rattle.syntax.specs.rules.Syntax.{Piece, raw, letter, number, isPiec
 use Rattle.syntax.specs.rules.Syntax.{Leaf, space, line-end, word, string, leafBefore, isLeaf, a-symbol, after}
 use Rattle.syntax.specs.reference.Scan.{escapeAt}
 use Rattle.syntax.specs.rules.Fault.{Opened, size, Hit, control, lone-return, no-escape, empty-string, unclosed-string}
-use Rattle.syntax.proofs.Classes.{ByteOf, class-byte, Fits}
+use Rattle.syntax.proofs.ByteClasses.{ByteOf, class-byte, Fits}
 use Rattle.syntax.proofs.Strings.{pieces-append, escape-spelled, letter-not-u, raw-tests}
 
 -- Induction over a text, with what is shown of all shorter ones.

@@ -11,12 +11,12 @@ use Rattle.syntax.specs.rules.Syntax.{Leaf, space, line-end, word, strin
 use Rattle.syntax.specs.rules.Syntax.{another, after, mayFollow, Forest, end, leaf, brackets, bytesBefore, bytesOf, Ok, levels}
 use Rattle.syntax.specs.reference.Scan.{refused, scanned, scan}
 use Rattle.syntax.specs.rules.Fault.{Opened, outside, within, openedBefore, size, openLevels, OkOpened, unopened, other-partner, left-open, too-deep, Fault, Verdict, good, faulty}
-use Rattle.syntax.proofs.Classes.{Fits, bracket-same}
+use Rattle.syntax.proofs.ByteClasses.{Fits, bracket-same}
 use Rattle.syntax.proofs.Runs.{lastOf}
-use Rattle.syntax.proofs.Accepted.{accepted}
-use Rattle.syntax.proofs.Prefixes.{lastOpened, withRun, with-bytes, with-last, with-ok, open-levels}
-use Rattle.syntax.proofs.Refused.{fault-refused}
-use Rattle.syntax.proofs.Texts.{Lexed, nothing, leaves, opens, closes, stops, lexed}
+use Rattle.syntax.proofs.SyntaxAccepted.{accepted}
+use Rattle.syntax.proofs.BeforeFault.{lastOpened, withRun, with-bytes, with-last, with-ok, open-levels}
+use Rattle.syntax.proofs.FaultsRefused.{fault-refused}
+use Rattle.syntax.proofs.LeavesAndBrackets.{Lexed, nothing, leaves, opens, closes, stops, lexed}
 
 -- A leaf whose bytes may follow may follow.
 follows : (m : Before) (l : Leaf) (k : List ℕ) → T (isLeaf l) → Fits m (leafBefore l k) → T (mayFollow m l)

@@ -12,9 +12,9 @@ use Rattle.syntax.specs.rules.Syntax.{levels}
 use Rattle.syntax.specs.rules.Expression.{Expr, Exprs, none, and, locate, depth}
 use Rattle.syntax.specs.reference.Scan as Scan
 use Rattle.syntax.specs.reference.Scan.{Scanned, scan}
-use Rattle.syntax.proofs.Accepted.{accepted}
-use Rattle.syntax.proofs.Decided.{accepts, refused-fault}
-use Rattle.syntax.proofs.Refused.{fault-refused}
+use Rattle.syntax.proofs.SyntaxAccepted.{accepted}
+use Rattle.syntax.proofs.SyntaxOrFault.{accepts, refused-fault}
+use Rattle.syntax.proofs.FaultsRefused.{fault-refused}
 use Rattle.syntax.specs.rules.Atoms.{AtomsOf}
 use Rattle.document.specs.rules.Document.{Node, says}
 use Rattle.document.specs.rules.Spelling.{Spelling, nested, imperative, mostLevels, WritesIn, Spells, WithinLimits, nodePlaces}
@@ -22,14 +22,14 @@ use Rattle.document.specs.reference.Imperative.{spelledAs, regroup}
 use Rattle.document.specs.reference.Meaning.{Verdict, fine, fault, judgeRoot, treeOf, places}
 use Rattle.document.specs.reference.Outcome.{Reading, refused, read, tooDeep, judged, oneExpression, afterScan, reading}
 use Rattle.document.specs.rules.Account.{Scans, NestedForm, as-it-stands, regrouped, RefusedFor, no-syntax, no-expression, second-expression, against-rules, too-deep}
-use Rattle.document.proofs.Nested.{AllText, AllTexts, root-sound, root-complete}
+use Rattle.document.proofs.NestedMeaning.{AllText, AllTexts, root-sound, root-complete}
 use Rattle.document.proofs.RulesTest.{lawful-test, test-lawful}
 use Rattle.document.proofs.Regroup.{flatten-regroup}
 use Rattle.document.proofs.Flatten.{regroup-flatten}
-use Rattle.document.proofs.Takes.{document-takes, takes-regroup}
+use Rattle.document.proofs.BlockContents.{document-takes, takes-regroup}
 use Rattle.document.proofs.NestedForms.{in-form, places-in, spelled-form, spelled-fine, nested-depth}
 use Rattle.document.proofs.RegroupedTexts.{regrouped-text}
-use Rattle.document.proofs.ScannedTexts.{texts}
+use Rattle.document.proofs.AtomsAreTexts.{texts}
 use Rattle.document.proofs.Faults.{fault-named, named-fault}
 
 -- What a reading says of the text.

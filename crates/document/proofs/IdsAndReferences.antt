@@ -22,8 +22,8 @@ use Rattle.document.specs.rules.Visits.{nodeKind, nodeKey, Visit, visits
 use Rattle.document.specs.rules.WellFormed.{NodeAt, HasId, RepeatedId, UnknownLink, UnknownFootnote, None, FirstSuch}
 use Rattle.document.specs.reference.Prose.{IdsDifferAmong, HasIdAmong, IdsDiffer, LinksFound, RefsFound}
 use Rattle.elements.proofs.Same.{same-equal}
-use Rattle.document.proofs.Counted.{Counted, counted, one-number, earlier-less, less-earlier}
-use Rattle.document.proofs.Searches.{Finds, finds-same, firstOf, FirstIn, FirstAnswer, first-answer, test-finds}
+use Rattle.document.proofs.NumberedLists.{Counted, counted, one-number, earlier-less, less-earlier}
+use Rattle.document.proofs.NumberedSearch.{Finds, finds-same, firstOf, FirstIn, FirstAnswer, first-answer, test-finds}
 use Rattle.document.proofs.Records.{entryOf, entries-visits, entry-numbers}
 
 -- A string is the same as itself.

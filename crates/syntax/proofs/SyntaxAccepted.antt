@@ -5,7 +5,7 @@ use mathlib.Core.List.{[]}
 use native.Mathlib.Omega.{arith}
 use Rattle.syntax.specs.rules.Syntax.{Forest, bytesOf, levels, another, Ok}
 use Rattle.syntax.specs.reference.Scan.{Items, done, itemsFrom, build, atEnd, scanned, outermost, scan}
-use Rattle.syntax.proofs.Classes.{fits-end}
+use Rattle.syntax.proofs.ByteClasses.{fits-end}
 use Rattle.syntax.proofs.Runs.{lastOf, items-run}
 use Rattle.syntax.proofs.Levels.{build-run, before-level}
 

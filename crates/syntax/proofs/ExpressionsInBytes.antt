@@ -11,7 +11,7 @@ use Rattle.syntax.specs.rules.Byte.{Bracket, openByte, closeByte}
 use Rattle.syntax.specs.rules.Syntax.{Piece, piecesBefore, piecesValue, arePieces, areOrdinary, Leaf, space, line-end, word, string, leafBefore}
 use Rattle.syntax.specs.rules.Syntax.{isLeaf, Before, a-symbol, another, after, mayFollow, Forest, end, leaf, brackets, bytesBefore, bytesOf, Ok}
 use Rattle.syntax.specs.rules.Expression.{Expr, symbol, quoted, list, Exprs, none, and, place, locateLeaf, locate}
-use Rattle.syntax.proofs.Classes.{Fits, fits-end, fits-close}
+use Rattle.syntax.proofs.ByteClasses.{Fits, fits-end, fits-close}
 use Rattle.syntax.proofs.Runs.{leaf-append, leaf-length, run-append, run-length, lastOf, fits-run}
 
 -- A symbol of these bytes stands at the place.

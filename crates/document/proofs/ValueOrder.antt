@@ -21,9 +21,9 @@ use Rattle.document.specs.rules.Document.{widthOr, heightOr, keyIn, type
 use Rattle.document.specs.reference.RulesTest.{goesOn, keepsRules, keepRules}
 use Rattle.document.specs.rules.Canonical.{valueBefore, sizeBefore, keyClass, nodeFirst, placeValues, treeLevels, mostLevelsIn}
 use Rattle.document.specs.rules.Faults.{Next, Begun, due, children, Taken}
-use Rattle.document.proofs.Steps.{begunOf, stepped}
-use Rattle.document.proofs.Classes.{isChild, allowed-child, chosen-child}
-use Rattle.document.proofs.Nested.{goes-on}
+use Rattle.document.proofs.ElementSteps.{begunOf, stepped}
+use Rattle.document.proofs.RuleClasses.{isChild, allowed-child, chosen-child}
+use Rattle.document.proofs.NestedMeaning.{goes-on}
 
 -- The trees that are nodes.
 unfoldable pub nodesIn : Trees → Trees

@@ -12,8 +12,8 @@ use Rattle.document.specs.rules.Document.{Tree, text, value, size, eleme
 use Rattle.document.specs.reference.RulesTest.{keepsRules, keepRules, isDocument}
 use Rattle.document.specs.rules.Canonical.{layout, layoutAll, treeLevels}
 use Rattle.document.proofs.RulesTest.{lawful-test}
-use Rattle.document.proofs.Nested.{goes-on}
-use Rattle.document.proofs.Arranged.{nodesIn, valuesOf, arrangedBy, Alike, alike-itself, AllAlike, all-alike-itself, all-alike-on, first-kept, holds-alike, low-node, arranged}
+use Rattle.document.proofs.NestedMeaning.{goes-on}
+use Rattle.document.proofs.ValueOrder.{nodesIn, valuesOf, arrangedBy, Alike, alike-itself, AllAlike, all-alike-itself, all-alike-on, first-kept, holds-alike, low-node, arranged}
 
 -- The tree laid out anew, where it is a node.
 unfoldable relaid : Tree → Tree

@@ -14,7 +14,7 @@ use Rattle.document.specs.reference.Imperative.{parameters, flatten, fla
 use Rattle.document.specs.rules.Command.{join}
 use Rattle.document.specs.rules.Lead.{leadClass, listClass, exprClass}
 use Rattle.document.specs.reference.Meaning.{Verdict, fine, finish, judge, judgeList, run, judgeRoot}
-use Rattle.document.proofs.Nested.{not-fine, passed}
+use Rattle.document.proofs.NestedMeaning.{not-fine, passed}
 use Rattle.document.proofs.BlockRules.{block-range}
 
 pub join-none : (es : Exprs) → join es none ≡ es
