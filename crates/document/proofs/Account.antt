@@ -23,7 +23,7 @@ use Rattle.document.specs.rules.Memory.{Memory, Outcome, nodeRoom}
 use Rattle.document.specs.rules.Account as Account
 use Rattle.document.specs.rules.Account.{Answers, too-long, ill-formed, no-node-room, no-pool-room, has-fault, accepted}
 use Rattle.document.proofs.NestedForms.{spelled-form, spelled-means}
-use Rattle.document.proofs.ReadingDecided.{Found, found, refused-read, spelled-read}
+use Rattle.document.proofs.ReadingDecided.{ReadingHolds, found, refused-read, spelled-read}
 use Rattle.document.proofs.FirstFaults.{check-decides, well-formed-check, fault-check}
 
 -- What a text spells is a document.
@@ -44,7 +44,7 @@ stored-answers s text m d sp l =
     go nodes bytes sound w = accepted sp l nodes bytes w
     go nodes bytes (unsound n i) f = has-fault sp l nodes bytes f
 
-read-answers : (s : Spelling) (text : List ℕ) (m : Memory) → length text ≤ mostBytes → IsUtf8 text → (r : Reading) → Found s text r
+read-answers : (s : Spelling) (text : List ℕ) (m : Memory) → length text ≤ mostBytes → IsUtf8 text → (r : Reading) → ReadingHolds s text r
     → Answers s text m (afterReading text m r)
 unfolding afterReading
 read-answers s text m short utf8 (refused n p) f = Account.refused short utf8 f

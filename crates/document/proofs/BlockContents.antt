@@ -28,26 +28,26 @@ unfoldable pub sizeOf : Exprs → ℕ
 sizeOf none = 0
 sizeOf (and x es) = suc (sizeOf es)
 
-pub record Taken (s : ℕ) (es : Exprs) : Type 0 where
+pub record ContentTaken (s : ℕ) (es : Exprs) : Type 0 where
   pub content : Exprs
   pub rest : Exprs
   pub takes : Takes s es content rest
   pub fewer : sizeOf rest ≤ sizeOf es
 
 abbrev Shorter : ℕ → Type 0
-Shorter n = (t : ℕ) (es : Exprs) → sizeOf es ≤ n → Taken t es
+Shorter n = (t : ℕ) (es : Exprs) → sizeOf es ≤ n → ContentTaken t es
 
-nothing : (s : ℕ) (es : Exprs) → sizeOf es ≤ 0 → Taken s es
+nothing : (s : ℕ) (es : Exprs) → sizeOf es ≤ 0 → ContentTaken s es
 unfolding sizeOf
 nothing s none h = record { content = none; rest = none; takes = at-end; fewer = omega arith }
 nothing s (and x es) h = absurd (omega arith)
 
-more : (n s : ℕ) (es : Exprs) → sizeOf es ≤ suc n → Shorter n → Taken s es
+more : (n s : ℕ) (es : Exprs) → sizeOf es ≤ suc n → Shorter n → ContentTaken s es
 unfolding sizeOf
 more n s none h next = record { content = none; rest = none; takes = at-end; fewer = omega arith }
 more n s (and x es) h next = go (isCommand x) refl (leb s (Class.significance (exprClass x))) refl
   where
-    go : (b : Bool) → isCommand x ≡ b → (d : Bool) → leb s (Class.significance (exprClass x)) ≡ d → Taken s (and x es)
+    go : (b : Bool) → isCommand x ≡ b → (d : Bool) → leb s (Class.significance (exprClass x)) ≡ d → ContentTaken s (and x es)
     go false c d e =
         let r = next s es (omega arith) in
         record { content = and (loose x) (r .content); rest = r .rest; takes = expression c (r .takes); fewer = omega (arith, r .fewer) }
@@ -67,7 +67,7 @@ taken-within : (n : ℕ) → Shorter n
 taken-within zero s es h = nothing s es h
 taken-within (suc n) s es h = more n s es h (taken-within n)
 
-pub taken : (s : ℕ) (es : Exprs) → Taken s es
+pub taken : (s : ℕ) (es : Exprs) → ContentTaken s es
 taken s es = taken-within (sizeOf es) s es (omega arith)
 
 -- A command is of lesser significance than the document.

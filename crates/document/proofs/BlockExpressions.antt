@@ -28,12 +28,12 @@ join-join none fs gs = refl
 join-join (and e es) fs gs = ap (and e) (join-join es fs gs)
 
 -- The expressions `es` are read to the element's end without a fault.
-abbrev pub Read : ℕ → ℕ → State → Exprs → Type 0
-Read at k s es = finish at k (run at k s es) ≡ fine
+abbrev pub EndsFine : ℕ → ℕ → State → Exprs → Type 0
+EndsFine at k s es = finish at k (run at k s es) ≡ fine
 
 -- Reading goes on past an expression: its step is one, and what is inside it is fine.
-pub read-on : (at k : ℕ) (s : State) (e : Expr) (es : Exprs) → Read at k s (and e es)
-    → (s′ : State) × (step k s (exprClass e) ≡ go s′) × (judge k e ≡ fine) × Read at k s′ es
+pub read-on : (at k : ℕ) (s : State) (e : Expr) (es : Exprs) → EndsFine at k s (and e es)
+    → (s′ : State) × (step k s (exprClass e) ≡ go s′) × (judge k e ≡ fine) × EndsFine at k s′ es
 unfolding judge
 read-on at k s e es h = passed at k (place e) (step k s (exprClass e)) (judge k e) (λ s′. run at k s′ es) h
 
@@ -45,7 +45,7 @@ block-element c b =
 
 -- A block that is fine was read to its end.
 pub inside-block : (k at : ℕ) (e : Expr) (es : Exprs) → T (Class.isBlock (leadClass e))
-    → judgeList k at (and e es) ≡ fine → Read at (leadClass e) (start (leadClass e)) es
+    → judgeList k at (and e es) ≡ fine → EndsFine at (leadClass e) (start (leadClass e)) es
 unfolding judge
 inside-block k at e es b h = rw (block-element (leadClass e) b) at h
 

@@ -10,7 +10,7 @@ use Rattle.document.specs.rules.Document.{Tree, element, Trees, empty, h
 use Rattle.document.specs.reference.RulesTest.{goesOn, keepsRules, keepRules}
 use Rattle.document.specs.rules.Spelling.{isBlockParameter, parametersOf, contentOf}
 use Rattle.document.proofs.NestedMeaning.{goes-on}
-use Rattle.document.proofs.BlockRules.{Within, LeadsTo, Follows, Takes, step-takes, start-within}
+use Rattle.document.proofs.BlockRules.{BlockState, LeadsTo, Follows, BlockStep, step-takes, start-within}
 
 -- Each of the trees keeps the rules inside an element of kind k.
 abbrev pub Kept : ℕ → Trees → Type 0
@@ -56,25 +56,25 @@ pub data Parts : Trees → Trees → Trees → Type 0 where
   one-more : {t : Tree} {ts ps cs : Trees} → Parts ts ps cs → Parts (holds t ts) (holds t ps) cs
 
 -- Where a block holds children no parameter follows.
-no-parameters : (k : ℕ) → T (Class.isBlock k) → (ts : Trees) (ks : List ℕ) → Within (holding ks) → T (keepRules k (holding ks) ts) → (parametersOf ts ≡ empty) × (contentOf ts ≡ ts)
-unfolding parametersOf contentOf Within LeadsTo Follows Takes
+no-parameters : (k : ℕ) → T (Class.isBlock k) → (ts : Trees) (ks : List ℕ) → BlockState (holding ks) → T (keepRules k (holding ks) ts) → (parametersOf ts ≡ empty) × (contentOf ts ≡ ts)
+unfolding parametersOf contentOf BlockState LeadsTo Follows BlockStep
 no-parameters k b empty ks w h = (refl, refl)
 no-parameters k b (holds t ts) ks w h =
     let (_, s′, went, later) = kept-first k (holding ks) t ts h in
-    let taken : Takes k (holding ks) (treeClass t) (go s′) = rw went at (step-takes k b (holding ks) w (treeClass t)) in
+    let taken : BlockStep k (holding ks) (treeClass t) (go s′) = rw went at (step-takes k b (holding ks) w (treeClass t)) in
     let leads : LeadsTo k (treeClass t) (holding ks) = rw (← (taken .2)) at (taken .1) in
     let (ps, cs) = no-parameters k b ts ks w (rw (← (taken .2)) at later) in
     (rw (leads .0 .no-parameter) ps, rw (leads .0 .no-parameter, cs))
 
-parts-from : (k : ℕ) → T (Class.isBlock k) → (ts : Trees) (s : State) → Within s → T (keepRules k s ts) → Parts ts (parametersOf ts) (contentOf ts)
-unfolding parametersOf contentOf LeadsTo Takes
+parts-from : (k : ℕ) → T (Class.isBlock k) → (ts : Trees) (s : State) → BlockState s → T (keepRules k s ts) → Parts ts (parametersOf ts) (contentOf ts)
+unfolding parametersOf contentOf LeadsTo BlockStep
 parts-from k b empty s w h = no-more
 parts-from k b (holds t ts) s w h =
     let (_, s′, went, later) = kept-first k s t ts h in
-    let (w′, leads, _) : Takes k s (treeClass t) (go s′) = rw went at (step-takes k b s w (treeClass t)) in
+    let (w′, leads, _) : BlockStep k s (treeClass t) (go s′) = rw went at (step-takes k b s w (treeClass t)) in
     split s′ w′ leads later (parts-from k b ts s′ w′ later)
   where
-    split : (s′ : State) → Within s′ → LeadsTo k (treeClass t) s′ → T (keepRules k s′ ts) → Parts ts (parametersOf ts) (contentOf ts)
+    split : (s′ : State) → BlockState s′ → LeadsTo k (treeClass t) s′ → T (keepRules k s′ ts) → Parts ts (parametersOf ts) (contentOf ts)
         → Parts (holds t ts) (parametersOf (holds t ts)) (contentOf (holds t ts))
     split (expecting ps) w l later ih = rw (T-true (isBlockParameter (treeClass t)) l) (one-more ih)
     split (holding ks) w l later ih =

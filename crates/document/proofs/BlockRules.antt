@@ -32,13 +32,13 @@ fits k c = cond (Class.isBlock c) (ltb (Class.significance c) (Class.significanc
 isChild : ℕ → ℕ → Bool
 isChild k c = not (isBlockParameter c) && (not (eqb c Class.document) && fits k c)
 
-pub record Child (k c : ℕ) : Type 0 where
+pub record BlockChild (k c : ℕ) : Type 0 where
   pub no-parameter : isBlockParameter c ≡ false
   pub no-document : eqb c Class.document ≡ false
   pub lesser : T (Class.isBlock c) → Class.significance c < Class.significance k
   pub alone : Class.isBlock c ≡ false → Class.significance k ≡ 0
 
-child : (k c : ℕ) → T (isChild k c) → Child k c
+child : (k c : ℕ) → T (isChild k c) → BlockChild k c
 unfolding isChild
 child k c h =
     let (p, h₁) = both (not (isBlockParameter c)) (not (eqb c Class.document) && fits k c) h in
@@ -85,69 +85,69 @@ known : (k : ℕ) → T (Class.isBlock k) → Known k (ruleOf k .content)
 known k b = (row k b .1, λ ks m. one-significance k m)
 
 -- How far a block is read: only parameters of blocks are still to come, or children of one significance.
-unfoldable pub Within : State → Type 0
-Within (expecting ps) = T (ofBlock ps)
-Within (holding ks) = Level ks
+unfoldable pub BlockState : State → Type 0
+BlockState (expecting ps) = T (ofBlock ps)
+BlockState (holding ks) = Level ks
 
 -- What leads on to a state is a parameter, or a child of the alternative that is held there.
 unfoldable pub LeadsTo : ℕ → ℕ → State → Type 0
 LeadsTo k c (expecting ps) = T (isBlockParameter c)
-LeadsTo k c (holding ks) = Child k c × T (among c ks)
+LeadsTo k c (holding ks) = BlockChild k c × T (among c ks)
 
 -- The alternative that is held stays.
 unfoldable pub Follows : State → State → Type 0
 Follows (expecting ps) s′ = Unit {0}
 Follows (holding ks) s′ = holding ks ≡ s′
 
-unfoldable pub Takes : ℕ → State → ℕ → Step → Type 0
-Takes k s c (bad n) = Unit {0}
-Takes k s c (go s′) = Within s′ × LeadsTo k c s′ × Follows s s′
+unfoldable pub BlockStep : ℕ → State → ℕ → Step → Type 0
+BlockStep k s c (bad n) = Unit {0}
+BlockStep k s c (go s′) = BlockState s′ × LeadsTo k c s′ × Follows s s′
 
 module _ (k c : ℕ) where
-  child-of : {kss : List (List ℕ)} {ks : List ℕ} → T (every (every (isChild k)) kss) → List·Memᴰ ks kss → T (among c ks) → Child k c
+  child-of : {kss : List (List ℕ)} {ks : List ℕ} → T (every (every (isChild k)) kss) → List·Memᴰ ks kss → T (among c ks) → BlockChild k c
   child-of {ks = ks} ok m a = child k c (each-among (isChild k) c ks a (each (every (isChild k)) m ok))
 
-  first-takes : (ps : List Slot) (t : Content) → Known k t → Takes k (expecting ps) c (firstChild t c)
-  unfolding Takes Within LeadsTo Follows firstChild
+  first-takes : (ps : List Slot) (t : Content) → Known k t → BlockStep k (expecting ps) c (firstChild t c)
+  unfolding BlockStep BlockState LeadsTo Follows firstChild
   first-takes ps t ok =
-      cond-case (Takes k (expecting ps) c) (isInclude c) (λ i. tt)
-      (λ i. chosen-case c (Takes k (expecting ps) c) (alternativesOf t) (λ ks m a. (ok .1 ks m, (child-of (ok .0) m a, a), tt)) (λ n. tt))
+      cond-case (BlockStep k (expecting ps) c) (isInclude c) (λ i. tt)
+      (λ i. chosen-case c (BlockStep k (expecting ps) c) (alternativesOf t) (λ ks m a. (ok .1 ks m, (child-of (ok .0) m a, a), tt)) (λ n. tt))
 
-  next-takes : (t : Content) (ks : List ℕ) → Level ks → Known k t → Takes k (holding ks) c (nextChild t ks c)
-  unfolding Takes Within LeadsTo Follows nextChild alternativesOf
+  next-takes : (t : Content) (ks : List ℕ) → Level ks → Known k t → BlockStep k (holding ks) c (nextChild t ks c)
+  unfolding BlockStep BlockState LeadsTo Follows nextChild alternativesOf
   next-takes (alternatives kss) ks l ok =
-      cond-case (Takes k (holding ks) c) (isInclude c) (λ i. tt)
-      (λ i. cond-case (Takes k (holding ks) c) (someHas kss c)
-      (λ s. cond-case (Takes k (holding ks) c) (among c ks)
+      cond-case (BlockStep k (holding ks) c) (isInclude c) (λ i. tt)
+      (λ i. cond-case (BlockStep k (holding ks) c) (someHas kss c)
+      (λ s. cond-case (BlockStep k (holding ks) c) (among c ks)
       (λ a. let (hs, m, b) = one-has c kss (true-T s) in (l, (child-of (ok .0) m b, true-T a), refl))
       (λ a. tt))
       (λ s. tt))
-  next-takes (exactly-one n) ks l ok = cond-case (Takes k (holding ks) c) (isInclude c) (λ i. tt) (λ i. tt)
+  next-takes (exactly-one n) ks l ok = cond-case (BlockStep k (holding ks) c) (isInclude c) (λ i. tt) (λ i. tt)
 
   parameter : (n : ℕ) → eqb c n ≡ true → T (isBlockParameter n) → T (isBlockParameter c)
   parameter n e t = rw (eqb-true c n e) t
 
-  parameter-takes : (qs ps : List Slot) (t : Content) → T (ofBlock ps) → Known k t → Takes k (expecting qs) c (nextParameter ps t c)
-  unfolding Takes Within LeadsTo Follows nextParameter ofBlock isBlockParameter
+  parameter-takes : (qs ps : List Slot) (t : Content) → T (ofBlock ps) → Known k t → BlockStep k (expecting qs) c (nextParameter ps t c)
+  unfolding BlockStep BlockState LeadsTo Follows nextParameter ofBlock isBlockParameter
   parameter-takes qs [] t ps-ok ok = first-takes qs t ok
   parameter-takes qs (must n ∷ ps) t ps-ok ok =
       let (now, later) = both (isBlockParameter n) (ofBlock ps) ps-ok in
-      cond-case (Takes k (expecting qs) c) (eqb c n) (λ e. (later, parameter n e now, tt)) (λ e. tt)
+      cond-case (BlockStep k (expecting qs) c) (eqb c n) (λ e. (later, parameter n e now, tt)) (λ e. tt)
   parameter-takes qs (may n ∷ ps) t ps-ok ok =
       let (now, later) = both (isBlockParameter n) (ofBlock ps) ps-ok in
-      cond-case (Takes k (expecting qs) c) (eqb c n) (λ e. (later, parameter n e now, tt)) (λ e. parameter-takes qs ps t later ok)
+      cond-case (BlockStep k (expecting qs) c) (eqb c n) (λ e. (later, parameter n e now, tt)) (λ e. parameter-takes qs ps t later ok)
   parameter-takes qs (id-type ∷ ps) t ps-ok ok =
-      cond-case (Takes k (expecting qs) c) (eqb c Class.id) (λ e. (ps-ok, parameter Class.id e tt, tt))
-      (λ e. cond-case (Takes k (expecting qs) c) (eqb c Class.type)
+      cond-case (BlockStep k (expecting qs) c) (eqb c Class.id) (λ e. (ps-ok, parameter Class.id e tt, tt))
+      (λ e. cond-case (BlockStep k (expecting qs) c) (eqb c Class.type)
       (λ e′. (ps-ok, parameter Class.type e′ tt, tt))
       (λ e′. parameter-takes qs ps t ps-ok ok))
 
 -- A block takes its parameters, and then children of one alternative.
-pub step-takes : (k : ℕ) → T (Class.isBlock k) → (s : State) → Within s → (c : ℕ) → Takes k s c (step k s c)
-unfolding step Within
+pub step-takes : (k : ℕ) → T (Class.isBlock k) → (s : State) → BlockState s → (c : ℕ) → BlockStep k s c (step k s c)
+unfolding step BlockState
 step-takes k b (expecting ps) w c = parameter-takes k c ps ps (ruleOf k .content) w (known k b)
 step-takes k b (holding ks) w c = next-takes k c (ruleOf k .content) ks w (known k b)
 
-pub start-within : (k : ℕ) → T (Class.isBlock k) → Within (start k)
-unfolding start Within
+pub start-within : (k : ℕ) → T (Class.isBlock k) → BlockState (start k)
+unfolding start BlockState
 start-within k b = row k b .0

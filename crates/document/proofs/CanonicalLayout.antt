@@ -13,7 +13,7 @@ use Rattle.document.specs.reference.RulesTest.{keepsRules, keepRules, is
 use Rattle.document.specs.rules.Canonical.{layout, layoutAll, treeLevels}
 use Rattle.document.proofs.RulesTest.{lawful-test}
 use Rattle.document.proofs.NestedMeaning.{goes-on}
-use Rattle.document.proofs.ValueOrder.{nodesIn, valuesOf, arrangedBy, Alike, alike-itself, AllAlike, all-alike-itself, all-alike-on, first-kept, holds-alike, low-node, arranged}
+use Rattle.document.proofs.ValueOrder.{nodesIn, valuesOf, arrangedBy, TreeAlike, alike-itself, TreesAlike, all-alike-itself, all-alike-on, first-kept, holds-alike, low-node, arranged}
 
 -- The tree laid out anew, where it is a node.
 unfoldable relaid : Tree → Tree
@@ -43,13 +43,13 @@ unfolding Class.isElement
 element-no-text c t = not-true (eqb c Class.text) (T-true _ (both (Class.isKind c) (not (eqb c Class.text)) t .1))
 
 -- The layout of what an element says.
-layout-element : (c : ℕ) (ts : Trees) → T (Class.isElement c) → AllAlike c (start c) ts (relaidAll ts)
+layout-element : (c : ℕ) (ts : Trees) → T (Class.isElement c) → TreesAlike c (start c) ts (relaidAll ts)
     → layout (says (element c ts)) ≡ element c (arrangedBy c (ruleOf c .parameters) (relaidAll ts))
 unfolding layout says arrangedBy valuesOf
 layout-element c ts e a =
     rw (element-no-text c e, ← a .same-key, ← a .same-type, ← a .same-width, ← a .same-height, ← relaid-nodes ts)
 
-element-alike : (k c : ℕ) (ts us : Trees) → T (Class.isElement c) → AllAlike c (start c) ts us → Alike k (element c ts) (element c us)
+element-alike : (k c : ℕ) (ts us : Trees) → T (Class.isElement c) → TreesAlike c (start c) ts us → TreeAlike k (element c ts) (element c us)
 unfolding keepsRules says treeLevels treeClass isNode keyOf typeOf widthOr heightOr
 element-alike k c ts us e a =
     record {
@@ -68,7 +68,7 @@ mutual
   unfolding relaid relaidAll keepsRules isNode says layout
 
   -- A tree that keeps the rules is laid out as one that does and says the same.
-  alike-relaid : (k : ℕ) (t : Tree) → T (keepsRules k t) → Alike k t (relaid t)
+  alike-relaid : (k : ℕ) (t : Tree) → T (keepsRules k t) → TreeAlike k t (relaid t)
   alike-relaid k (text s) h = alike-itself k (text s) h
   alike-relaid k (value c s) h = alike-itself k (value c s) h
   alike-relaid k (size w v) h = alike-itself k (size w v) h
@@ -77,7 +77,7 @@ mutual
       let a = all-alike-relaid c (start c) ts inside in
       rw (layout-element c ts e a) (element-alike k c ts _ e (all-alike-on a (arranged c (relaidAll ts) e (a .kept))))
 
-  all-alike-relaid : (k : ℕ) (s : State) (ts : Trees) → T (keepRules k s ts) → AllAlike k s ts (relaidAll ts)
+  all-alike-relaid : (k : ℕ) (s : State) (ts : Trees) → T (keepRules k s ts) → TreesAlike k s ts (relaidAll ts)
   all-alike-relaid k s empty h = all-alike-itself k s empty h
   all-alike-relaid k s (holds t ts) h =
       let (here, on) = first-kept k s t ts h in
@@ -85,7 +85,7 @@ mutual
       holds-alike k s s′ t (relaid t) ts (relaidAll ts) e (alike-relaid k t here) (all-alike-relaid k s′ ts later)
 
 -- So is the layout of what a node says.
-pub layout-alike : (k : ℕ) (t : Tree) → T (keepsRules k t) → T (isNode t) → Alike k t (layout (says t))
+pub layout-alike : (k : ℕ) (t : Tree) → T (keepsRules k t) → T (isNode t) → TreeAlike k t (layout (says t))
 unfolding relaid
 layout-alike k t h i = rw (T-true (isNode t) i) at (alike-relaid k t h)
 

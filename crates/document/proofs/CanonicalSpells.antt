@@ -29,7 +29,7 @@ use Rattle.document.proofs.CanonicalStrings.{byte-before, pieceOf, piec
 use Rattle.document.proofs.CanonicalSymbols.{isSymbol, symbol-ordinary, symbol-before, symbol-of, type-plain, id-plain, target-utf8, name-symbol, element-symbol, digits-number, digits-symbol}
 
 -- A tree's part of a spelling, in front of what follows.
-record Spelled (t : Tree) : Type 0 where
+record TreeSpelled (t : Tree) : Type 0 where
   run : Forest → Forest
   bytes : (f : Forest) (k : List ℕ) → bytesBefore (run f) k ≡ spelledBefore t (bytesBefore f k)
   utf8 : (k : List ℕ) → IsUtf8 k → IsUtf8 (spelledBefore t k)
@@ -60,7 +60,7 @@ unfolding insideBefore bytesBefore Ok levels treeLevels locate
 none-spelled =
     record { run = end; bytes = λ k. refl; utf8 = λ k u. u; syntax = λ m. tt; deep = refl; written = λ n. writes-none }
 
-one-spelled : {t : Tree} {ts : Trees} → Spelled t → SpelledAll ts → SpelledAll (holds t ts)
+one-spelled : {t : Tree} {ts : Trees} → TreeSpelled t → SpelledAll ts → SpelledAll (holds t ts)
 unfolding insideBefore bytesBefore leafBefore Ok isLeaf isBlank blankClass byteClass after levels treeLevels locate locateLeaf
 one-spelled {t} {ts} s r =
     record {
@@ -74,7 +74,7 @@ one-spelled {t} {ts} s r =
 
 -- ---- strings, symbols and brackets
 
-quoted-spelled : (s : List ℕ) → T (nonEmpty s) → IsUtf8 s → Spelled (text s)
+quoted-spelled : (s : List ℕ) → T (nonEmpty s) → IsUtf8 s → TreeSpelled (text s)
 unfolding nonEmpty spelledBefore quotedBefore bytesBefore leafBefore Ok mayFollow isLeaf after levels treeLevels locate locateLeaf piecesOf
 quoted-spelled [] h u = absurd h
 quoted-spelled (b ∷ s) h u =
@@ -113,7 +113,7 @@ symbol-inside (b ∷ s) h i =
 module _ (t : Tree) (c : ℕ) (spelled : List ℕ → List ℕ) (inner : ℕ) (Are : Exprs → Type 0) (i : Inside spelled inner Are)
     (is : (k : List ℕ) → spelledBefore t k ≡ bracketsBefore c spelled k) (d : treeLevels t ≡ suc inner)
     (w : (at p : ℕ) (es : Exprs) → Are es → Writes t (bracketed at p c es)) where
-  around : (s : List ℕ) → Class.nameOf c ≡ s → T (isSymbol s) → Spelled t
+  around : (s : List ℕ) → Class.nameOf c ≡ s → T (isSymbol s) → TreeSpelled t
   unfolding isSymbol nonEmpty bracketsBefore bytesBefore leafBefore openByte closeByte Ok mayFollow isLeaf after levels locate locateLeaf
   around [] e h = absurd h
   around (b ∷ s) e h =
@@ -128,7 +128,7 @@ module _ (t : Tree) (c : ℕ) (spelled : List ℕ → List ℕ) (inner : ℕ) (A
             (list n (and (symbol (n + 1) (b ∷ s)) (locate m (i .run))), _, refl, rw e at (w n (n + 1) (locate m (i .run)) (i .written m)));
       }
 
-  named : T (isSymbol (Class.nameOf c)) → Spelled t
+  named : T (isSymbol (Class.nameOf c)) → TreeSpelled t
   named h = around (Class.nameOf c) refl h
 
 -- ---- trees
@@ -150,28 +150,28 @@ size-written : {v w : ℕ} {ds es : List ℕ} → WritesNumber v ds → WritesNu
 size-written m n at p xs (symbol-then (symbol-then writes-none)) = writes-size m n
 
 module _ (s : List ℕ) (some : T (nonEmpty s)) where
-  type-spelled : T (every typeCharacter s) → Spelled (value Class.type s)
+  type-spelled : T (every typeCharacter s) → TreeSpelled (value Class.type s)
   unfolding spelledBefore stringBefore treeLevels
   type-spelled t =
       named (value Class.type s) Class.type _ _ _ (symbol-inside s (symbol-of typeCharacter type-plain s some t) none-spelled)
       (λ k. refl) refl type-written (name-symbol Class.type tt (lit< tt))
 
-  id-spelled : T (every idCharacter s) → Spelled (value Class.id s)
+  id-spelled : T (every idCharacter s) → TreeSpelled (value Class.id s)
   unfolding spelledBefore stringBefore treeLevels
   id-spelled t =
       named (value Class.id s) Class.id _ _ _ (symbol-inside s (symbol-of idCharacter id-plain s some t) none-spelled)
       (λ k. refl) refl id-written (name-symbol Class.id tt (lit< tt))
 
-  target-spelled : (k : ℕ) → T (every (targetCharacter k) s) → Spelled (value Class.target s)
+  target-spelled : (k : ℕ) → T (every (targetCharacter k) s) → TreeSpelled (value Class.target s)
   unfolding spelledBefore stringBefore treeLevels
   target-spelled k t =
       named (value Class.target s) Class.target _ _ _ (one-spelled (quoted-spelled s some (target-utf8 k s t)) none-spelled)
       (λ k. refl) refl target-written (name-symbol Class.target tt (lit< tt))
 
-value-spelled : (k c : ℕ) (s : List ℕ) → T (isValue k c s) → Spelled (value c s)
+value-spelled : (k c : ℕ) (s : List ℕ) → T (isValue k c s) → TreeSpelled (value c s)
 unfolding isValue
 value-spelled k c s t =
-    let Is : Bool → Type 0 = λ b. T b → Spelled (value c s) in
+    let Is : Bool → Type 0 = λ b. T b → TreeSpelled (value c s) in
     let (some, t′) = both (nonEmpty s) _ t in
     cond-case Is (eqb c Class.type) (λ e h. rw (eqb-true c Class.type e) (type-spelled s some h))
     (λ e. cond-case Is (eqb c Class.id) (λ f h. rw (eqb-true c Class.id f) (id-spelled s some h))
@@ -179,7 +179,7 @@ value-spelled k c s t =
     (λ g h. absurd h)))
     t′
 
-size-spelled : (v w : ℕ) → T (isSize v w) → Spelled (size v w)
+size-spelled : (v w : ℕ) → T (isSize v w) → TreeSpelled (size v w)
 unfolding isSize spelledBefore treeLevels
 size-spelled v w t =
     let (wide, high) = both (leb v 65535) (leb w 65535) t in
@@ -189,11 +189,11 @@ size-spelled v w t =
     (symbol-inside (digits v) (digits-symbol v m) (symbol-inside (digits w) (digits-symbol w n) none-spelled))
     (λ k. refl) refl (size-written (digits-number v m) (digits-number w n)) (name-symbol Class.size tt (lit< tt))
 
-text-spelled : (s : List ℕ) → T (isText s) → Spelled (text s)
+text-spelled : (s : List ℕ) → T (isText s) → TreeSpelled (text s)
 unfolding isText
 text-spelled s t = quoted-spelled s (both (nonEmpty s) (eqb (validUpTo s) (length s)) t .0) (test-text s t .is-utf8)
 
-element-spelled : (c : ℕ) (ts : Trees) → T (Class.isElement c) → SpelledAll ts → Spelled (element c ts)
+element-spelled : (c : ℕ) (ts : Trees) → T (Class.isElement c) → SpelledAll ts → TreeSpelled (element c ts)
 unfolding spelledBefore treeLevels
 element-spelled c ts t i =
     named (element c ts) c _ _ _ i (λ k. refl) refl (λ at p es w. writes-element w) (element-symbol c t)
@@ -202,7 +202,7 @@ mutual
   unfolding keepsRules
 
   -- A tree that keeps the rules is spelled.
-  tree-spelled : (k : ℕ) (t : Tree) → T (keepsRules k t) → Spelled t
+  tree-spelled : (k : ℕ) (t : Tree) → T (keepsRules k t) → TreeSpelled t
   tree-spelled k (text s) h = text-spelled s h
   tree-spelled k (value c s) h = value-spelled k c s h
   tree-spelled k (size v w) h = size-spelled v w h
@@ -221,7 +221,7 @@ mutual
 pub canonical-spells : (t : Tree) → T (isDocument t) → (sp : Spells nested (says t) (spelledBefore t [])) × (levels (sp .forest) ≡ treeLevels t)
 unfolding isDocument bytesOf bytesBefore Ok levels locate
 canonical-spells t h =
-    let s : Spelled t = tree-spelled 0 t (both (eqb (treeClass t) Class.document) (keepsRules 0 t) h .1) in
+    let s : TreeSpelled t = tree-spelled 0 t (both (eqb (treeClass t) Class.document) (keepsRules 0 t) h .1) in
     let (e, m, is, w) = s .written 0 end in (
       record {
         utf8 = s .utf8 [] nil-utf8;

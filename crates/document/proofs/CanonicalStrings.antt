@@ -71,11 +71,11 @@ unfolding passes isPiece pieceOf same pieceValue every isAscii pieceBefore hexBy
 all-pass = tt
 
 -- The same as facts.
-record Fits (b : ℕ) (p : Piece) : Type 0 where
+record StandsForByte (b : ℕ) (p : Piece) : Type 0 where
   is-piece : T (isPiece p)
   value : pieceValue p ≡ b ∷ []
 
-low-fits : (b : ℕ) → b < 0x80 → Fits b (pieceOf b) × T (every isAscii (pieceBefore (pieceOf b) []))
+low-fits : (b : ℕ) → b < 0x80 → StandsForByte b (pieceOf b) × T (every isAscii (pieceBefore (pieceOf b) []))
 unfolding passes
 low-fits b h =
     let ascii : Bool = every isAscii (pieceBefore (pieceOf b) []) in
@@ -84,7 +84,7 @@ low-fits b h =
     let (two, three) = both value ascii t in
     (record { is-piece = one; value = same-equal (pieceValue (pieceOf b)) (b ∷ []) two }, three)
 
-piece-fits : (b : ℕ) → Fits b (pieceOf b)
+piece-fits : (b : ℕ) → StandsForByte b (pieceOf b)
 unfolding isPiece isRaw pieceValue
 piece-fits b =
     bool-case (ltb b 0x80)

@@ -17,8 +17,8 @@ use Rattle.document.specs.rules.Command.{join, inCommand, loose, isComma
 use Rattle.document.specs.rules.Lead.{leadClass, listClass, exprClass}
 use Rattle.document.specs.reference.Meaning.{fine, judge, judgeList, judgeRoot}
 use Rattle.document.proofs.NestedMeaning.{not-fine}
-use Rattle.document.proofs.BlockRules.{Child, Level, Within, LeadsTo, Follows, Takes, step-takes, start-within}
-use Rattle.document.proofs.BlockExpressions.{join-none, join-join, Read, read-on, inside-block, root-document, flatten-child, flatten-leaf}
+use Rattle.document.proofs.BlockRules.{BlockChild, Level, BlockState, LeadsTo, Follows, BlockStep, step-takes, start-within}
+use Rattle.document.proofs.BlockExpressions.{join-none, join-join, EndsFine, read-on, inside-block, root-document, flatten-child, flatten-leaf}
 
 -- What follows ends an open block of significance s: nothing, or a command of no lesser significance.
 Ends : ℕ → Exprs → Type 0
@@ -43,12 +43,12 @@ unfolding contentsOf opened stillOpen
 open-child s blocks e es c l = rw (c, lt-leb s (Class.significance (exprClass e)) l)
 
 -- Reading a block goes on past an expression that it takes.
-taken : (k : ℕ) → T (Class.isBlock k) → (at : ℕ) (s : State) → Within s → (e : Expr) (es : Exprs) → Read at k s (and e es)
-    → (s′ : State) × Within s′ × LeadsTo k (exprClass e) s′ × Follows s s′ × (judge k e ≡ fine) × Read at k s′ es
-unfolding Takes
+taken : (k : ℕ) → T (Class.isBlock k) → (at : ℕ) (s : State) → BlockState s → (e : Expr) (es : Exprs) → EndsFine at k s (and e es)
+    → (s′ : State) × BlockState s′ × LeadsTo k (exprClass e) s′ × Follows s s′ × (judge k e ≡ fine) × EndsFine at k s′ es
+unfolding BlockStep
 taken k b at s w e es h =
     let (s′, went, f, r) = read-on at k s e es h in
-    let t : Takes k s (exprClass e) (go s′) = rw went at (step-takes k b s w (exprClass e)) in
+    let t : BlockStep k s (exprClass e) (go s′) = rw went at (step-takes k b s w (exprClass e)) in
     (s′, t .0, t .1, t .2, f, r)
 
 -- What follows the parameters of a block.
@@ -57,9 +57,9 @@ content none = none
 content (and e es) = cond (isBlockParameter (exprClass e)) (content es) (and e (content es))
 
 -- Where an alternative is held no parameter follows.
-no-more-parameters : (es : Exprs) (at k : ℕ) → T (Class.isBlock k) → (ks : List ℕ) → Level ks → Read at k (holding ks) es
+no-more-parameters : (es : Exprs) (at k : ℕ) → T (Class.isBlock k) → (ks : List ℕ) → Level ks → EndsFine at k (holding ks) es
     → (parameters es ≡ none) × (content es ≡ es)
-unfolding content parameters Within LeadsTo Follows
+unfolding content parameters BlockState LeadsTo Follows
 no-more-parameters none at k b ks w h = (refl, refl)
 no-more-parameters (and e es) at k b ks w h =
     let (s′, _, l, same, _, r) = taken k b at (holding ks) w e es h in
@@ -68,15 +68,15 @@ no-more-parameters (and e es) at k b ks w h =
     (rw (leads .0 .no-parameter) ps, rw (leads .0 .no-parameter, es-same))
 
 -- The parameters stand before the content.
-parameters-first : (es : Exprs) (at k : ℕ) → T (Class.isBlock k) → (s : State) → Within s → Read at k s es
+parameters-first : (es : Exprs) (at k : ℕ) → T (Class.isBlock k) → (s : State) → BlockState s → EndsFine at k s es
     → join (parameters es) (content es) ≡ es
-unfolding content parameters join Within LeadsTo
+unfolding content parameters join BlockState LeadsTo
 parameters-first none at k b s w h = refl
 parameters-first (and e es) at k b s w h =
     let (s′, w′, l, _, _, r) = taken k b at s w e es h in
     split s′ w′ l r (parameters-first es at k b s′ w′ r)
   where
-    split : (s′ : State) → Within s′ → LeadsTo k (exprClass e) s′ → Read at k s′ es → join (parameters es) (content es) ≡ es
+    split : (s′ : State) → BlockState s′ → LeadsTo k (exprClass e) s′ → EndsFine at k s′ es → join (parameters es) (content es) ≡ es
         → join (parameters (and e es)) (content (and e es)) ≡ and e es
     split (expecting ps) w l r ih = rw (T-true (isBlockParameter (exprClass e)) l) (ap (and e) ih)
     split (holding ks) w l r ih =
@@ -107,9 +107,9 @@ command-first (list at (and e es)) b =
 
 -- After a block of class t among its siblings, which are of its alternative, there follows what ends it.
 siblings-end : (es : Exprs) (at k : ℕ) → T (Class.isBlock k) → (ks : List ℕ) → Level ks → (t : ℕ) → T (among t ks)
-    → Class.significance t < Class.significance k → Read at k (holding ks) es
+    → Class.significance t < Class.significance k → EndsFine at k (holding ks) es
     → (r : Exprs) → Ends (Class.significance k) r → Ends (Class.significance t) (join (flattenContent es) r)
-unfolding Within LeadsTo Follows join flatten Ends
+unfolding BlockState LeadsTo Follows join flatten Ends
 siblings-end none at k b ks w t a less h r ends = ends-lesser (Class.significance k) (Class.significance t) r (omega arith) ends
 siblings-end (and e es) at k b ks w t a less h r ends =
     let (s′, _, l, same, _, _) = taken k b at (holding ks) w e es h in
@@ -129,12 +129,12 @@ ChildLaw s e blocks r = contentsOf (s ∷ blocks) (join (flatten e) r) ≡ atInn
 abbrev ContentLaw : ℕ → Exprs → List ℕ → Exprs → Type 0
 ContentLaw s es blocks r = contentsOf (s ∷ blocks) (join (flattenContent es) r) ≡ content es ∷ contentsOf blocks r
 
-leaf-law : (e : Expr) (k : ℕ) → Child k (exprClass e) → Class.isBlock (exprClass e) ≡ false → (blocks : List ℕ) (r : Exprs)
+leaf-law : (e : Expr) (k : ℕ) → BlockChild k (exprClass e) → Class.isBlock (exprClass e) ≡ false → (blocks : List ℕ) (r : Exprs)
     → ChildLaw (Class.significance k) e blocks r
 unfolding contentsOf join isCommand loose
 leaf-law e k c b blocks r = rw (flatten-leaf e b) (rw (b, c .no-parameter, c .no-document))
 
-block-law : (at k : ℕ) (e : Expr) (es : Exprs) → Child k (leadClass e) → T (Class.isBlock (leadClass e)) → join (parameters es) (content es) ≡ es
+block-law : (at k : ℕ) (e : Expr) (es : Exprs) → BlockChild k (leadClass e) → T (Class.isBlock (leadClass e)) → join (parameters es) (content es) ≡ es
     → (blocks : List ℕ) (r : Exprs) → ContentLaw (Class.significance (leadClass e)) es (Class.significance k ∷ blocks) r
     → ChildLaw (Class.significance k) (list at (and e es)) blocks r
 unfolding flatten join exprClass listClass block childOf
@@ -149,12 +149,12 @@ unfolding flatten
 flatten-parameter e es p = rw p
 
 -- From the law of the first expression and that of those that follow it to that of them all.
-content-step : (at k : ℕ) → T (Class.isBlock k) → (e : Expr) (es : Exprs) (s : State) → Within s → LeadsTo k (exprClass e) s → Read at k s es
+content-step : (at k : ℕ) → T (Class.isBlock k) → (e : Expr) (es : Exprs) (s : State) → BlockState s → LeadsTo k (exprClass e) s → EndsFine at k s es
     → (blocks : List ℕ) (r : Exprs) → Ends (Class.significance k) r
-    → (Child k (exprClass e) → (T (Class.isBlock (exprClass e)) → Ends (Class.significance (exprClass e)) (join (flattenContent es) r))
+    → (BlockChild k (exprClass e) → (T (Class.isBlock (exprClass e)) → Ends (Class.significance (exprClass e)) (join (flattenContent es) r))
     → ChildLaw (Class.significance k) e blocks (join (flattenContent es) r))
     → ContentLaw (Class.significance k) es blocks r → ContentLaw (Class.significance k) (and e es) blocks r
-unfolding Within LeadsTo content
+unfolding BlockState LeadsTo content
 content-step at k b e es (expecting ps) w l h blocks r ends child-law law =
     let is = T-true (isBlockParameter (exprClass e)) l in
     rw (flatten-parameter e es is, is) law
@@ -167,13 +167,13 @@ content-step at k b e es (holding ks) w l h blocks r ends child-law law =
 mutual
   unfolding judge flatten exprClass listClass join content Class.isBlock
 
-  child-law : (e : Expr) (k : ℕ) → Child k (exprClass e) → judge k e ≡ fine → (blocks : List ℕ) (r : Exprs)
+  child-law : (e : Expr) (k : ℕ) → BlockChild k (exprClass e) → judge k e ≡ fine → (blocks : List ℕ) (r : Exprs)
       → (T (Class.isBlock (exprClass e)) → Ends (Class.significance (exprClass e)) r) → ChildLaw (Class.significance k) e blocks r
   child-law (symbol at s) k c f blocks r ends = leaf-law (symbol at s) k c refl blocks r
   child-law (quoted at s) k c f blocks r ends = leaf-law (quoted at s) k c refl blocks r
   child-law (list at es) k c f blocks r ends = list-law es at k c f blocks r ends
 
-  list-law : (es : Exprs) (at k : ℕ) → Child k (listClass es) → judgeList k at es ≡ fine → (blocks : List ℕ) (r : Exprs)
+  list-law : (es : Exprs) (at k : ℕ) → BlockChild k (listClass es) → judgeList k at es ≡ fine → (blocks : List ℕ) (r : Exprs)
       → (T (Class.isBlock (listClass es)) → Ends (Class.significance (listClass es)) r) → ChildLaw (Class.significance k) (list at es) blocks r
   list-law none at k c f blocks r ends = absurd (not-fine 8 at f)
   list-law (and e es) at k c f blocks r ends =
@@ -186,7 +186,7 @@ mutual
       (content-law es at (leadClass e) b (start (leadClass e)) w h (Class.significance k ∷ blocks) r (ends b)))
       (λ is-none. leaf-law (list at (and e es)) k c is-none blocks r)
 
-  content-law : (es : Exprs) (at k : ℕ) → T (Class.isBlock k) → (s : State) → Within s → Read at k s es
+  content-law : (es : Exprs) (at k : ℕ) → T (Class.isBlock k) → (s : State) → BlockState s → EndsFine at k s es
       → (blocks : List ℕ) (r : Exprs) → Ends (Class.significance k) r → ContentLaw (Class.significance k) es blocks r
   content-law none at k b s w h blocks r ends = ended-empty (Class.significance k) blocks r ends
   content-law (and e es) at k b s w h blocks r ends =

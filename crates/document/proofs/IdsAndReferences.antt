@@ -106,13 +106,13 @@ RepeatAnswer es nowhere = IdsDifferAmong es
 RepeatAnswer es (at-node i) = FirstRepeated es i
 
 -- The ids seen are those of the blocks gone by.
-pub record Seen (gone : List Entry) (seen : List (List ℕ)) : Type 0 where
+pub record IdsSeen (gone : List Entry) (seen : List (List ℕ)) : Type 0 where
   pub found : (s : List ℕ) → List·Memᴰ s seen → (b : Entry) × HasIdAmong gone s b
   pub kept : (s : List ℕ) (b : Entry) → HasIdAmong gone s b → List·Memᴰ s seen
   pub differ : IdsDifferAmong gone
 
 -- One more entry that has no id, or one not seen.
-module _ (gone : List Entry) (seen : List (List ℕ)) (e : Entry) (c : Seen gone seen) where
+module _ (gone : List Entry) (seen : List (List ℕ)) (e : Entry) (c : IdsSeen gone seen) where
   still-differ : (T (hasId e) → List·Memᴰ (e .key) seen → ⊥) → IdsDifferAmong (gone ++ e ∷ [])
   unfolding IdsDifferAmong
   still-differ new a b ma mb ha hb q = go (List·Memᴰ·append-cases gone ma) (List·Memᴰ·append-cases gone mb)
@@ -129,7 +129,7 @@ module _ (gone : List Entry) (seen : List (List ℕ)) (e : Entry) (c : Seen gone
       go (inr x) (inl y) = absurd (clash b a y x hb ha (sym q))
       go (inr x) (inr y) = ap (λ (z : Entry). z .number) (List·Memᴰ·eq-of-singleton x ∙ sym (List·Memᴰ·eq-of-singleton y))
 
-  seen-without : (T (hasId e) → ⊥) → Seen (gone ++ e ∷ []) seen
+  seen-without : (T (hasId e) → ⊥) → IdsSeen (gone ++ e ∷ []) seen
   seen-without no-id = record { found = found′; kept = kept′; differ = still-differ (λ h. absurd (no-id h)) }
     where
       found′ : (s : List ℕ) → List·Memᴰ s seen → (b : Entry) × HasIdAmong (gone ++ e ∷ []) s b
@@ -144,7 +144,7 @@ module _ (gone : List Entry) (seen : List (List ℕ)) (e : Entry) (c : Seen gone
           go (inl x) = c .kept s b (record { stands = x; has-id = h .has-id; id-is = h .id-is })
           go (inr y) = absurd (no-id (subst (λ (z : Entry). T (hasId z)) (List·Memᴰ·eq-of-singleton y) (h .has-id)))
 
-  seen-with : T (hasId e) → (List·Memᴰ (e .key) seen → ⊥) → Seen (gone ++ e ∷ []) (e .key ∷ seen)
+  seen-with : T (hasId e) → (List·Memᴰ (e .key) seen → ⊥) → IdsSeen (gone ++ e ∷ []) (e .key ∷ seen)
   seen-with id new = record { found = λ s m. found′ s (List·Memᴰ·cases-cons m); kept = kept′; differ = still-differ (λ h. new) }
     where
       found′ : (s : List ℕ) → (s ≡ e .key) ⊎ List·Memᴰ s seen → (b : Entry) × HasIdAmong (gone ++ e ∷ []) s b
@@ -160,7 +160,7 @@ module _ (gone : List Entry) (seen : List (List ℕ)) (e : Entry) (c : Seen gone
           go (inl x) = List·Memᴰ·tail (c .kept s b (record { stands = x; has-id = h .has-id; id-is = h .id-is }))
           go (inr y) = List·Memᴰ·head (sym (h .id-is) ∙ ap (λ (z : Entry). z .key) (List·Memᴰ·eq-of-singleton y))
 
-repeat-answer : (gone es : List Entry) (seen : List (List ℕ)) → Seen gone seen → RepeatAnswer (gone ++ es) (repeatedId seen es)
+repeat-answer : (gone es : List Entry) (seen : List (List ℕ)) → IdsSeen gone seen → RepeatAnswer (gone ++ es) (repeatedId seen es)
 unfolding repeatedId
 repeat-answer gone [] seen c = rw append-nil (c .differ)
 repeat-answer gone (e ∷ es) seen c =

@@ -12,7 +12,7 @@ use Rattle.elements.specs.rules.Class as Class
 use Rattle.elements.specs.rules.Inside.{start}
 use Rattle.syntax.specs.rules.Syntax.{space, line-end, word, string, leafBefore, Before, a-symbol, another, after, Forest, end, leaf, brackets, Ok}
 use Rattle.syntax.specs.rules.Expression.{Expr, symbol, Exprs, none, and, place, locateLeaf, locate}
-use Rattle.syntax.proofs.ByteClasses.{Fits}
+use Rattle.syntax.proofs.ByteClasses.{FitsAfter}
 use Rattle.syntax.proofs.ExpressionsInBytes.{SymbolAt, StringAt, Front, ListAt, Stands, StandAll, stands-forward, forest-stands}
 use Rattle.base.specs.rules.Limits.{missing}
 use Rattle.document.specs.rules.Document.{Tree, value, size, element, Trees, empty, holds, isNode, Node, says}
@@ -57,8 +57,8 @@ laid-ascending (one-node l x (one-node m y r)) = (omega arith, laid-ascending (o
 
 -- ---- nodes that begin where what writes them stands
 
-symbol-ends : (k : List ℕ) → Fits a-symbol k → SymbolEnds k
-unfolding Fits SymbolEnds
+symbol-ends : (k : List ℕ) → FitsAfter a-symbol k → SymbolEnds k
+unfolding FitsAfter SymbolEnds
 symbol-ends [] h = tt
 symbol-ends (b ∷ k) h = rw h tt
 

@@ -33,15 +33,15 @@ use Rattle.document.proofs.AtomsAreTexts.{texts}
 use Rattle.document.proofs.Faults.{fault-named, named-fault}
 
 -- What a reading says of the text.
-abbrev pub Found : Spelling → List ℕ → Reading → Type 0
-Found s text (refused n p) = RefusedFor s text n p
-Found s text (read e) = (spells : Spells s (says (treeOf e)) text) × (levels (spells .forest) ≤ mostLevels s) × (nodePlaces spells ≡ places e)
+abbrev pub ReadingHolds : Spelling → List ℕ → Reading → Type 0
+ReadingHolds s text (refused n p) = RefusedFor s text n p
+ReadingHolds s text (read e) = (spells : Spells s (says (treeOf e)) text) × (levels (spells .forest) ≤ mostLevels s) × (nodePlaces spells ≡ places e)
 
 all-texts : {s : Spelling} {text : List ℕ} {es : Exprs} → IsUtf8 text → Scans s text es → AllTexts es
 all-texts utf8 x = rw (x .expressions) at (texts (x .forest) (x .syntax) (rw (x .bytes) utf8))
 
 -- A text whose nested form is judged fine spells its document.
-spelled : (s : Spelling) (text : List ℕ) (es : Exprs) (e : Expr) → IsUtf8 text → Scans s text es → AllText e → es ≡ spelledAs s e → judgeRoot e ≡ fine → Found s text (read e)
+spelled : (s : Spelling) (text : List ℕ) (es : Exprs) (e : Expr) → IsUtf8 text → Scans s text es → AllText e → es ≡ spelledAs s e → judgeRoot e ≡ fine → ReadingHolds s text (read e)
 unfolding nodePlaces
 spelled s text es e utf8 x ts l ok =
     let (lawful, writes) = root-sound e ts ok in
@@ -53,7 +53,7 @@ spelled s text es e utf8 x ts l ok =
     )
 
 found-nested : (text : List ℕ) (e : Expr) → IsUtf8 text → Scans nested text (and e none) → (v : Verdict) → judgeRoot e ≡ v
-    → Found nested text (judged nested e v)
+    → ReadingHolds nested text (judged nested e v)
 unfolding judged tooDeep spelledAs AtomsOf
 found-nested text e utf8 x (fault n p) j = against-rules x as-it-stands (fault-named e n p (all-texts utf8 x .0) j)
 found-nested text e utf8 x fine j = spelled nested text (and e none) e utf8 x (all-texts utf8 x .0) refl j
@@ -63,18 +63,18 @@ pub regrouped-form : (e : Expr) (es : Exprs) → NestedForm imperative (and e es
 regrouped-form e es = let (content, t) = document-takes es in rw (takes-regroup e t) at (regrouped {e = e} t)
 
 found-imperative : (text : List ℕ) (e : Expr) (es : Exprs) → IsUtf8 text → Scans imperative text (and e es) → (v : Verdict)
-    → judgeRoot (regroup e es) ≡ v → Found imperative text (judged imperative (regroup e es) v)
+    → judgeRoot (regroup e es) ≡ v → ReadingHolds imperative text (judged imperative (regroup e es) v)
 unfolding judged tooDeep spelledAs
 found-imperative text e es utf8 x (fault n p) j =
     against-rules x (regrouped-form e es) (fault-named (regroup e es) n p (regrouped-text e es (all-texts utf8 x)) j)
 found-imperative text e es utf8 x fine j =
     let t = regrouped-text e es (all-texts utf8 x) in
     let (lawful, writes) = root-sound (regroup e es) t j in
-    cond-case (Found imperative text) (ltb 64 (depth (regroup e es)))
+    cond-case (ReadingHolds imperative text) (ltb 64 (depth (regroup e es)))
     (λ deep. too-deep refl x (regrouped-form e es) writes (test-lawful (treeOf (regroup e es)) lawful) (ltb-true 64 (depth (regroup e es)) deep))
     (λ deep. spelled imperative text (and e es) (regroup e es) utf8 x t (sym (flatten-regroup e es j)) j)
 
-found-one : (s : Spelling) (text : List ℕ) (es : Exprs) → IsUtf8 text → Scans s text es → Found s text (oneExpression s (length text) es)
+found-one : (s : Spelling) (text : List ℕ) (es : Exprs) → IsUtf8 text → Scans s text es → ReadingHolds s text (oneExpression s (length text) es)
 unfolding oneExpression
 found-one nested text none utf8 x = no-expression x
 found-one nested text (and e none) utf8 x = found-nested text e utf8 x (judgeRoot e) refl
@@ -82,14 +82,14 @@ found-one nested text (and e (and e′ es)) utf8 x = second-expression refl x
 found-one imperative text none utf8 x = no-expression x
 found-one imperative text (and e es) utf8 x = found-imperative text e es utf8 x (judgeRoot (regroup e es)) refl
 
-found-scan : (s : Spelling) (text : List ℕ) → IsUtf8 text → (r : Scanned) → scan (mostLevels s) text ≡ r → Found s text (afterScan s (length text) r)
+found-scan : (s : Spelling) (text : List ℕ) → IsUtf8 text → (r : Scanned) → scan (mostLevels s) text ≡ r → ReadingHolds s text (afterScan s (length text) r)
 unfolding afterScan
 found-scan s text utf8 (Scan.refused n p) e = no-syntax (refused-fault (mostLevels s) text n p e)
 found-scan s text utf8 (Scan.scanned f) e =
     let (ok, bytes, within) = accepts (mostLevels s) text f e in
     found-one s text (locate 0 f) utf8 (record { forest = f; syntax = ok; bytes = bytes; within = within; expressions = refl })
 
-pub found : (s : Spelling) (text : List ℕ) → IsUtf8 text → Found s text (reading s text)
+pub found : (s : Spelling) (text : List ℕ) → IsUtf8 text → ReadingHolds s text (reading s text)
 unfolding reading
 found s text utf8 = found-scan s text utf8 (scan (mostLevels s) text) refl
 

@@ -204,24 +204,24 @@ mutual
       (rw (← (pool-strings n i parent p)) (visits-started-all ns (i + count n) parent (p + length (pool n))))
 
 -- A visited node's strings stand in the pool between what is before and after them.
-pub record Placed (bytes : List ℕ) (v : Visit) : Type 0 where
+pub record StringsInPool (bytes : List ℕ) (v : Visit) : Type 0 where
   pub before : List ℕ
   pub after : List ℕ
   pub split : bytes ≡ before ++ (stringsOf v ++ after)
   pub from : length before ≡ v .start
 
-strings-at : (vs : List Visit) (q : List ℕ) (p : ℕ) (v : Visit) → Started p vs → length q ≡ p → List·Memᴰ v vs → Placed (q ++ each stringsOf vs) v
+strings-at : (vs : List Visit) (q : List ℕ) (p : ℕ) (v : Visit) → Started p vs → length q ≡ p → List·Memᴰ v vs → StringsInPool (q ++ each stringsOf vs) v
 unfolding each
 strings-at [] q p v s l m = absurd (List·Memᴰ·not-nil m)
 strings-at (u ∷ vs) q p v (e, s) l m =
     go (strings-at vs (q ++ stringsOf u) (p + length (stringsOf u)) v s (omega (arith, length-append q (stringsOf u)))) (List·Memᴰ·cases-cons m)
   where
-    go : (List·Memᴰ v vs → Placed ((q ++ stringsOf u) ++ each stringsOf vs) v) → (v ≡ u) ⊎ List·Memᴰ v vs
-        → Placed (q ++ (stringsOf u ++ each stringsOf vs)) v
+    go : (List·Memᴰ v vs → StringsInPool ((q ++ stringsOf u) ++ each stringsOf vs) v) → (v ≡ u) ⊎ List·Memᴰ v vs
+        → StringsInPool (q ++ (stringsOf u ++ each stringsOf vs)) v
     go below (inl x) = rw x (record { before = q; after = each stringsOf vs; split = refl; from = l ∙ sym e })
     go below (inr x) = rw append-assoc at (below x)
 
-pub strings-placed : (d : Node) (v : Visit) → List·Memᴰ v (visitsOf d) → Placed (pool d) v
+pub strings-placed : (d : Node) (v : Visit) → List·Memᴰ v (visitsOf d) → StringsInPool (pool d) v
 unfolding visitsOf
 strings-placed d v m = rw (pool-strings d 0 missing 0) (strings-at (visitsOf d) [] 0 v (visits-started d 0 missing 0) refl m)
 

@@ -18,7 +18,7 @@ use Rattle.document.specs.rules.Command.{join, notAllowed, inCommand, lo
 use Rattle.document.specs.rules.Lead.{leadClass, listClass, exprClass}
 use Rattle.document.specs.reference.Meaning.{fine, judge, judgeList, judgeRoot}
 use Rattle.document.proofs.NestedMeaning.{not-fine}
-use Rattle.document.proofs.BlockExpressions.{join-none, join-join, Read, read-on, inside-block, root-document, block-no-parameter, parameters-child, flatten-child, flatten-leaf}
+use Rattle.document.proofs.BlockExpressions.{join-none, join-join, EndsFine, read-on, inside-block, root-document, block-no-parameter, parameters-child, flatten-child, flatten-leaf}
 
 -- No empty list stands in a block, at any depth: what may not stand there is put as one.
 mutual
@@ -48,7 +48,7 @@ mutual
   kept-list none k at h = not-fine 8 at h
   kept-list (and e es) k at h = λ b. kept-all es at (leadClass e) (start (leadClass e)) (inside-block k at e es b h)
 
-  kept-all : (es : Exprs) (at k : ℕ) (s : State) → Read at k s es → KeptAll es
+  kept-all : (es : Exprs) (at k : ℕ) (s : State) → EndsFine at k s es → KeptAll es
   kept-all none at k s h = tt
   kept-all (and e es) at k s h =
       let (s′, _, f, r) = read-on at k s e es h in

@@ -13,8 +13,8 @@ use Rattle.document.specs.reference.Imperative.{parameters, flatten, fla
 use Rattle.document.specs.rules.Command.{join}
 use Rattle.document.specs.rules.Lead.{leadClass, listClass, exprClass}
 use Rattle.document.specs.reference.Meaning.{fine, judge, judgeList, judgeRoot}
-use Rattle.document.proofs.BlockRules.{Child, Within, LeadsTo, Takes, step-takes, start-within}
-use Rattle.document.proofs.BlockExpressions.{Read, read-on, inside-block, root-document, flatten-leaf}
+use Rattle.document.proofs.BlockRules.{BlockChild, BlockState, LeadsTo, BlockStep, step-takes, start-within}
+use Rattle.document.proofs.BlockExpressions.{EndsFine, read-on, inside-block, root-document, flatten-leaf}
 use Rattle.document.proofs.Regroup.{flatten-regroup}
 
 depth-join : (es fs : Exprs) → depthAll (join es fs) ≡ max (depthAll es) (depthAll fs)
@@ -35,7 +35,7 @@ unfolding depth
 leaf-shallow e b = rw (flatten-leaf e b) (omega arith)
 
 -- A child in a block of kind k: it is a block of lesser significance, or flattens to itself.
-child-shallow : (k : ℕ) (e : Expr) → Child k (exprClass e) → Shallow e → depth e ≤ Class.significance k + depthAll (flatten e)
+child-shallow : (k : ℕ) (e : Expr) → BlockChild k (exprClass e) → Shallow e → depth e ≤ Class.significance k + depthAll (flatten e)
 unfolding Shallow
 child-shallow k e c h =
     bool-case (Class.isBlock (exprClass e))
@@ -61,7 +61,7 @@ other-shallow e b = omega (arith, leaf-shallow e b)
 
 -- What is fine nests no deeper than its flat form and one level for each significance.
 mutual
-  unfolding judge depth exprClass listClass Class.isBlock ShallowIn Takes
+  unfolding judge depth exprClass listClass Class.isBlock ShallowIn BlockStep
 
   shallow : (e : Expr) (k : ℕ) → judge k e ≡ fine → Shallow e
   shallow (symbol at s) k h = other-shallow (symbol at s) refl
@@ -76,7 +76,7 @@ mutual
       (shallow-all es at (leadClass e) (start (leadClass e)) (true-T b) (start-within (leadClass e) (true-T b)) (inside-block k at e es (true-T b) h)))
       (λ b. other-shallow (list at (and e es)) b)
 
-  shallow-all : (es : Exprs) (at k : ℕ) (s : State) → T (Class.isBlock k) → Within s → Read at k s es → ShallowIn k es
+  shallow-all : (es : Exprs) (at k : ℕ) (s : State) → T (Class.isBlock k) → BlockState s → EndsFine at k s es → ShallowIn k es
   shallow-all none at k s b w h = omega arith
   shallow-all (and e es) at k s b w h =
       let (s′, taken, f, r) = read-on at k s e es h in

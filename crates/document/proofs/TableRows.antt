@@ -36,11 +36,11 @@ room c (expecting ps) = slotCount c ps
 room c (holding ks) = 0
 
 -- A step over an expression of class x leaves room for so many fewer of class c.
-abbrev Taken : ℕ → ℕ → ℕ → Step → Type 0
-Taken c x n (go s) = room c s + one c x ≤ n
-Taken c x n (bad m) = Unit {0}
+abbrev LeavesFewer : ℕ → ℕ → ℕ → Step → Type 0
+LeavesFewer c x n (go s) = room c s + one c x ≤ n
+LeavesFewer c x n (bad m) = Unit {0}
 
-taken-less : (c x m n : ℕ) (s : Step) → m ≤ n → Taken c x m s → Taken c x n s
+taken-less : (c x m n : ℕ) (s : Step) → m ≤ n → LeavesFewer c x m s → LeavesFewer c x n s
 taken-less c x m n (go s) l h = omega arith
 taken-less c x m n (bad e) l h = tt
 
@@ -61,39 +61,39 @@ module _ (c x : ℕ) where
   none-taken : (t : Content) → allows t c ≡ false → allows t x ≡ true → one c x ≡ 0
   none-taken t f a = one-other c x (λ e. let z : _≡_ {A = Bool} true false = sym a ∙ rw e at f in let y : _≡_ {A = ℕ} 0 1 = cc in omega arith)
 
-  first-taken : (t : Content) → allows t c ≡ false → Taken c x 0 (firstChild t x)
+  first-taken : (t : Content) → allows t c ≡ false → LeavesFewer c x 0 (firstChild t x)
   unfolding firstChild room allows
   first-taken t f =
-      cond-case (Taken c x 0) (isInclude x) (λ i. tt)
-      (λ i. chosen-case x (Taken c x 0) (alternativesOf t)
+      cond-case (LeavesFewer c x 0) (isInclude x) (λ i. tt)
+      (λ i. chosen-case x (LeavesFewer c x 0) (alternativesOf t)
       (λ ks m a. omega (arith, none-taken t f (T-true (someHas (alternativesOf t) x) (some-has x m a))))
       (λ a. tt))
 
-  next-taken : (t : Content) (ks : List ℕ) → allows t c ≡ false → Taken c x 0 (nextChild t ks x)
+  next-taken : (t : Content) (ks : List ℕ) → allows t c ≡ false → LeavesFewer c x 0 (nextChild t ks x)
   unfolding nextChild room allows alternativesOf
   next-taken (alternatives kss) ks f =
-      cond-case (Taken c x 0) (isInclude x) (λ i. tt)
-      (λ i. cond-case (Taken c x 0) (someHas kss x)
-      (λ a. cond-case (Taken c x 0) (among x ks) (λ e. omega (arith, none-taken (alternatives kss) f a)) (λ e. tt)) (λ a. tt))
-  next-taken (exactly-one k) ks f = cond-case (Taken c x 0) (isInclude x) (λ i. tt) (λ i. tt)
+      cond-case (LeavesFewer c x 0) (isInclude x) (λ i. tt)
+      (λ i. cond-case (LeavesFewer c x 0) (someHas kss x)
+      (λ a. cond-case (LeavesFewer c x 0) (among x ks) (λ e. omega (arith, none-taken (alternatives kss) f a)) (λ e. tt)) (λ a. tt))
+  next-taken (exactly-one k) ks f = cond-case (LeavesFewer c x 0) (isInclude x) (λ i. tt) (λ i. tt)
 
-  parameter-taken : (ps : List Slot) (t : Content) → allows t c ≡ false → Taken c x (slotCount c ps) (nextParameter ps t x)
+  parameter-taken : (ps : List Slot) (t : Content) → allows t c ≡ false → LeavesFewer c x (slotCount c ps) (nextParameter ps t x)
   unfolding nextParameter room slotCount
   parameter-taken [] t f = first-taken t f
   parameter-taken (must n ∷ ps) t f =
-      cond-case (Taken c x (one c n + slotCount c ps)) (eqb x n) (λ e. omega (arith, one-same c x n (eqb-true x n e))) (λ e. tt)
+      cond-case (LeavesFewer c x (one c n + slotCount c ps)) (eqb x n) (λ e. omega (arith, one-same c x n (eqb-true x n e))) (λ e. tt)
   parameter-taken (may n ∷ ps) t f =
-      cond-case (Taken c x (one c n + slotCount c ps)) (eqb x n) (λ e. omega (arith, one-same c x n (eqb-true x n e)))
+      cond-case (LeavesFewer c x (one c n + slotCount c ps)) (eqb x n) (λ e. omega (arith, one-same c x n (eqb-true x n e)))
       (λ e. taken-less c x (slotCount c ps) (one c n + slotCount c ps) (nextParameter ps t x) (omega arith) (parameter-taken ps t f))
   parameter-taken (id-type ∷ ps) t f =
-      cond-case (Taken c x (one c Class.id + one c Class.type + slotCount c ps)) (eqb x Class.id)
+      cond-case (LeavesFewer c x (one c Class.id + one c Class.type + slotCount c ps)) (eqb x Class.id)
       (λ e. omega (arith, one-same c x Class.id (eqb-true x Class.id e)))
-      (λ e. cond-case (Taken c x (one c Class.id + one c Class.type + slotCount c ps)) (eqb x Class.type)
+      (λ e. cond-case (LeavesFewer c x (one c Class.id + one c Class.type + slotCount c ps)) (eqb x Class.type)
       (λ e′. omega (arith, one-same c x Class.type (eqb-true x Class.type e′)))
       (λ e′. taken-less c x (slotCount c ps) (one c Class.id + one c Class.type + slotCount c ps) (nextParameter ps t x) (omega arith)
       (parameter-taken ps t f)))
 
-  step-taken : (k : ℕ) (s : State) → allows (ruleOf k .content) c ≡ false → Taken c x (room c s) (step k s x)
+  step-taken : (k : ℕ) (s : State) → allows (ruleOf k .content) c ≡ false → LeavesFewer c x (room c s) (step k s x)
   unfolding step room
   step-taken k (expecting ps) f = parameter-taken ps (ruleOf k .content) f
   step-taken k (holding ks) f = next-taken (ruleOf k .content) ks f
@@ -124,7 +124,7 @@ children-bounded empty k c s f t = unfold says kindCount in omega arith
 children-bounded (holds u ts) k c s f t =
     let (s′, e, rest) = goes-on (step k s (treeClass u)) (λ (s′ : State). keepRules k s′ ts) (both (keepsRules k u) _ t .1) in
     let below : kindCount c (sayAll ts) ≤ room c s′ = children-bounded ts k c s′ f rest in
-    let l : room c s′ + one c (treeClass u) ≤ room c s = subst (Taken c (treeClass u) (room c s)) e (step-taken c (treeClass u) k s f) in
+    let l : room c s′ + one c (treeClass u) ≤ room c s = subst (LeavesFewer c (treeClass u) (room c s)) e (step-taken c (treeClass u) k s f) in
     omega (arith, count-said c u ts)
 
 -- A node of what lawful trees say has at most as many children of class c as its kind has parameters of that class, where its content does not allow c.

@@ -40,7 +40,7 @@ unfoldable pub arrangedBy : ℕ → List Slot → Trees → Trees
 arrangedBy k ps ts = placeValues (nodeFirst ps) (valuesOf k ts) (nodesIn ts)
 
 -- A tree is like another that keeps the rules.
-pub record Alike (k : ℕ) (t u : Tree) : Type 0 where
+pub record TreeAlike (k : ℕ) (t u : Tree) : Type 0 where
   pub kept : T (keepsRules k u)
   pub same-class : treeClass u ≡ treeClass t
   pub same-sort : isNode u ≡ isNode t
@@ -51,7 +51,7 @@ pub record Alike (k : ℕ) (t u : Tree) : Type 0 where
   pub same-said : says u ≡ says t
   pub same-levels : treeLevels u ≡ treeLevels t
 
-pub alike-itself : (k : ℕ) (t : Tree) → T (keepsRules k t) → Alike k t t
+pub alike-itself : (k : ℕ) (t : Tree) → T (keepsRules k t) → TreeAlike k t t
 alike-itself k t h =
     record {
       kept = h;
@@ -66,7 +66,7 @@ alike-itself k t h =
     }
 
 -- The trees inside an element of kind k, from the state s on, are like others that keep the rules.
-pub record AllAlike (k : ℕ) (s : State) (ts us : Trees) : Type 0 where
+pub record TreesAlike (k : ℕ) (s : State) (ts us : Trees) : Type 0 where
   pub kept : T (keepRules k s us)
   pub same-key : keyIn us ≡ keyIn ts
   pub same-type : typeIn us ≡ typeIn ts
@@ -75,11 +75,11 @@ pub record AllAlike (k : ℕ) (s : State) (ts us : Trees) : Type 0 where
   pub same-said : sayAll us ≡ sayAll ts
   pub same-levels : mostLevelsIn us ≡ mostLevelsIn ts
 
-pub all-alike-itself : (k : ℕ) (s : State) (ts : Trees) → T (keepRules k s ts) → AllAlike k s ts ts
+pub all-alike-itself : (k : ℕ) (s : State) (ts : Trees) → T (keepRules k s ts) → TreesAlike k s ts ts
 all-alike-itself k s ts h =
     record { kept = h; same-key = refl; same-type = refl; same-width = refl; same-height = refl; same-said = refl; same-levels = refl }
 
-pub all-alike-on : {k : ℕ} {s : State} {ts us vs : Trees} → AllAlike k s ts us → AllAlike k s us vs → AllAlike k s ts vs
+pub all-alike-on : {k : ℕ} {s : State} {ts us vs : Trees} → TreesAlike k s ts us → TreesAlike k s us vs → TreesAlike k s ts vs
 all-alike-on a b =
     record {
       kept = b .kept;
@@ -103,8 +103,8 @@ both-kept : (k : ℕ) (s : State) (t : Tree) (ts : Trees) → T (keepsRules k t)
 unfolding keepsRules
 both-kept k s t ts h on = both-true (keepsRules k t) (goesOn (step k s (treeClass t)) (λ s′. keepRules k s′ ts)) h on
 
-pub holds-alike : (k : ℕ) (s s′ : State) (t u : Tree) (ts us : Trees) → step k s (treeClass t) ≡ go s′ → Alike k t u → AllAlike k s′ ts us
-    → AllAlike k s (holds t ts) (holds u us)
+pub holds-alike : (k : ℕ) (s s′ : State) (t u : Tree) (ts us : Trees) → step k s (treeClass t) ≡ go s′ → TreeAlike k t u → TreesAlike k s′ ts us
+    → TreesAlike k s (holds t ts) (holds u us)
 unfolding keepsRules goesOn keyIn typeIn widthIn heightIn says treeLevels
 holds-alike k s s′ t u ts us e a b =
     let c : step k s (treeClass u) ≡ go s′ = ap (step k s) (a .same-class) ∙ e in
@@ -230,11 +230,11 @@ add-type k (b ∷ s) ts n o =
     }
 
 -- An expression of class c comes where values from the r-th place on may come, and leaves those from the next place on.
-data Fits (k r c : ℕ) : ℕ → Type 0 where
-  as-key : c ≡ keyClass k → r ≤ 0 → Fits k r c 1
-  as-size : c ≡ Class.size → r ≤ 1 → Fits k r c 2
-  as-type : c ≡ Class.type → r ≤ 2 → Fits k r c 3
-  as-node : T (isChild c) → r ≤ 3 → Fits k r c 3
+data ComesInOrder (k r c : ℕ) : ℕ → Type 0 where
+  as-key : c ≡ keyClass k → r ≤ 0 → ComesInOrder k r c 1
+  as-size : c ≡ Class.size → r ≤ 1 → ComesInOrder k r c 2
+  as-type : c ≡ Class.type → r ≤ 2 → ComesInOrder k r c 3
+  as-node : T (isChild c) → r ≤ 3 → ComesInOrder k r c 3
 
 key-class-range : (k : ℕ) → (26 ≤ keyClass k) × (keyClass k ≤ 28)
 key-class-range k = by (key-class k)
@@ -274,7 +274,7 @@ value-range k c s t =
         (λ f x. absurd x)))
 
 -- A tree that keeps the rules comes in its turn.
-placed : (k r q : ℕ) (t : Tree) (ts : Trees) → T (keepsRules k t) → Fits k r (treeClass t) q → InOrder k q ts → InOrder k r (holds t ts)
+placed : (k r q : ℕ) (t : Tree) (ts : Trees) → T (keepsRules k t) → ComesInOrder k r (treeClass t) q → InOrder k q ts → InOrder k r (holds t ts)
 unfolding keepsRules treeClass isNode
 placed k r q (text s) ts h (as-key e l) o = absurd (omega (arith, key-class-range k))
 placed k r q (text s) ts h (as-size e l) o = absurd (omega arith)
@@ -338,7 +338,7 @@ ordered k r (must n ∷ ps) = inTurn k r n (λ q. ordered k q ps)
 ordered k r (may n ∷ ps) = inTurn k r n (λ q. ordered k q ps)
 ordered k r (id-type ∷ ps) = false
 
-in-turn : (k r c : ℕ) (after : ℕ → Bool) → T (inTurn k r c after) → (q : ℕ) × Fits k r c q × T (after q)
+in-turn : (k r c : ℕ) (after : ℕ → Bool) → T (inTurn k r c after) → (q : ℕ) × ComesInOrder k r c q × T (after q)
 in-turn k r c after =
     cond-case P (eqb c (keyClass k)) (λ e t. let (l, a) = both (leb r 0) (after 1) t in (1, as-key (eqb-true _ _ e) (leb→le r 0 l), a))
     (λ f. cond-case P (eqb c Class.size) (λ e t. let (l, a) = both (leb r 1) (after 2) t in (2, as-size (eqb-true _ _ e) (leb→le r 1 l), a))
@@ -349,9 +349,9 @@ in-turn k r c after =
     (3, as-node (or-left (Class.isElement c) (eqb c Class.text) i) (leb→le r 3 l), a))))
   where
     P : Bool → Type 0
-    P b = T b → (q : ℕ) × Fits k r c q × T (after q)
+    P b = T b → (q : ℕ) × ComesInOrder k r c q × T (after q)
 
-fits-up : {k r c q : ℕ} → Fits k r c q → r ≤ q
+fits-up : {k r c q : ℕ} → ComesInOrder k r c q → r ≤ q
 fits-up (as-key e l) = omega arith
 fits-up (as-size e l) = omega arith
 fits-up (as-type e l) = omega arith
@@ -380,8 +380,8 @@ trees-in-order (may n ∷ ps) k r (holds t ts) o h =
     on
 trees-in-order (id-type ∷ ps) k r ts o h = absurd o
 
-in-order-alike : (k : ℕ) (s : State) (ts : Trees) → T (keepRules k s ts) → InOrder k 0 ts → AllAlike k s ts (valuesOf k ts (nodesIn ts))
-in-order-alike k s ts h o = subst (λ (us : Trees). AllAlike k s ts us) (sym (o .in-order)) (all-alike-itself k s ts h)
+in-order-alike : (k : ℕ) (s : State) (ts : Trees) → T (keepRules k s ts) → InOrder k 0 ts → TreesAlike k s ts (valuesOf k ts (nodesIn ts))
+in-order-alike k s ts h o = subst (λ (us : Trees). TreesAlike k s ts us) (sym (o .in-order)) (all-alike-itself k s ts h)
 
 -- A tree of a value's class is that value.
 value-tree : (k : ℕ) (t : Tree) (c : ℕ) → 26 ≤ c → c ≤ 28 → treeClass t ≡ c → T (keepsRules k t) → (s : List ℕ) × (t ≡ value c s)
@@ -398,7 +398,7 @@ module _ (k : ℕ) (b : T (Class.isBlock k)) where
   id-key = rw (T-true (Class.isBlock k) b)
 
   abbrev Arranged : List Slot → Trees → Type 0
-  Arranged ps ts = AllAlike k (expecting ps) ts (valuesOf k ts (nodesIn ts))
+  Arranged ps ts = TreesAlike k (expecting ps) ts (valuesOf k ts (nodesIn ts))
 
   swapped : (s u : List ℕ) (ts : Trees) → T (isValue k Class.type s) → T (isValue k Class.id u) → T (keepRules k (expecting []) ts)
       → Arranged (id-type ∷ []) (holds (value Class.type s) (holds (value Class.id u) ts))
@@ -468,7 +468,7 @@ regular k (id-type ∷ []) = Class.isBlock k
 regular k (id-type ∷ (p ∷ ps)) = false
 
 regular-alike : (k : ℕ) (ps : List Slot) (ts : Trees) → T (regular k ps) → T (keepRules k (expecting ps) ts)
-    → AllAlike k (expecting ps) ts (valuesOf k ts (nodesIn ts))
+    → TreesAlike k (expecting ps) ts (valuesOf k ts (nodesIn ts))
 regular-alike k [] ts r h = in-order-alike k (expecting []) ts h (trees-in-order [] k 0 ts tt h)
 regular-alike k (must n ∷ ps) ts r h = in-order-alike k (expecting (must n ∷ ps)) ts h (trees-in-order (must n ∷ ps) k 0 ts r h)
 regular-alike k (may n ∷ ps) ts r h = in-order-alike k (expecting (may n ∷ ps)) ts h (trees-in-order (may n ∷ ps) k 0 ts r h)
@@ -498,7 +498,7 @@ behind-node k t ts i =
     rw (T-true (isNode t) i, n .no-key, n .no-type, n .no-width (widthIn ts), n .no-height (heightIn ts))
 
 led-by-node : (k n : ℕ) (ps : List Slot) (ts : Trees) → n ≤ 25 → T (regular k ps) → T (keepRules k (expecting (must n ∷ ps)) ts)
-    → AllAlike k (expecting (must n ∷ ps)) ts (placeValues true (valuesOf k ts) (nodesIn ts))
+    → TreesAlike k (expecting (must n ∷ ps)) ts (placeValues true (valuesOf k ts) (nodesIn ts))
 unfolding keepsRules ended noneRequired step nextParameter goesOn
 led-by-node k n ps empty l r h = absurd h
 led-by-node k n ps (holds t ts) l r h =
@@ -512,7 +512,7 @@ led-by-node k n ps (holds t ts) l r h =
   where
     P : Step → Type 0
     P st = Onward k ts st
-        → AllAlike k (expecting (must n ∷ ps)) (holds t ts) (placeValues true (valuesOf k (holds t ts)) (nodesIn (holds t ts)))
+        → TreesAlike k (expecting (must n ∷ ps)) (holds t ts) (placeValues true (valuesOf k (holds t ts)) (nodesIn (holds t ts)))
 
 leads-low : (n : ℕ) → T (eqb n Class.title || eqb n Class.summary) → n ≤ 25
 leads-low n t = by (or-true (eqb n Class.title) (eqb n Class.summary) t)
@@ -521,13 +521,13 @@ leads-low n t = by (or-true (eqb n Class.title) (eqb n Class.summary) t)
     by (inl e) = omega (arith, eqb→eq n Class.title e)
     by (inr e) = omega (arith, eqb→eq n Class.summary e)
 
-arranged-by : (k : ℕ) (ps : List Slot) (ts : Trees) → T (arrangeable k ps) → T (keepRules k (expecting ps) ts) → AllAlike k (expecting ps) ts (arrangedBy k ps ts)
+arranged-by : (k : ℕ) (ps : List Slot) (ts : Trees) → T (arrangeable k ps) → T (keepRules k (expecting ps) ts) → TreesAlike k (expecting ps) ts (arrangedBy k ps ts)
 unfolding arrangedBy nodeFirst placeValues
 arranged-by k [] ts a h = regular-alike k [] ts tt h
 arranged-by k (must n ∷ ps) ts a h = by (eqb n Class.title || eqb n Class.summary) refl a
   where
     by : (b : Bool) → eqb n Class.title || eqb n Class.summary ≡ b → T (cond b (regular k ps) (regular k (must n ∷ ps)))
-        → AllAlike k (expecting (must n ∷ ps)) ts (placeValues b (valuesOf k ts) (nodesIn ts))
+        → TreesAlike k (expecting (must n ∷ ps)) ts (placeValues b (valuesOf k ts) (nodesIn ts))
     by true e r = led-by-node k n ps ts (leads-low n (true-T e)) r h
     by false e r = regular-alike k (must n ∷ ps) ts r h
 arranged-by k (may n ∷ ps) ts a h = regular-alike k (may n ∷ ps) ts a h
@@ -540,7 +540,7 @@ all-arrangeable = tt
 
 -- The trees inside an element that keeps the rules keep them in the canonical order too, and say the same.
 pub arranged : (k : ℕ) (ts : Trees) → T (Class.isElement k) → T (keepRules k (start k) ts)
-    → AllAlike k (start k) ts (arrangedBy k (ruleOf k .parameters) ts)
+    → TreesAlike k (start k) ts (arrangedBy k (ruleOf k .parameters) ts)
 unfolding start
 arranged k ts e h =
     let low : k ≤ 25 = child-low k (or-left (Class.isElement k) (eqb k Class.text) e) in

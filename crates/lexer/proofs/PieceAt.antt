@@ -16,7 +16,7 @@ use Rattle.syntax.specs.rules.Syntax.{Piece, raw, letter, number, isPiece, piec
 use Rattle.syntax.specs.reference.Scan.{piece, escapeAt, quotedFrom}
 use Rattle.lexer.specs.Token.{pieceAt}
 use Rattle.lexer.specs.internal.Step.{pieceLength, pieceBytes}
-use Rattle.syntax.proofs.Strings.{Digits, digits-of, piece-append, quoted-piece, escape-spelled}
+use Rattle.syntax.proofs.Strings.{EscapeDigits, digits-of, piece-append, quoted-piece, escape-spelled}
 use Rattle.syntax.proofs.Escapes.{hex-small, first-of}
 
 -- ---- how long a piece is
@@ -48,7 +48,7 @@ encode-short n h =
     Short : List ℕ → Type 0
     Short v = length v ≤ 3
 
-number-short : (d₁ d₂ d₃ d₄ : ℕ) → Digits d₁ d₂ d₃ d₄ → length (encode (hexValue d₁ d₂ d₃ d₄)) ≤ 3
+number-short : (d₁ d₂ d₃ d₄ : ℕ) → EscapeDigits d₁ d₂ d₃ d₄ → length (encode (hexValue d₁ d₂ d₃ d₄)) ≤ 3
 unfolding hexValue
 number-short d₁ d₂ d₃ d₄ r =
     encode-short _ (omega (arith, hex-small d₁ (r .first), hex-small d₂ (r .second), hex-small d₃ (r .third), hex-small d₄ (r .fourth)))

@@ -13,8 +13,8 @@ use Rattle.syntax.specs.rules.Syntax.{Piece, raw, letter, number, isPiec
 use Rattle.syntax.specs.rules.Syntax.{line-end, word, string, leafBefore, isLeaf, Before, a-symbol, another, after, Forest, end, leaf, brackets, bytesBefore, bytesOf, Ok}
 use Rattle.syntax.specs.rules.Expression.{Expr, symbol, quoted, list, Exprs, none, and, locateLeaf, locate}
 use Rattle.syntax.specs.rules.Atoms.{AtomsOf, AllAtoms, IsText}
-use Rattle.syntax.proofs.ByteClasses.{Fits, fits-end, fits-close}
-use Rattle.syntax.proofs.Strings.{Digits, digits-of}
+use Rattle.syntax.proofs.ByteClasses.{FitsAfter, fits-end, fits-close}
+use Rattle.syntax.proofs.Strings.{EscapeDigits, digits-of}
 use Rattle.syntax.proofs.Runs.{lastOf, fits-run}
 use Rattle.syntax.proofs.Ascii.{blank-below, not-ordinary-below, letter-below, hex-below, open-below, close-below}
 
@@ -68,7 +68,7 @@ string-utf8 (letter c ∷ ps) run k t u =
     (utf8-append run (letterValue c ∷ piecesValue ps) v value, y)
 string-utf8 (number d₁ d₂ d₃ d₄ ∷ ps) run k t u =
     let (t₁, t₂) = both (isPiece (number d₁ d₂ d₃ d₄)) (arePieces ps) t in
-    let ds : Digits d₁ d₂ d₃ d₄ = digits-of d₁ d₂ d₃ d₄ t₁ in
+    let ds : EscapeDigits d₁ d₂ d₃ d₄ = digits-of d₁ d₂ d₃ d₄ t₁ in
     let rest : List ℕ = piecesBefore ps (0x22 ∷ k) in
     let (v, w) = utf8-split run (0x75 ∷ d₁ ∷ d₂ ∷ d₃ ∷ d₄ ∷ rest) 0x5C u (omega arith) in
     let digits : IsUtf8 (d₁ ∷ d₂ ∷ d₃ ∷ d₄ ∷ rest)
@@ -83,12 +83,12 @@ string-utf8 (number d₁ d₂ d₃ d₄ ∷ ps) run k t u =
 -- ---- leaves
 
 -- A symbol and what follows it.
-word-utf8 : (s k : List ℕ) → Fits a-symbol k → IsUtf8 (s ++ k) → IsUtf8 s × IsUtf8 k
-unfolding Fits
+word-utf8 : (s k : List ℕ) → FitsAfter a-symbol k → IsUtf8 (s ++ k) → IsUtf8 s × IsUtf8 k
+unfolding FitsAfter
 word-utf8 s [] h u = (rw (append-nil s) at u, nil-utf8)
 word-utf8 s (c ∷ k) h u = utf8-split s k c u (not-ordinary-below c h)
 
-leaf-utf8 : (n : ℕ) (l : Leaf) (k : List ℕ) → T (isLeaf l) → Fits (after l) k → IsUtf8 (leafBefore l k)
+leaf-utf8 : (n : ℕ) (l : Leaf) (k : List ℕ) → T (isLeaf l) → FitsAfter (after l) k → IsUtf8 (leafBefore l k)
     → ((es : Exprs) → AllAtoms IsText es → AllAtoms IsText (locateLeaf n l es)) × IsUtf8 k
 unfolding isLeaf leafBefore after locateLeaf AllAtoms piecesValue
 leaf-utf8 n (space b) k t h u = (λ es a. a, utf8-tail b k (blank-below b t) u)
@@ -104,7 +104,7 @@ leaf-utf8 n (string p ps) k t h u =
 
 -- ---- runs
 
-run-atoms : (n : ℕ) (m : Before) (f : Forest) (k : List ℕ) → Ok m f → Fits (lastOf m f) k → IsUtf8 (bytesBefore f k)
+run-atoms : (n : ℕ) (m : Before) (f : Forest) (k : List ℕ) → Ok m f → FitsAfter (lastOf m f) k → IsUtf8 (bytesBefore f k)
     → AllAtoms IsText (locate n f) × IsUtf8 k
 unfolding Ok lastOf bytesBefore locate AllAtoms
 run-atoms n m end k o h u = (tt, u)

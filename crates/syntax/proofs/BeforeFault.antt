@@ -9,7 +9,7 @@ use Rattle.syntax.specs.rules.Byte.{Bracket, openByte}
 use Rattle.syntax.specs.rules.Syntax.{Before, another, after, Forest, end, leaf, brackets, bytesBefore, bytesOf, Ok, levels}
 use Rattle.syntax.specs.reference.Scan.{Items, opens, itemsFrom, Open, fault, wrap, oneMore, build}
 use Rattle.syntax.specs.rules.Fault.{Opened, outside, within, openedBefore, size, openLevels, OkOpened}
-use Rattle.syntax.proofs.ByteClasses.{Fits, fits-open}
+use Rattle.syntax.proofs.ByteClasses.{FitsAfter, fits-open}
 use Rattle.syntax.proofs.Items.{items-open}
 use Rattle.syntax.proofs.Runs.{lastOf, itemsOf, items-run, run-length}
 use Rattle.syntax.proofs.Levels.{build-run, before-fault}
@@ -100,7 +100,7 @@ unfolding openedBefore size bytesOf
 size-within o b f = omega (arith, opened-length o (openByte b ∷ bytesBefore f []))
 
 -- It is read as its items, if what follows may follow it.
-pub items-opened : (room : ℕ) (o : Opened) (k : List ℕ) → OkOpened room o → Fits (lastOpened o) k
+pub items-opened : (room : ℕ) (o : Opened) (k : List ℕ) → OkOpened room o → FitsAfter (lastOpened o) k
     → itemsFrom 0 0 (openedBefore o k) ≡ itemsOpened o (itemsFrom 0 (size o) k)
 unfolding OkOpened lastOpened openedBefore itemsOpened size bytesOf
 items-opened room (outside f) k u h = rw (zero-add (length (bytesOf f))) at (items-run another f 0 k (u .0) h)

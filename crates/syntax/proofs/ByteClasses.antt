@@ -82,25 +82,25 @@ bracket-same square round e = cc
 bracket-same square square e = refl
 
 -- The bytes may stand after that: after a symbol no byte of a symbol.
-unfoldable pub Fits : Before → List ℕ → Type 0
-Fits another s = Unit {0}
-Fits a-symbol [] = Unit {0}
-Fits a-symbol (b ∷ s) = isOrdinary b ≡ false
+unfoldable pub FitsAfter : Before → List ℕ → Type 0
+FitsAfter another s = Unit {0}
+FitsAfter a-symbol [] = Unit {0}
+FitsAfter a-symbol (b ∷ s) = isOrdinary b ≡ false
 
-pub fits-end : (m : Before) → Fits m []
-unfolding Fits
+pub fits-end : (m : Before) → FitsAfter m []
+unfolding FitsAfter
 fits-end a-symbol = tt
 fits-end another = tt
 
-pub fits-class : (m : Before) (b : ℕ) (s : List ℕ) → ordinaryClass (byteClass b) ≡ false → Fits m (b ∷ s)
-unfolding Fits isOrdinary
+pub fits-class : (m : Before) (b : ℕ) (s : List ℕ) → ordinaryClass (byteClass b) ≡ false → FitsAfter m (b ∷ s)
+unfolding FitsAfter isOrdinary
 fits-class a-symbol b s e = e
 fits-class another b s e = tt
 
-pub fits-open : (m : Before) (x : Bracket) (s : List ℕ) → Fits m (openByte x ∷ s)
+pub fits-open : (m : Before) (x : Bracket) (s : List ℕ) → FitsAfter m (openByte x ∷ s)
 unfolding ordinaryClass
 fits-open m x s = fits-class m (openByte x) s (rw open-class)
 
-pub fits-close : (m : Before) (x : Bracket) (s : List ℕ) → Fits m (closeByte x ∷ s)
+pub fits-close : (m : Before) (x : Bracket) (s : List ℕ) → FitsAfter m (closeByte x ∷ s)
 unfolding ordinaryClass
 fits-close m x s = fits-class m (closeByte x) s (rw close-class)

@@ -11,14 +11,14 @@ use Rattle.syntax.specs.rules.Byte.{Bracket, openByte, closeByte}
 use Rattle.syntax.specs.rules.Syntax.{Piece, piecesBefore, piecesValue, arePieces, areOrdinary, Leaf, space, line-end, word, string, leafBefore}
 use Rattle.syntax.specs.rules.Syntax.{isLeaf, Before, a-symbol, another, after, mayFollow, Forest, end, leaf, brackets, bytesBefore, bytesOf, Ok}
 use Rattle.syntax.specs.rules.Expression.{Expr, symbol, quoted, list, Exprs, none, and, place, locateLeaf, locate}
-use Rattle.syntax.proofs.ByteClasses.{Fits, fits-end, fits-close}
+use Rattle.syntax.proofs.ByteClasses.{FitsAfter, fits-end, fits-close}
 use Rattle.syntax.proofs.Runs.{leaf-append, leaf-length, run-append, run-length, lastOf, fits-run}
 
 -- A symbol of these bytes stands at the place.
 pub record SymbolAt (s : List ℕ) (at : ℕ) (bytes : List ℕ) : Type 0 where
   pub rest : List ℕ
   pub ordinary : T (areOrdinary bytes)
-  pub ends : Fits a-symbol rest
+  pub ends : FitsAfter a-symbol rest
   pub split : drop at s ≡ bytes ++ rest
 
 -- A quoted string of this value does.
@@ -87,7 +87,7 @@ stand-later s h i (and e es) j l (m, a, r) = (m, stands-later s h i e m l a, r)
 drop-past : (s : List ℕ) (i : ℕ) (a k : List ℕ) → drop i s ≡ a ++ k → drop (i + length a) s ≡ k
 drop-past s i a k d = sym (drop-drop (length a) i s) ∙ rw d (drop-append-seam a k)
 
-leaf-stands : (s : List ℕ) (i j : ℕ) (l : Leaf) (k : List ℕ) (es : Exprs) → T (isLeaf l) → Fits (after l) k → drop i s ≡ leafBefore l k
+leaf-stands : (s : List ℕ) (i j : ℕ) (l : Leaf) (k : List ℕ) (es : Exprs) → T (isLeaf l) → FitsAfter (after l) k → drop i s ≡ leafBefore l k
     → StandAll s (i + length (leafBefore l [])) es j → StandAll s i (locateLeaf i l es) j
 unfolding Stands isLeaf after leafBefore locateLeaf
 leaf-stands s i j (space b) k es t h d st = stand-later s i (i + 1) es j (omega arith) st
@@ -135,7 +135,7 @@ run-front s m (brackets b inside f) i k o d = (end, no-white, refl)
 -- ---- runs
 
 -- A run stands where its bytes do, if what follows may follow it.
-run-stands : (s : List ℕ) (m : Before) (f : Forest) (i : ℕ) (k : List ℕ) (e : ℕ) → Ok m f → Fits (lastOf m f) k → drop i s ≡ bytesBefore f k
+run-stands : (s : List ℕ) (m : Before) (f : Forest) (i : ℕ) (k : List ℕ) (e : ℕ) → Ok m f → FitsAfter (lastOf m f) k → drop i s ≡ bytesBefore f k
     → i + length (bytesOf f) ≤ e → StandAll s i (locate i f) e
 unfolding Ok lastOf bytesBefore bytesOf locate Stands
 run-stands s m end i k e o h d x = omega arith

@@ -13,13 +13,13 @@ use Rattle.syntax.specs.rules.Syntax.{Before, Piece, isPiece, pieceBefor
 use Rattle.syntax.specs.reference.Scan.{bad-escape, quotedFrom, escapeAt, quotedItem, itemAt, itemsFrom, fault, build, oneMore, oneLess, atEnd, refused, outermost, scan}
 use Rattle.syntax.specs.rules.Fault.{Opened, outside, within, size, openLevels, Hit, control, lone-return, no-escape}
 use Rattle.syntax.specs.rules.Fault.{empty-string, unclosed-string, unopened, other-partner, left-open, too-deep, Fault}
-use Rattle.syntax.proofs.ByteClasses.{Fits, fits-end, fits-class, fits-open, fits-close}
+use Rattle.syntax.proofs.ByteClasses.{FitsAfter, fits-end, fits-class, fits-open, fits-close}
 use Rattle.syntax.proofs.Strings.{escape-spelled, pieces, quoted-pieces, pieces-unclosed, pieces-bad}
 use Rattle.syntax.proofs.Items.{item-of, items-open, items-close}
 use Rattle.syntax.proofs.BeforeFault.{lastOpened, stackOf, itemsOpened, items-opened, build-opened, open-levels}
 
 -- The bytes of a fault begin with no byte of a symbol.
-hit-fits : (m : Before) {room : ℕ} {o : Opened} {s : List ℕ} {n p : ℕ} → Hit room o s n p → Fits m s
+hit-fits : (m : Before) {room : ℕ} {o : Opened} {s : List ℕ} {n p : ℕ} → Hit room o s n p → FitsAfter m s
 unfolding byteClass ordinaryClass
 hit-fits m (control {b = b} {s = s} e) = fits-class m b s (rw e)
 hit-fits m (lone-return {s = s} h) = fits-class m 0x0D s refl

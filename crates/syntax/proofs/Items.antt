@@ -10,7 +10,7 @@ use Rattle.base.proofs.Booleans.{both, T-true}
 use Rattle.syntax.specs.rules.Byte.{Bracket, ByteClass, blank, return, quote, ordinary, opening, closing, byteClass, openByte, closeByte, isOrdinary}
 use Rattle.syntax.specs.rules.Syntax.{Piece, piecesBefore, arePieces, areOrdinary, Leaf, space, line-end, word, string, leafBefore, isLeaf, a-symbol, after}
 use Rattle.syntax.specs.reference.Scan.{closed, quotedFrom, quotedItem, ordinaryRun, a-leaf, opens, closes, itemAt, itemsFrom}
-use Rattle.syntax.proofs.ByteClasses.{Fits, blank-class, ordinary-class, open-class, close-class}
+use Rattle.syntax.proofs.ByteClasses.{FitsAfter, blank-class, ordinary-class, open-class, close-class}
 use Rattle.syntax.proofs.Strings.{pieces-append, quoted-pieces, pieces-closed}
 
 -- The bytes of an item already read are passed over.
@@ -35,8 +35,8 @@ unfolding itemAt
 items-close b n k = item-of (closing b) n (closeByte b) k (close-class b)
 
 -- A symbol ends where no byte of a symbol follows.
-pub run-ends : (bs k : List ℕ) → T (areOrdinary bs) → Fits a-symbol k → ordinaryRun (bs ++ k) ≡ bs
-unfolding ordinaryRun areOrdinary Fits
+pub run-ends : (bs k : List ℕ) → T (areOrdinary bs) → FitsAfter a-symbol k → ordinaryRun (bs ++ k) ≡ bs
+unfolding ordinaryRun areOrdinary FitsAfter
 run-ends [] [] t h = refl
 run-ends [] (b ∷ k) t h = rw h
 run-ends (b ∷ bs) k t h =
@@ -57,7 +57,7 @@ string-pass ps n k =
     rw (all, pieces-append ps (0x22 ∷ []), ← (length-append (piecesBefore ps []) (0x22 ∷ []))) (items-pass whole k n)
 
 -- A leaf is read, if what follows may follow it.
-pub items-leaf : (l : Leaf) (n : ℕ) (k : List ℕ) → T (isLeaf l) → Fits (after l) k
+pub items-leaf : (l : Leaf) (n : ℕ) (k : List ℕ) → T (isLeaf l) → FitsAfter (after l) k
     → itemsFrom 0 n (leafBefore l k) ≡ a-leaf l (itemsFrom 0 (n + length (leafBefore l [])) k)
 unfolding isLeaf leafBefore after areOrdinary byteClass itemAt quotedItem
 items-leaf (space b) n k t h = item-of blank n b k (blank-class b t)

@@ -14,7 +14,7 @@ use Rattle.syntax.specs.rules.Syntax.{Piece, raw, letter, number, isPiec
 use Rattle.syntax.specs.rules.Syntax.{Leaf, space, line-end, word, string, leafBefore, isLeaf, a-symbol, after}
 use Rattle.syntax.specs.reference.Scan.{escapeAt}
 use Rattle.syntax.specs.rules.Fault.{Opened, size, Hit, control, lone-return, no-escape, empty-string, unclosed-string}
-use Rattle.syntax.proofs.ByteClasses.{ByteOf, class-byte, Fits}
+use Rattle.syntax.proofs.ByteClasses.{ByteOf, class-byte, FitsAfter}
 use Rattle.syntax.proofs.Strings.{pieces-append, escape-spelled, letter-not-u, raw-tests}
 
 -- Induction over a text, with what is shown of all shorter ones.
@@ -88,11 +88,11 @@ record Run (s : List ℕ) : Type 0 where
   run : List ℕ
   rest : List ℕ
   are-ordinary : T (areOrdinary run)
-  parted : Fits a-symbol rest
+  parted : FitsAfter a-symbol rest
   bytes : run ++ rest ≡ s
 
 run-of : (s : List ℕ) → Run s
-unfolding areOrdinary Fits
+unfolding areOrdinary FitsAfter
 run-of [] = record { run = []; rest = []; are-ordinary = tt; parted = tt; bytes = refl }
 run-of (b ∷ s) =
     let r : Run s = run-of s in
@@ -106,14 +106,14 @@ run-of (b ∷ s) =
 -- Leaves and brackets, and then the end or a fault of the bytes that stand there.
 pub data Lexed : List ℕ → Type 0 where
   nothing : Lexed []
-  leaves : (l : Leaf) (k : List ℕ) → T (isLeaf l) → Fits (after l) k → Lexed k → Lexed (leafBefore l k)
+  leaves : (l : Leaf) (k : List ℕ) → T (isLeaf l) → FitsAfter (after l) k → Lexed k → Lexed (leafBefore l k)
   opens : (b : Bracket) (k : List ℕ) → Lexed k → Lexed (openByte b ∷ k)
   closes : (b : Bracket) (k : List ℕ) → Lexed k → Lexed (closeByte b ∷ k)
   stops : {s : List ℕ} (n : ℕ) → ((room : ℕ) (o : Opened) → (p : ℕ) × Hit room o s n p) → Lexed s
 
 -- What a quote begins.
 lex-string : {s : List ℕ} → Strung s → ((k : List ℕ) → length k ≤ length s → Lexed k) → Lexed (0x22 ∷ s)
-unfolding leafBefore isLeaf after Fits piecesBefore
+unfolding leafBefore isLeaf after FitsAfter piecesBefore
 lex-string (closed [] k u) next = stops 4 (λ room o. (size o, empty-string))
 lex-string (closed (p ∷ ps) k u) next =
     let shorter : length k ≤ length (piecesBefore (p ∷ ps) (0x22 ∷ k))
@@ -123,7 +123,7 @@ lex-string (unclosed ps u) next = stops 4 (λ room o. (size o, unclosed-string p
 lex-string (bad ps s u h) next = stops 4 (λ room o. (size o + 1 + length (piecesBefore ps []), no-escape ps s u h))
 
 lex-return : (s : List ℕ) → ((k : List ℕ) → length k ≤ length s → Lexed k) → Lexed (0x0D ∷ s)
-unfolding leafBefore isLeaf after Fits
+unfolding leafBefore isLeaf after FitsAfter
 lex-return [] next = stops 3 (λ room o. (size o, lone-return {s = []} (omega arith)))
 lex-return (x ∷ s) next =
     bool-case (eqb x 0x0A) (λ e. rw (eqb-true x 0x0A e) (leaves line-end s tt tt (next s (omega arith))))
@@ -131,7 +131,7 @@ lex-return (x ∷ s) next =
 
 -- What a byte begins, by its class.
 lex-byte : (b : ℕ) (s : List ℕ) (c : ByteClass) → byteClass b ≡ c → ByteOf b c → ((k : List ℕ) → length k ≤ length s → Lexed k) → Lexed (b ∷ s)
-unfolding leafBefore isLeaf after Fits isBlank blankClass areOrdinary isOrdinary ordinaryClass
+unfolding leafBefore isLeaf after FitsAfter isBlank blankClass areOrdinary isOrdinary ordinaryClass
 lex-byte b s blank e x next = leaves (space b) s (rw e tt) tt (next s (omega arith))
 lex-byte b s return e x next = rw x (lex-return s next)
 lex-byte b s quote e x next = rw x (lex-string (strung s) next)

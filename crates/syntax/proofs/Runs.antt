@@ -10,7 +10,7 @@ use Rattle.syntax.specs.rules.Byte.{closeByte, byteClass, ordinaryClass,
 use Rattle.syntax.specs.rules.Syntax.{piecesBefore, Leaf, space, line-end, word, string, leafBefore, isLeaf, Before, a-symbol}
 use Rattle.syntax.specs.rules.Syntax.{another, after, mayFollow, Forest, end, leaf, brackets, bytesBefore, bytesOf, Ok}
 use Rattle.syntax.specs.reference.Scan.{Items, a-leaf, opens, closes, itemsFrom}
-use Rattle.syntax.proofs.ByteClasses.{Fits, fits-class, fits-open, fits-close, blank-class}
+use Rattle.syntax.proofs.ByteClasses.{FitsAfter, fits-class, fits-open, fits-close, blank-class}
 use Rattle.syntax.proofs.Strings.{pieces-append}
 use Rattle.syntax.proofs.Items.{items-leaf, items-open, items-close}
 
@@ -44,15 +44,15 @@ lastOf m (leaf l f) = lastOf (after l) f
 lastOf m (brackets b inside f) = lastOf another f
 
 -- A run that may follow m begins with a byte that may.
-pub fits-leaf : (m : Before) (l : Leaf) (k : List ℕ) → T (mayFollow m l) → T (isLeaf l) → Fits m (leafBefore l k)
-unfolding Fits leafBefore mayFollow isLeaf isBlank byteClass ordinaryClass
+pub fits-leaf : (m : Before) (l : Leaf) (k : List ℕ) → T (mayFollow m l) → T (isLeaf l) → FitsAfter m (leafBefore l k)
+unfolding FitsAfter leafBefore mayFollow isLeaf isBlank byteClass ordinaryClass
 fits-leaf another l k t u = tt
 fits-leaf a-symbol (space b) k t u = fits-class a-symbol b k (rw (blank-class b u))
 fits-leaf a-symbol line-end k t u = fits-class a-symbol 0x0D (0x0A ∷ k) refl
 fits-leaf a-symbol (word b bs) k t u = absurd t
 fits-leaf a-symbol (string p ps) k t u = fits-class a-symbol 0x22 (piecesBefore (p ∷ ps) (0x22 ∷ k)) refl
 
-pub fits-run : (m : Before) (f : Forest) (k : List ℕ) → Ok m f → Fits (lastOf m f) k → Fits m (bytesBefore f k)
+pub fits-run : (m : Before) (f : Forest) (k : List ℕ) → Ok m f → FitsAfter (lastOf m f) k → FitsAfter m (bytesBefore f k)
 unfolding Ok lastOf bytesBefore
 fits-run m end k o h = h
 fits-run m (leaf l f) k o h = fits-leaf m l (bytesBefore f k) (o .0) (o .1)
@@ -66,7 +66,7 @@ itemsOf n (brackets b inside f) is =
     opens n b (itemsOf (n + 1) inside (closes (n + 1 + length (bytesOf inside)) b (itemsOf (n + 1 + length (bytesOf inside) + 1) f is)))
 
 -- A run is read as its items, if what follows may follow it.
-pub items-run : (m : Before) (f : Forest) (n : ℕ) (k : List ℕ) → Ok m f → Fits (lastOf m f) k
+pub items-run : (m : Before) (f : Forest) (n : ℕ) (k : List ℕ) → Ok m f → FitsAfter (lastOf m f) k
     → itemsFrom 0 n (bytesBefore f k) ≡ itemsOf n f (itemsFrom 0 (n + length (bytesOf f)) k)
 unfolding Ok lastOf bytesBefore bytesOf itemsOf
 items-run m end n k o h = rw (add-zero n)

@@ -86,14 +86,14 @@ pieces-bad [] n = refl
 pieces-bad (p ∷ ps) n = rw (pieces-bad ps n)
 
 -- The tests of an escape by number.
-pub record Digits (d₁ d₂ d₃ d₄ : ℕ) : Type 0 where
+pub record EscapeDigits (d₁ d₂ d₃ d₄ : ℕ) : Type 0 where
   pub first : T (isHex d₁)
   pub second : T (isHex d₂)
   pub third : T (isHex d₃)
   pub fourth : T (isHex d₄)
   pub scalar : T (isScalar (hexValue d₁ d₂ d₃ d₄))
 
-pub digits-of : (d₁ d₂ d₃ d₄ : ℕ) → T (isPiece (number d₁ d₂ d₃ d₄)) → Digits d₁ d₂ d₃ d₄
+pub digits-of : (d₁ d₂ d₃ d₄ : ℕ) → T (isPiece (number d₁ d₂ d₃ d₄)) → EscapeDigits d₁ d₂ d₃ d₄
 unfolding isPiece
 digits-of d₁ d₂ d₃ d₄ t =
     let (u₄, s) = both (isHex d₁ && isHex d₂ && isHex d₃ && isHex d₄) (isScalar (hexValue d₁ d₂ d₃ d₄)) t in
@@ -106,7 +106,7 @@ digits-of d₁ d₂ d₃ d₄ t =
 Begins : Piece → List ℕ → Type 0
 Begins p s = (t : List ℕ) × (pieceBefore p t ≡ 0x5C ∷ s)
 
-number-spelled : (s : List ℕ) → Digits (getD s 0 0) (getD s 1 0) (getD s 2 0) (getD s 3 0)
+number-spelled : (s : List ℕ) → EscapeDigits (getD s 0 0) (getD s 1 0) (getD s 2 0) (getD s 3 0)
     → Begins (number (getD s 0 0) (getD s 1 0) (getD s 2 0) (getD s 3 0)) (0x75 ∷ s)
 unfolding isHex pieceBefore Begins
 number-spelled [] r = absurd (r .first)

@@ -7,28 +7,28 @@ use Rattle.elements.specs.rules.Class
 use Rattle.elements.specs.rules.Inside.{State, Step, go, bad, step, start, ended}
 
 -- All is taken and the element may end; or the expression with this number, from 0, has a fault; or the element has 9 at its end.
-pub data Verdict : Type 0 where
-  right : Verdict
-  fault : ℕ → ℕ → Verdict
-  unfinished : Verdict
+pub data RowVerdict : Type 0 where
+  right : RowVerdict
+  fault : ℕ → ℕ → RowVerdict
+  unfinished : RowVerdict
 
-unfoldable pub goOn : ℕ → (State → Verdict) → Step → Verdict
+unfoldable pub goOn : ℕ → (State → RowVerdict) → Step → RowVerdict
 goOn i next (go s) = next s
 goOn i next (bad n) = fault n i
 
-unfoldable pub verdictFrom : ℕ → ℕ → State → List ℕ → Verdict
+unfoldable pub verdictFrom : ℕ → ℕ → State → List ℕ → RowVerdict
 verdictFrom k i s [] = cond (ended k s) right unfinished
 verdictFrom k i s (c ∷ cs) = goOn i (λ s′. verdictFrom k (i + 1) s′ cs) (step k s c)
 
 pub record Row : Type 0 where
   pub kind : ℕ
   pub inside : List ℕ
-  pub expected : Verdict
+  pub expected : RowVerdict
 
-unfoldable pub verdict : Row → Verdict
+unfoldable pub verdict : Row → RowVerdict
 verdict r = verdictFrom (r .kind) 0 (start (r .kind)) (r .inside)
 
-abbrev is : ℕ → List ℕ → Verdict → Row
+abbrev is : ℕ → List ℕ → RowVerdict → Row
 is k cs v = record { kind = k; inside = cs; expected = v }
 
 unfoldable pub rows : List Row

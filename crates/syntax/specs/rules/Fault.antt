@@ -59,6 +59,6 @@ pub record Fault (room : ℕ) (text : List ℕ) (n p : ℕ) : Type 0 where
   pub hit : Hit room before rest n p
 
 -- What a text is: the bytes of concrete syntax, or faulty.
-pub data Verdict (room : ℕ) (text : List ℕ) : Type 0 where
-  good : (f : Forest) → Ok another f → bytesOf f ≡ text → levels f ≤ room → Verdict room text
-  faulty : (n p : ℕ) → Fault room text n p → Verdict room text
+pub data TextVerdict (room : ℕ) (text : List ℕ) : Type 0 where
+  good : (f : Forest) → Ok another f → bytesOf f ≡ text → levels f ≤ room → TextVerdict room text
+  faulty : (n p : ℕ) → Fault room text n p → TextVerdict room text

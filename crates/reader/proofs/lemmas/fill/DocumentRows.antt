@@ -18,7 +18,7 @@ use Rattle.document.specs.rules.Document.{text, keyIn, typeIn, widthIn, heightI
 use Rattle.document.specs.rules.Lead.{leadClass}
 use Rattle.document.specs.reference.Meaning.{fine, judge, judgeList, treeOf, treesOf, places}
 use Rattle.document.proofs.NestedMeaning.{not-fine}
-use Rattle.document.proofs.BlockExpressions.{Read}
+use Rattle.document.proofs.BlockExpressions.{EndsFine}
 use Rattle.reader.specs.internal.Counts.{nodeCount, nodeCountOfList, nodeCountIn}
 use Rattle.reader.specs.internal.Tape.{entered, left, taped, tapedList, tapedAll, Located, LocatedAll}
 use Rattle.reader.specs.internal.Filling.{Filling, heldAt, withRow, entryAt, textRow, elementRow, nextRow}
@@ -95,7 +95,7 @@ module _ (T t : List ℕ) (n at c parent : ℕ) (es : Exprs) (l : 8 * (n + suc (
   inner-agrees : Agrees T walked (n + 1) (nodeCountIn es)
   inner-agrees i h h′ = after-walk i (omega arith) (omega arith) (λ e. omega arith)
 
-  element-valued : (s : List ℕ) (k : ℕ) → LocatedAll s es → Read k c (start c) es → TapeHoldsValues s T n es
+  element-valued : (s : List ℕ) (k : ℕ) → LocatedAll s es → EndsFine k c (start c) es → TapeHoldsValues s T n es
   element-valued s k o r =
       let e : length begun ≡ length t = length-entered t n at c parent 0 in
       let w = entered-word t n at c parent 0 in
@@ -154,7 +154,7 @@ module _ (s T : List ℕ) where
       let c : ℕ = leadClass lead in
       let l′ : 8 * (n + suc (nodeCountIn es)) ≤ length t = rw i at l in
       let g′ : Agrees T (elementTape t n parent at c es) n (suc (nodeCountIn es)) = rw i at g in
-      let rd : Read at c (start c) es = element-fine k at lead es i f in
+      let rd : EndsFine at c (start c) es = element-fine k at lead es i f in
       let en : Entered T (a .node) at c parent (n + 1 + nodeCountIn es) = rw m (element-entered T t n at c parent es l′ g′) in
       let va : TapeHoldsValues s T (a .node) es = rw m (element-valued T t n at c parent es l′ g′ s at o rd) in
       let row : Filling =

@@ -22,7 +22,7 @@ use Rattle.document.specs.rules.Document.{Tree}
 use Rattle.document.specs.reference.RulesTest.{keepsRules}
 use Rattle.document.specs.reference.Meaning.{fine, fault, judge, judgeList, judgeValue, textBytes, symbolBytes, onlyOne, valueTree}
 use Rattle.document.proofs.NestedMeaning.{not-fine}
-use Rattle.document.proofs.BlockExpressions.{Read, read-on}
+use Rattle.document.proofs.BlockExpressions.{EndsFine, read-on}
 
 -- Each expression of the run is fine inside, in an element of kind k.
 abbrev pub EachFine : ℕ → Exprs → Type 0
@@ -244,7 +244,7 @@ value-fine k at t = by (keepsRules k t)
 
 -- A list that is fine is an element read to its end, or a value that keeps the rules.
 pub element-fine : (k at : ℕ) (lead : Expr) (es : Exprs) → Class.isElement (leadClass lead) ≡ true → judgeList k at (and lead es) ≡ fine
-    → Read at (leadClass lead) (start (leadClass lead)) es
+    → EndsFine at (leadClass lead) (start (leadClass lead)) es
 unfolding judge
 element-fine k at lead es i h = rw i at h
 
@@ -256,7 +256,7 @@ value-keeps k at lead es i h = value-fine k at (valueTree (leadClass lead) es) (
 apart : (a b c : ℕ) → is a b c ≡ false → (c ≡ a → ⊥) × (c ≡ b → ⊥)
 apart a b c e = let h = or-false (eqb c a) (eqb c b) e in (eqb-false c a (h .0), eqb-false c b (h .1))
 
-run-without : {a b : ℕ} → ValueClasses a b → (at k : ℕ) (s : State) → takesIn a b s ≡ false → T (singleIn a b s) → (es : Exprs) → Read at k s es → Without a b es
+run-without : {a b : ℕ} → ValueClasses a b → (at k : ℕ) (s : State) → takesIn a b s ≡ false → T (singleIn a b s) → (es : Exprs) → EndsFine at k s es → Without a b es
 run-without w at k s n o none h = tt
 run-without {a} {b} w at k s n o (and e es) h =
     let on = read-on at k s e es h in
@@ -278,7 +278,7 @@ first-single w (quoted at s) es o u = let (h, h′) = high w in absurd (⊎-elim
 first-single w (list at none) es o u = let (h, h′) = high w in absurd (⊎-elim (λ e. omega arith) (λ e. omega arith) o)
 first-single w (list at (and lead inner)) es o u = here o u
 
-run-single : {a b : ℕ} → ValueClasses a b → (at k : ℕ) (s : State) → T (singleIn a b s) → (es : Exprs) → Read at k s es → Single a b es
+run-single : {a b : ℕ} → ValueClasses a b → (at k : ℕ) (s : State) → T (singleIn a b s) → (es : Exprs) → EndsFine at k s es → Single a b es
 run-single w at k s o none h = nowhere tt
 run-single {a} {b} w at k s o (and e es) h =
     let on = read-on at k s e es h in
@@ -289,11 +289,11 @@ run-single {a} {b} w at k s o (and e es) h =
     (run-without w at k (on .0) (x .taken i) (x .on) es (on .3)))
     (λ i. let n = apart a b (exprClass e) i in later (n .0) (n .1) (run-single w at k (on .0) (x .on) es (on .3)))
 
-pub read-single : {a b : ℕ} → ValueClasses a b → (at k : ℕ) (es : Exprs) → Read at k (start k) es → Single a b es
+pub read-single : {a b : ℕ} → ValueClasses a b → (at k : ℕ) (es : Exprs) → EndsFine at k (start k) es → Single a b es
 unfolding start
 read-single w at k es h = run-single w at k (start k) (row-of w k .0) es h
 
 -- Each expression of a run that is read to the end is fine inside.
-pub read-each : (at k : ℕ) (s : State) (es : Exprs) → Read at k s es → EachFine k es
+pub read-each : (at k : ℕ) (s : State) (es : Exprs) → EndsFine at k s es → EachFine k es
 read-each at k s none h = tt
 read-each at k s (and e es) h = let on = read-on at k s e es h in (on .2, read-each at k (on .0) es (on .3))

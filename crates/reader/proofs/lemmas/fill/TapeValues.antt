@@ -19,7 +19,7 @@ use Rattle.document.specs.reference.RulesTest.{keepsRules}
 use Rattle.document.specs.rules.Lead.{leadClass, listClass, exprClass}
 use Rattle.document.specs.reference.Meaning.{fine, judge, textBytes, onlyOne, sizeTree, valueTree, treesOf}
 use Rattle.document.proofs.NestedMeaning.{not-fine}
-use Rattle.document.proofs.BlockExpressions.{Read}
+use Rattle.document.proofs.BlockExpressions.{EndsFine}
 use Rattle.reader.specs.internal.Counts.{nodeCount}
 use Rattle.reader.specs.internal.Tape.{noted, valuePlace, taped, tapedAll, LocatedAll}
 use Rattle.reader.specs.internal.Filling.{heldAt}
@@ -216,7 +216,7 @@ pub record TapeHoldsValues (s t : List ℕ) (n : ℕ) (es : Exprs) : Type 0 wher
 
 -- So it is after the walk over what a fine element holds.
 pub values-noted : (s t : List ℕ) (at k n : ℕ) (es : Exprs) → 8 * n + 8 ≤ length t → (getD t (8 * n + 4) 0 ≡ 0) × (getD t (8 * n + 5) 0 ≡ 0)
-    → (getD t (8 * n + 6) 0 ≡ missing) × (getD t (8 * n + 7) 0 ≡ missing) → LocatedAll s es → Read at k (start k) es
+    → (getD t (8 * n + 6) 0 ≡ missing) × (getD t (8 * n + 7) 0 ≡ missing) → LocatedAll s es → EndsFine at k (start k) es
     → TapeHoldsValues s (tapedAll t (n + 1) n es) n es
 values-noted s t at k n es l u v o r =
     let g = read-each at k (start k) es r in

@@ -25,7 +25,7 @@ use Rattle.document.specs.reference.Imperative.{regroup}
 use Rattle.document.specs.rules.Table.{count, pool}
 use Rattle.document.specs.rules.Canonical.{layout, treeLevels}
 use Rattle.document.proofs.CanonicalLevels.{spelled-levels}
-use Rattle.document.proofs.ReadingDecided.{Found, found, regrouped-form}
+use Rattle.document.proofs.ReadingDecided.{ReadingHolds, found, regrouped-form}
 use Rattle.document.proofs.PlaceCounts.{root-places, element-node}
 use Rattle.document.proofs.BlockExpressions.{root-document}
 use Rattle.document.specs.rules.Spelling.{Spelling, nested, imperative, mostLevels}
@@ -66,7 +66,7 @@ pub record DocumentRead (s : Spelling) (text : List ℕ) (m : Memory) (x : Passe
 no-zero : (s : Spelling) (text : List ℕ) → IsUtf8 text → (es : Exprs) (n p : ℕ) → reading s text ≡ oneExpression s (length text) es
     → oneExpression s (length text) es ≡ refused n p → n ≡ 0 → ⊥
 no-zero s text utf8 es n p f o z =
-    let r : Found s text (refused n p) = rw (f ∙ o) at (found s text utf8) in
+    let r : ReadingHolds s text (refused n p) = rw (f ∙ o) at (found s text utf8) in
     omega (arith, refused-number {s = s} {text = text} {n = n} {p = p} r)
 
 judged-fine : (s : Spelling) (x e : Expr) (v : Verdict) → judged s x v ≡ read e → (v ≡ fine) × (x ≡ e)

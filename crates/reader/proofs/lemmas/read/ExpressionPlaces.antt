@@ -14,7 +14,7 @@ use Rattle.syntax.specs.rules.Syntax.{Before, another, after, Forest, end, leaf
 use Rattle.syntax.specs.rules.Expression.{Exprs, locateLeaf, locate}
 use Rattle.syntax.specs.reference.Scan.{closed, quotedFrom, ordinaryRun}
 use Rattle.lexer.specs.Token.{stringEnd, stringAt, contentOf, atomValue}
-use Rattle.syntax.proofs.ByteClasses.{Fits, blank-class, ordinary-class, open-class, close-class, fits-end, fits-close}
+use Rattle.syntax.proofs.ByteClasses.{FitsAfter, blank-class, ordinary-class, open-class, close-class, fits-end, fits-close}
 use Rattle.syntax.proofs.Strings.{pieces-append}
 use Rattle.syntax.proofs.Items.{run-ends, quoted-string}
 use Rattle.syntax.proofs.Runs.{leaf-append, leaf-length, run-append, run-length, lastOf, fits-run}
@@ -32,7 +32,7 @@ drop-past s i a k d = sym (drop-drop (length a) i s) ∙ rw d (drop-append-seam 
 
 -- ---- leaves
 
-word-stands : (s : List ℕ) (i e b : ℕ) (bs k : List ℕ) (es : Exprs) → T (areOrdinary (b ∷ bs)) → Fits Before.a-symbol k → drop i s ≡ (b ∷ bs) ++ k
+word-stands : (s : List ℕ) (i e b : ℕ) (bs k : List ℕ) (es : Exprs) → T (areOrdinary (b ∷ bs)) → FitsAfter Before.a-symbol k → drop i s ≡ (b ∷ bs) ++ k
     → RunStands s (i + suc (length bs)) es e → RunStands s i (locateLeaf i (word b bs) es) e
 unfolding locateLeaf areOrdinary
 word-stands s i e b bs k es t h d st =
@@ -52,7 +52,7 @@ string-stands s i e p ps k es t d st =
     let next : RunStands s (stringAt i (drop i s) .next) es e = rw (read (i + 1)) st in
     rw value at (a-string (has-byte s i 0x22 (piecesBefore (p ∷ ps) (0x22 ∷ k)) quote d refl) good next)
 
-leaf-stands : (s : List ℕ) (i e : ℕ) (l : Leaf) (k : List ℕ) (es : Exprs) → T (isLeaf l) → Fits (after l) k → drop i s ≡ leafBefore l k
+leaf-stands : (s : List ℕ) (i e : ℕ) (l : Leaf) (k : List ℕ) (es : Exprs) → T (isLeaf l) → FitsAfter (after l) k → drop i s ≡ leafBefore l k
     → RunStands s (i + length (leafBefore l [])) es e → RunStands s i (locateLeaf i l es) e
 unfolding isLeaf after leafBefore locateLeaf byteClass
 leaf-stands s i e (space b) k es t h d st = after-blank (has-byte s i b k blank d (blank-class b t)) st
@@ -68,7 +68,7 @@ leaf-stands s i e (string p ps) k es t h d st =
 -- ---- runs
 
 -- A run stands where its bytes do, if what follows ends it.
-run-stands : (s : List ℕ) (m : Before) (f : Forest) (i : ℕ) (k : List ℕ) → Ok m f → Fits (lastOf m f) k → drop i s ≡ bytesBefore f k
+run-stands : (s : List ℕ) (m : Before) (f : Forest) (i : ℕ) (k : List ℕ) → Ok m f → FitsAfter (lastOf m f) k → drop i s ≡ bytesBefore f k
     → Ends s (i + length (bytesOf f)) → RunStands s i (locate i f) (i + length (bytesOf f))
 unfolding Ok lastOf bytesBefore bytesOf locate
 run-stands s m end i k o h d x = let y : Ends s i = rw (add-zero i) at x in rw (add-zero i) (ended y)
