@@ -18,7 +18,7 @@ use Rattle.document.specs.rules.Visits.{childCount, nodeKind, nodeChildr
 use Rattle.document.specs.rules.WellFormed.{BadRow, None}
 use Rattle.document.specs.reference.Check.{Cells, any-number, exactly, cellsIn, cellsBelow, differs, badRow, badRowAmong}
 use Rattle.document.specs.reference.Prose.{OneOf, In, RowsMatchHead}
-use Rattle.document.proofs.NumberedLists.{Counted, counted, one-number}
+use Rattle.document.proofs.NumberedLists.{NumberedFrom, counted, one-number}
 use Rattle.document.proofs.NumberedSearch.{Finds, firstOf, first-append, FirstAnswer, first-answer, test-finds}
 use Rattle.document.proofs.Records.{numbered}
 use Rattle.document.proofs.VisitedNodes.{visited-in, child-visited, in-visited}
@@ -85,7 +85,7 @@ visits-of : (d : Node) → map visitOf (boundsOf d) ≡ visitsOf d
 unfolding boundsOf visitsOf
 visits-of d = bounds-visits d 0 missing 0 any-number
 
-pub bounds-counted : (d : Node) → Counted numberOf 0 (boundsOf d)
+pub bounds-counted : (d : Node) → NumberedFrom numberOf 0 (boundsOf d)
 bounds-counted d =
     counted numberOf (boundsOf d) 0 (count d)
     (sym (map-map (λ (v : Visit). v .number) visitOf (boundsOf d)) ∙ (rw (visits-of d) (numbered d)))

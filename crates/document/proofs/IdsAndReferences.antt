@@ -22,7 +22,7 @@ use Rattle.document.specs.rules.Visits.{nodeKind, nodeKey, Visit, visits
 use Rattle.document.specs.rules.WellFormed.{NodeAt, HasId, RepeatedId, UnknownLink, UnknownFootnote, None, FirstSuch}
 use Rattle.document.specs.reference.Prose.{IdsDifferAmong, HasIdAmong, IdsDiffer, LinksFound, RefsFound}
 use Rattle.elements.proofs.Same.{same-equal}
-use Rattle.document.proofs.NumberedLists.{Counted, counted, one-number, earlier-less, less-earlier}
+use Rattle.document.proofs.NumberedLists.{NumberedFrom, counted, one-number, earlier-less, less-earlier}
 use Rattle.document.proofs.NumberedSearch.{Finds, finds-same, firstOf, FirstIn, FirstAnswer, first-answer, test-finds}
 use Rattle.document.proofs.Records.{entryOf, entries-visits, entry-numbers}
 
@@ -201,7 +201,7 @@ repeated-answer d =
 abbrev entryNumber : Entry → ℕ
 entryNumber e = e .number
 
-pub entries-counted : (d : Node) → Counted entryNumber 0 (entries 0 d)
+pub entries-counted : (d : Node) → NumberedFrom entryNumber 0 (entries 0 d)
 entries-counted d = counted entryNumber (entries 0 d) 0 (count d) (entry-numbers d 0)
 
 -- The entries that have an id are the blocks that have it, by number.
@@ -278,8 +278,8 @@ module _ (d : Node) where
           stood : List·Memᴰ (r .earlier) (entries 0 d)
           stood = rw (r .split) (Memᴰ·append-left (r .block ∷ r .after) (r .on-earlier .stands))
 
-          counts : Counted entryNumber 0 (r .before ++ r .block ∷ r .after)
-          counts = subst (λ (l : List Entry). Counted entryNumber 0 l) (r .split) (entries-counted d)
+          counts : NumberedFrom entryNumber 0 (r .before ++ r .block ∷ r .after)
+          counts = subst (λ (l : List Entry). NumberedFrom entryNumber 0 l) (r .split) (entries-counted d)
 
           back : (e : Entry) → List·Memᴰ e (entries 0 d) → e .number < i → List·Memᴰ e (r .before)
           back e m l = less-earlier entryNumber (r .before) 0 (r .block) e (r .after) counts (rw (r .split) at m) (omega (arith, l, r .number-is))

@@ -2,7 +2,8 @@
 -- or the answer alone (number, place, line, column and both counts).
 use mathlib.Core.Path.{_≡_, refl}
 use mathlib.Core.List.{List, map}
-use Rattle.document.specs.examples.Expected.{bytes, numbers, lentMemory, row, bare, keyed, typed, texts, joined, leaves, Whole, left}
+use Rattle.utf8.specs.examples.Quoted.{utf8Of}
+use Rattle.document.specs.examples.Expected.{numbers, lentMemory, row, bare, keyed, typed, texts, joined, leaves, Whole, left}
 use Rattle.document.specs.examples.Judged.{titled-A, untitled, same-id-twice, link-to-nowhere, listed, Example, examples, settlements, open-points, answered}
 use Rattle.document.specs.examples.Judged.{room, Lent, memoryOf, readInto, short-of-room, Tidied, printable, paper, printedFrom, readIn, spelledOut}
 use Rattle.document.specs.examples.Outcomes.{outcomes, id-behind-type, escaped-by-number, images-and-a-link, table-and-list}
@@ -12,7 +13,7 @@ use Rattle.document.proofs.Compute.{computes}
 
 -- Opens how an outcome is written down.
 unfoldable written-down : Unit {0}
-unfolding bytes numbers lentMemory row bare keyed typed texts joined leaves left
+unfolding utf8Of numbers lentMemory row bare keyed typed texts joined leaves left
 written-down = tt
 
 abbrev AllLeft : List Whole → Type 0
@@ -32,20 +33,20 @@ unfolding computes written-down outcomes id-behind-type escaped-by-number images
 outcomes-judged = refl
 
 pub settled : AllAnswered settlements
-unfolding computes settlements answered room bytes
+unfolding computes settlements answered room utf8Of
 settled = refl
 
 pub decided : AllAnswered open-points
-unfolding computes open-points answered room bytes
+unfolding computes open-points answered room utf8Of
 decided = refl
 
 -- The numbers 13 and 14; memory stays as it was lent.
 pub short-judged : map (λ (l : Lent). readInto l .answer) short-of-room ≡ map (λ (l : Lent). l .example .expected) short-of-room
-unfolding computes short-of-room readInto memoryOf bytes
+unfolding computes short-of-room readInto memoryOf utf8Of
 short-judged = refl
 
 pub short-unaltered : map (λ (l : Lent). readInto l .memory) short-of-room ≡ map memoryOf short-of-room
-unfolding computes short-of-room readInto memoryOf bytes
+unfolding computes short-of-room readInto memoryOf utf8Of
 short-unaltered = refl
 
 -- Printing: number, length and every byte of the output.
@@ -56,5 +57,5 @@ prints-judged = refl
 -- Printing what was read gives the canonical spelling.
 pub tidied : map (λ (t : Tidied). printedFrom (readIn (t .spelling) (t .text))) printable
     ≡ map (λ (t : Tidied). spelledOut (t .canonical)) printable
-unfolding computes printable printedFrom readIn spelledOut room bytes paper
+unfolding computes printable printedFrom readIn spelledOut room utf8Of paper
 tidied = refl

@@ -8,17 +8,17 @@ use Rattle.document.specs.rules.Visits.{upFrom}
 
 module _ {A : Type 0} (number : A → ℕ) where
   -- From i on.
-  abbrev pub Counted : ℕ → List A → Type 0
-  Counted i [] = Unit {0}
-  Counted i (e ∷ es) = (number e ≡ i) × Counted (suc i) es
+  abbrev pub NumberedFrom : ℕ → List A → Type 0
+  NumberedFrom i [] = Unit {0}
+  NumberedFrom i (e ∷ es) = (number e ≡ i) × NumberedFrom (suc i) es
 
-  pub counted : (es : List A) (i n : ℕ) → map number es ≡ upFrom i n → Counted i es
+  pub counted : (es : List A) (i n : ℕ) → map number es ≡ upFrom i n → NumberedFrom i es
   unfolding upFrom
   counted [] i n q = tt
   counted (e ∷ es) i zero q = absurd (let z : _≡_ {A = ℕ} 0 1 = cc in omega arith)
   counted (e ∷ es) i (suc n) q = (cc, counted es (suc i) n (cc))
 
-  pub at-least : (es : List A) (i : ℕ) (f : A) → Counted i es → List·Memᴰ f es → i ≤ number f
+  pub at-least : (es : List A) (i : ℕ) (f : A) → NumberedFrom i es → List·Memᴰ f es → i ≤ number f
   at-least [] i f c m = absurd (List·Memᴰ·not-nil m)
   at-least (e ∷ es) i f (q, c) m = go (at-least es (suc i) f c) (List·Memᴰ·cases-cons m)
     where
@@ -27,7 +27,7 @@ module _ {A : Type 0} (number : A → ℕ) where
       go below (inr x) = omega (arith, below x)
 
   -- Two elements of one number are one.
-  pub one-number : (es : List A) (i : ℕ) (e f : A) → Counted i es → List·Memᴰ e es → List·Memᴰ f es → number e ≡ number f → e ≡ f
+  pub one-number : (es : List A) (i : ℕ) (e f : A) → NumberedFrom i es → List·Memᴰ e es → List·Memᴰ f es → number e ≡ number f → e ≡ f
   one-number [] i e f c m m′ h = absurd (List·Memᴰ·not-nil m)
   one-number (a ∷ es) i e f (q, c) m m′ h = go (one-number es (suc i) e f c) (List·Memᴰ·cases-cons m) (List·Memᴰ·cases-cons m′)
     where
@@ -41,7 +41,7 @@ module _ {A : Type 0} (number : A → ℕ) where
       go below (inr x) (inr y) = below x y h
 
   -- An earlier element has a smaller number.
-  pub earlier-less : (before : List A) (i : ℕ) (e f : A) (after : List A) → Counted i (before ++ e ∷ after) → List·Memᴰ f before → number f < number e
+  pub earlier-less : (before : List A) (i : ℕ) (e f : A) (after : List A) → NumberedFrom i (before ++ e ∷ after) → List·Memᴰ f before → number f < number e
   earlier-less [] i e f after c m = absurd (List·Memᴰ·not-nil m)
   earlier-less (a ∷ before) i e f after (q, c) m = go (earlier-less before (suc i) e f after c) (List·Memᴰ·cases-cons m)
     where
@@ -51,7 +51,7 @@ module _ {A : Type 0} (number : A → ℕ) where
       go below (inr x) = below x
 
   -- And what has a smaller number is earlier.
-  pub less-earlier : (before : List A) (i : ℕ) (e f : A) (after : List A) → Counted i (before ++ e ∷ after) → List·Memᴰ f (before ++ e ∷ after)
+  pub less-earlier : (before : List A) (i : ℕ) (e f : A) (after : List A) → NumberedFrom i (before ++ e ∷ after) → List·Memᴰ f (before ++ e ∷ after)
       → number f < number e → List·Memᴰ f before
   less-earlier [] i e f after c m l = absurd (omega (arith, at-least (e ∷ after) i f c m, c .0))
   less-earlier (a ∷ before) i e f after (q, c) m l = go (λ x. less-earlier before (suc i) e f after c x l) (List·Memᴰ·cases-cons m)

@@ -8,7 +8,7 @@ use native.Mathlib.Omega.{arith}
 use Rattle.base.proofs.Booleans.{cond-case}
 use Rattle.document.specs.rules.WellFormed.{None, FirstSuch}
 use Rattle.document.specs.reference.Check.{First, nowhere, at-node, orElse}
-use Rattle.document.proofs.NumberedLists.{Counted, at-least}
+use Rattle.document.proofs.NumberedLists.{NumberedFrom, at-least}
 
 -- What an answer of a search says of a fault.
 abbrev pub Finds : (ℕ → Type 0) → First → Type 0
@@ -82,7 +82,7 @@ module _ {A : Type 0} (number : A → ℕ) (test : A → Bool) where
       go x l (inl p) = ap test p ∙ q
       go x l (inr m) = a .none-before x m l
 
-  pub first-answer : (es : List A) (i : ℕ) → Counted number i es → FirstAnswer es (firstOf es)
+  pub first-answer : (es : List A) (i : ℕ) → NumberedFrom number i es → FirstAnswer es (firstOf es)
   unfolding firstOf
   first-answer [] i c = λ e m. absurd (List·Memᴰ·not-nil m)
   first-answer (e ∷ es) i (q, c) =

@@ -2,7 +2,7 @@
 use mathlib.Core.List.{List, [], _∷_, _++_}
 use lib.ListN.{replicate}
 use Rattle.document.specs.rules.Spelling.{nested, imperative}
-use Rattle.document.specs.examples.Expected.{bytes}
+use Rattle.utf8.specs.examples.Quoted.{utf8Of}
 use Rattle.document.specs.examples.Judged.{Example, example, exampleOf}
 
 -- Texts for the numbers 2 to 12 and 15 to 18 in both spellings, each aimed at a mistake that would give another number or place,
@@ -10,10 +10,10 @@ use Rattle.document.specs.examples.Judged.{Example, example, exampleOf}
 unfoldable pub faults : List Example
 faults =
     -- 2: over the whole text, ahead of all that a scan finds.
-    exampleOf nested (bytes "[document [title " ++ (0xED ∷ 0xA0 ∷ 0x80 ∷ []) ++ bytes "]]") 2 17 1 18 0 0
-    ∷ exampleOf nested (bytes "[document [title " ++ (0xC0 ∷ 0x80 ∷ []) ++ bytes "]]") 2 17 1 18 0 0
+    exampleOf nested (utf8Of "[document [title " ++ (0xED ∷ 0xA0 ∷ 0x80 ∷ []) ++ utf8Of "]]") 2 17 1 18 0 0
+    ∷ exampleOf nested (utf8Of "[document [title " ++ (0xC0 ∷ 0x80 ∷ []) ++ utf8Of "]]") 2 17 1 18 0 0
     ∷ exampleOf nested (0x01 ∷ 0x0A ∷ 0xC3 ∷ []) 2 2 2 1 0 0
-    ∷ exampleOf imperative (bytes "[document [title A]] é" ++ (0xF4 ∷ 0x90 ∷ 0x80 ∷ 0x80 ∷ [])) 2 23 1 23 0 0
+    ∷ exampleOf imperative (utf8Of "[document [title A]] é" ++ (0xF4 ∷ 0x90 ∷ 0x80 ∷ 0x80 ∷ [])) 2 23 1 23 0 0
     -- 3: a control character, U+000D with no U+000A after it; the column counts characters. Inside a string it is raw.
     ∷ example nested "[document \u{1}[title A]]" 3 10 1 11 0 0
     ∷ example nested "[document [title é]]\u{1}" 3 21 1 21 0 0

@@ -11,7 +11,8 @@ use Rattle.document.specs.rules.Spelling.{nested, imperative}
 use Rattle.document.specs.reference.Check.{Check, sound, unsound, check}
 use Rattle.document.specs.rules.Memory.{Answer}
 use Rattle.document.specs.rules.Draft.{Printed}
-use Rattle.document.specs.examples.Expected.{bytes, no-parent, no-width, no-height, bare, texts, joined, Table}
+use Rattle.utf8.specs.examples.Quoted.{utf8Of}
+use Rattle.document.specs.examples.Expected.{no-parent, no-width, no-height, bare, texts, joined, Table}
 use Rattle.document.specs.examples.Judged.{exampleOf, Lent, lent, readInto}
 use Rattle.document.specs.examples.Printing.{Print, printedAs, blank, needs, noTableOf}
 
@@ -35,11 +36,11 @@ asExpected l = sameAnswer (readInto l .answer) (l .example .expected)
 
 -- A document of a title, a section and n paragraphs: n + 6 nodes.
 unfoldable pub paragraphs : ℕ → List ℕ
-paragraphs n = bytes "[document [title A] [section [title B]" ++ times n (bytes " [paragraph]") ++ bytes "]]"
+paragraphs n = utf8Of "[document [title A] [section [title B]" ++ times n (utf8Of " [paragraph]") ++ utf8Of "]]"
 
 -- In the imperative spelling, with a text in each paragraph: 2 n + 6 nodes, n + 2 pool bytes.
 unfoldable pub commands : ℕ → List ℕ
-commands n = bytes "[document [title A]] [section [title B]]" ++ times n (bytes " [paragraph] x")
+commands n = utf8Of "[document [title A]] [section [title B]]" ++ times n (utf8Of " [paragraph] x")
 
 -- 13 and 14: "counts needed", and 0 where the room is just enough. Node words, places and pool bytes that are lent, and the text.
 unfoldable pub counted : List Lent
@@ -56,11 +57,11 @@ counted =
 -- A head of n names over a row of m cells.
 unfoldable pub columns : ℕ → ℕ → List ℕ
 columns n m =
-    bytes "[document [title] [section [title] [paragraph [table [summary] [head"
-    ++ times n (bytes " [name]")
-    ++ bytes "] [body [row"
-    ++ times m (bytes " [cell]")
-    ++ bytes "]]]]]]"
+    utf8Of "[document [title] [section [title] [paragraph [table [summary] [head"
+    ++ times n (utf8Of " [name]")
+    ++ utf8Of "] [body [row"
+    ++ times m (utf8Of " [cell]")
+    ++ utf8Of "]]]]]]"
 
 -- The names begin at place 68 with seven bytes each, and the row is eight bytes behind them; ten nodes are neither names nor cells.
 -- 0 with as many cells as names; 15 at the row with one more or one fewer.
@@ -99,12 +100,12 @@ columnsExpected n = sound ∷ unsound 15 (9 + n) ∷ unsound 15 (9 + n) ∷ []
 
 -- The id a ... a of n bytes on the document, and this id on the section in it.
 unfoldable pub twoIds : ℕ → List ℕ → List ℕ
-twoIds n s = bytes "[document [title] [id " ++ replicate n 0x61 ++ bytes "] [section [title] [id " ++ s ++ bytes "]]]"
+twoIds n s = utf8Of "[document [title] [id " ++ replicate n 0x61 ++ utf8Of "] [section [title] [id " ++ s ++ utf8Of "]]]"
 
 -- The id a ... a of n bytes on the document, and a link to this target.
 unfoldable pub idAndLink : ℕ → List ℕ → List ℕ
 idAndLink n s =
-    bytes "[document [title] [id " ++ replicate n 0x61 ++ bytes "] [section [title] [paragraph [link [target " ++ s ++ bytes "]]]]]"
+    utf8Of "[document [title] [id " ++ replicate n 0x61 ++ utf8Of "] [section [title] [paragraph [link [target " ++ s ++ utf8Of "]]]]]"
 
 -- Ids count to their last byte: the same one is 16 on a second block and found by a link; one that is shorter by a byte, longer by a byte, or has another last byte
 -- is neither. The document's id begins at place 22; the section is two bytes behind its end, the link 28 bytes behind the section.
@@ -124,7 +125,7 @@ longIds (n ∷ ns) =
 
 -- n lists in one another, each with one item.
 unfoldable pub lists : ℕ → List ℕ
-lists n = times n (bytes "[list-ordered [item ")
+lists n = times n (utf8Of "[list-ordered [item ")
 
 unfoldable pub closed : ℕ → List ℕ
 closed n = replicate n 0x5D
@@ -133,15 +134,15 @@ closed n = replicate n 0x5D
 unfoldable pub levels : List Lent
 levels =
     lent 726 66 0
-    (exampleOf nested (bytes "[document [title] [section [title] [paragraph " ++ lists 30 ++ bytes "[term]" ++ closed 63) 0 0 1 1 66 0)
+    (exampleOf nested (utf8Of "[document [title] [section [title] [paragraph " ++ lists 30 ++ utf8Of "[term]" ++ closed 63) 0 0 1 1 66 0)
     ∷ lent 1100 100 0
-    (exampleOf nested (bytes "[document [title] [section [title] [paragraph " ++ lists 31 ++ closed 65) 6 660 1 661 0 0)
+    (exampleOf nested (utf8Of "[document [title] [section [title] [paragraph " ++ lists 31 ++ closed 65) 6 660 1 661 0 0)
     ∷ lent 704 64 0
-    (exampleOf imperative (bytes "[document [title]] [section [title]] [paragraph] " ++ lists 29 ++ bytes "[term]" ++ closed 58) 0 0 1 1 64 0)
+    (exampleOf imperative (utf8Of "[document [title]] [section [title]] [paragraph] " ++ lists 29 ++ utf8Of "[term]" ++ closed 58) 0 0 1 1 64 0)
     ∷ lent 1100 100 0
-    (exampleOf imperative (bytes "[document [title]] [section [title]] [paragraph] " ++ lists 30 ++ closed 60) 6 643 1 644 0 0)
+    (exampleOf imperative (utf8Of "[document [title]] [section [title]] [paragraph] " ++ lists 30 ++ closed 60) 6 643 1 644 0 0)
     ∷ lent 748 68 0
-    (exampleOf imperative (bytes "[document [title]] [part [title]] [section [title]] [subsection [title]] [paragraph] " ++ lists 29 ++ bytes "[term]" ++ closed 58) 0 0 1 1 68 0)
+    (exampleOf imperative (utf8Of "[document [title]] [part [title]] [section [title]] [subsection [title]] [paragraph] " ++ lists 29 ++ utf8Of "[term]" ++ closed 58) 0 0 1 1 68 0)
     ∷ []
 
 -- The table of `paragraphs n`.
@@ -160,7 +161,7 @@ paragraphsTable n =
           ∷ bare 8 3 6
           ∷ texts 4 6 1 1
           ∷ paragraphRows 6 n;
-      pool = bytes "AB";
+      pool = utf8Of "AB";
     }
 
 -- Its places: the paragraphs are twelve bytes apart.
@@ -176,7 +177,7 @@ unfoldable pub fillsAll : ℕ → Bool
 fillsAll n =
     let l = lent (11 * (n + 6)) (n + 6) 2 (exampleOf nested (paragraphs n) 0 0 1 1 (n + 6) 2) in
     let m = readInto l .memory in
-    asExpected l && same (m .nodes) (joined (paragraphsTable n .rows)) && same (m .places) (paragraphPlaces n) && same (m .pool) (bytes "AB")
+    asExpected l && same (m .nodes) (joined (paragraphsTable n .rows)) && same (m .places) (paragraphPlaces n) && same (m .pool) (utf8Of "AB")
 
 -- n lists in one another with an item each, as records from node number i on, in a table of `end` nodes.
 unfoldable pub listRows : ℕ → ℕ → ℕ → List (List ℕ)
@@ -221,8 +222,8 @@ isPrinted p = samePrinted (printedAs p) (p .expected)
 unfoldable pub long-outputs : List Print
 long-outputs =
     needs (paragraphsTable 100) 1243 1244
-    ∷ fillsOutput (paragraphsTable 100) 1244 (bytes "[document [title \"A\"] [section [title \"B\"]" ++ times 100 (bytes " [paragraph]") ++ closed 2)
+    ∷ fillsOutput (paragraphsTable 100) 1244 (utf8Of "[document [title \"A\"] [section [title \"B\"]" ++ times 100 (utf8Of " [paragraph]") ++ closed 2)
     ∷ needs levels-64 722 723
-    ∷ fillsOutput levels-64 723 (bytes "[document [title] [section [title] [paragraph " ++ lists 30 ++ bytes "[list-ordered]" ++ closed 63)
+    ∷ fillsOutput levels-64 723 (utf8Of "[document [title] [section [title] [paragraph " ++ lists 30 ++ utf8Of "[list-ordered]" ++ closed 63)
     ∷ noTableOf levels-65
     ∷ []

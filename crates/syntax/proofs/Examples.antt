@@ -8,9 +8,9 @@ use Rattle.syntax.specs.rules.Syntax.{pieceBefore, piecesBefore, leafBef
 use Rattle.syntax.specs.rules.Syntax.{isPiece, arePieces, areOrdinary, isLeaf, letterValue, pieceValue, piecesValue}
 use Rattle.syntax.specs.rules.Expression.{locateLeaf, locate}
 use Rattle.syntax.specs.reference.Scan.{ordinaryRun, escapeAt, piece, quotedFrom, quotedItem, itemAt, itemsFrom, addLeaf, wrap, endLevel, atEnd, oneMore, oneLess, build, outermost, scan}
-use Rattle.syntax.specs.examples.Scanned.{Example, examples, found, locatedIn, run, Judged, leaves}
+use Rattle.syntax.specs.examples.Scanned.{ScanExample, examples, found, locatedIn, run, Judged, leaves}
 
-pub texts-scanned : map found examples ≡ map (λ (e : Example). e .expected) examples
+pub texts-scanned : map found examples ≡ map (λ (e : ScanExample). e .expected) examples
 unfolding isScalar encode utf8Of byteClass openByte closeByte sameBracket ordinaryClass isOrdinary pieceBefore piecesBefore leafBefore bytesBefore bytesOf isHex hexDigit hexValue isPiece letterValue pieceValue piecesValue locateLeaf locate ordinaryRun escapeAt piece quotedFrom quotedItem itemAt itemsFrom addLeaf wrap endLevel atEnd oneMore oneLess build outermost scan examples found locatedIn run
 texts-scanned = refl
 

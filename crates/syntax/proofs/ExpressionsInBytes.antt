@@ -84,7 +84,8 @@ stand-later s h i (and e es) j l (m, a, r) = (m, stands-later s h i e m l a, r)
 
 -- ---- leaves
 
-drop-past : (s : List ℕ) (i : ℕ) (a k : List ℕ) → drop i s ≡ a ++ k → drop (i + length a) s ≡ k
+-- What stands behind bytes that stand at a place.
+pub drop-past : (s : List ℕ) (i : ℕ) (a k : List ℕ) → drop i s ≡ a ++ k → drop (i + length a) s ≡ k
 drop-past s i a k d = sym (drop-drop (length a) i s) ∙ rw d (drop-append-seam a k)
 
 leaf-stands : (s : List ℕ) (i j : ℕ) (l : Leaf) (k : List ℕ) (es : Exprs) → T (isLeaf l) → FitsAfter (after l) k → drop i s ≡ leafBefore l k

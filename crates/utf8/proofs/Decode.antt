@@ -60,7 +60,7 @@ second-begun a b rs s e0 f0 ed f4 l h =
 further-begun : (n : ℕ) (rs : List Range) (s : List ℕ) → T (begins rs s) → T (begins (continuation ∷ rs) (further n ∷ s))
 further-begun n rs s = begun continuation rs (further n) s (omega arith) (omega arith)
 
-record Begun (r : Range) (rs : List Range) (s : List ℕ) : Type 0 where
+record SequenceBegun (r : Range) (rs : List Range) (s : List ℕ) : Type 0 where
   byte : ℕ
   rest : List ℕ
   is-text : byte ∷ rest ≡ s
@@ -68,7 +68,7 @@ record Begun (r : Range) (rs : List Range) (s : List ℕ) : Type 0 where
   up-to : byte ≤ r .high
   further : T (begins rs rest)
 
-begun-of : (r : Range) (rs : List Range) (s : List ℕ) → T (begins (r ∷ rs) s) → Begun r rs s
+begun-of : (r : Range) (rs : List Range) (s : List ℕ) → T (begins (r ∷ rs) s) → SequenceBegun r rs s
 unfolding begins
 begun-of r rs [] t = absurd t
 begun-of r rs (b ∷ s) t =

@@ -1,18 +1,11 @@
 -- How the whole outcome of a read is written down in the examples: the answer, and the node words, place list and pool at the end.
 -- Document 01, "The table", is written out word by word here, and nothing of it is taken from the definitions that the examples are to judge.
 use Prim.Native.Nat.{ℕ, zero, suc, _+_, _-_, _*_}
-use Prim.Native.String.{String}
 use mathlib.Core.List.{List, [], _∷_, _++_}
 use lib.ListN.{length}
-use Rattle.utf8.specs.rules.Scalar.{encodeAll}
-use Rattle.elements.specs.rules.Bytes.{codes}
 use Rattle.document.specs.rules.Spelling.{Spelling}
 use Rattle.document.specs.reference.Outcome.{outcome}
 use Rattle.document.specs.rules.Memory.{Memory, Outcome}
-
--- A text that is written out, as UTF-8.
-unfoldable pub bytes : String → List ℕ
-bytes s = encodeAll (codes s)
 
 -- n numbers from m on. No two words of lent memory are alike, so that one that moved would show.
 unfoldable pub numbers : ℕ → ℕ → List ℕ

@@ -10,11 +10,12 @@ use Rattle.document.specs.reference.Outcome.{outcome}
 use Rattle.document.specs.rules.Memory.{Answer, Memory, Outcome, over}
 use Rattle.document.specs.reference.Printing.{printing}
 use Rattle.document.specs.rules.Draft.{Printed}
-use Rattle.document.specs.examples.Expected.{bytes, no-parent, bare, keyed, texts, Table, Whole, refusedAs, fills}
+use Rattle.utf8.specs.examples.Quoted.{utf8Of}
+use Rattle.document.specs.examples.Expected.{no-parent, bare, keyed, texts, Table, Whole, refusedAs, fills}
 
 -- The table of a document whose title is A, however it is spelled.
 unfoldable pub titled-A : Table
-titled-A = record { rows = bare 1 no-parent 3 ∷ bare 8 0 3 ∷ texts 1 3 0 1 ∷ []; pool = bytes "A" }
+titled-A = record { rows = bare 1 no-parent 3 ∷ bare 8 0 3 ∷ texts 1 3 0 1 ∷ []; pool = utf8Of "A" }
 
 -- An empty title.
 unfoldable pub untitled : Table
@@ -25,7 +26,7 @@ unfoldable pub same-id-twice : Table
 same-id-twice =
     record {
       rows = keyed 1 no-parent 6 0 1 ∷ bare 8 0 3 ∷ texts 1 3 1 1 ∷ keyed 3 0 6 2 1 ∷ bare 8 3 6 ∷ texts 4 6 3 1 ∷ [];
-      pool = bytes "xAxB";
+      pool = utf8Of "xAxB";
     }
 
 -- A link, whose target x is on no block.
@@ -42,7 +43,7 @@ link-to-nowhere =
           ∷ bare 5 3 8
           ∷ keyed 13 6 8 2 1
           ∷ [];
-      pool = bytes "ABx";
+      pool = utf8Of "ABx";
     }
 
 -- The document of the printed listing: kind, parent and end are the numbers of its lines.
@@ -59,26 +60,26 @@ listed =
           ∷ bare 5 3 8
           ∷ texts 6 8 2 2
           ∷ [];
-      pool = bytes "ABhi";
+      pool = utf8Of "ABhi";
     }
 
 -- The judged examples. The third has the second's table.
 unfoldable pub examples : List Whole
 examples =
-    refusedAs nested (bytes "") 7 0 1 1
-    ∷ fills nested (bytes "[document [title \"A\"]]") 0 0 1 1 3 1 titled-A (0 ∷ 10 ∷ 17 ∷ [])
-    ∷ fills nested (bytes "(document (title A))") 0 0 1 1 3 1 titled-A (0 ∷ 10 ∷ 17 ∷ [])
-    ∷ fills nested (bytes "[document [title]]") 0 0 1 1 2 0 untitled (0 ∷ 10 ∷ [])
-    ∷ refusedAs nested (bytes "[document]") 9 0 1 1
-    ∷ refusedAs nested (bytes "[document [title A)]") 5 18 1 19
-    ∷ refusedAs nested (bytes "[document [title \"\"]]") 4 17 1 18
-    ∷ refusedAs nested (bytes "[document [title A] [paragraph]]") 8 20 1 21
-    ∷ refusedAs nested (bytes "[document [title A] [section [title B] [footnote [type t] [id f]]]]") 9 39 1 40
-    ∷ refusedAs nested (bytes "[document [title A] [section [title B] [paragraph] [subsection [title C]]]]") 11 51 1 52
-    ∷ fills nested (bytes "[document [title A] [id x] [section [title B] [id x]]]") 16 27 1 28 6 4 same-id-twice (0 ∷ 10 ∷ 17 ∷ 27 ∷ 36 ∷ 43 ∷ [])
-    ∷ fills nested (bytes "[document [title A] [section [title B] [paragraph [link [target x]]]]]") 17 50 1 51 8 3 link-to-nowhere (0 ∷ 10 ∷ 17 ∷ 20 ∷ 29 ∷ 36 ∷ 39 ∷ 50 ∷ [])
-    ∷ refusedAs imperative (bytes "[document [title A]] hi") 8 21 1 22
-    ∷ fills imperative (bytes "[document [title A]] [section [title B]] [paragraph] hi") 0 0 1 1 8 4 listed (0 ∷ 10 ∷ 17 ∷ 21 ∷ 30 ∷ 37 ∷ 41 ∷ 53 ∷ [])
+    refusedAs nested (utf8Of "") 7 0 1 1
+    ∷ fills nested (utf8Of "[document [title \"A\"]]") 0 0 1 1 3 1 titled-A (0 ∷ 10 ∷ 17 ∷ [])
+    ∷ fills nested (utf8Of "(document (title A))") 0 0 1 1 3 1 titled-A (0 ∷ 10 ∷ 17 ∷ [])
+    ∷ fills nested (utf8Of "[document [title]]") 0 0 1 1 2 0 untitled (0 ∷ 10 ∷ [])
+    ∷ refusedAs nested (utf8Of "[document]") 9 0 1 1
+    ∷ refusedAs nested (utf8Of "[document [title A)]") 5 18 1 19
+    ∷ refusedAs nested (utf8Of "[document [title \"\"]]") 4 17 1 18
+    ∷ refusedAs nested (utf8Of "[document [title A] [paragraph]]") 8 20 1 21
+    ∷ refusedAs nested (utf8Of "[document [title A] [section [title B] [footnote [type t] [id f]]]]") 9 39 1 40
+    ∷ refusedAs nested (utf8Of "[document [title A] [section [title B] [paragraph] [subsection [title C]]]]") 11 51 1 52
+    ∷ fills nested (utf8Of "[document [title A] [id x] [section [title B] [id x]]]") 16 27 1 28 6 4 same-id-twice (0 ∷ 10 ∷ 17 ∷ 27 ∷ 36 ∷ 43 ∷ [])
+    ∷ fills nested (utf8Of "[document [title A] [section [title B] [paragraph [link [target x]]]]]") 17 50 1 51 8 3 link-to-nowhere (0 ∷ 10 ∷ 17 ∷ 20 ∷ 29 ∷ 36 ∷ 39 ∷ 50 ∷ [])
+    ∷ refusedAs imperative (utf8Of "[document [title A]] hi") 8 21 1 22
+    ∷ fills imperative (utf8Of "[document [title A]] [section [title B]] [paragraph] hi") 0 0 1 1 8 4 listed (0 ∷ 10 ∷ 17 ∷ 21 ∷ 30 ∷ 37 ∷ 41 ∷ 53 ∷ [])
     ∷ []
 
 -- A text and what reading it answers.
@@ -94,7 +95,7 @@ exampleOf s t n p line column nodes pool =
 
 -- The same of a text that is written out, as UTF-8.
 abbrev pub example : Spelling → String → ℕ → ℕ → ℕ → ℕ → ℕ → ℕ → Example
-example s t = exampleOf s (bytes t)
+example s t = exampleOf s (utf8Of t)
 
 -- Room for 64 nodes and 64 pool bytes.
 unfoldable pub room : Memory
@@ -231,7 +232,7 @@ unfoldable pub printedFrom : Outcome → Printed
 printedFrom o = printing (o .memory .nodes) (o .answer .nodes) (o .memory .pool) (o .answer .pool) paper
 
 unfoldable pub readIn : Spelling → String → Outcome
-readIn s t = outcome s (bytes t) room
+readIn s t = outcome s (utf8Of t) room
 
 unfoldable pub spelledOut : String → Printed
-spelledOut c = record { number = 0; size = length (bytes c); out = over (bytes c) paper }
+spelledOut c = record { number = 0; size = length (utf8Of c); out = over (utf8Of c) paper }

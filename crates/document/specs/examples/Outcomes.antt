@@ -3,7 +3,8 @@
 use mathlib.Core.List.{List, [], _∷_, _++_}
 use lib.ListN.{replicate}
 use Rattle.document.specs.rules.Spelling.{nested, imperative}
-use Rattle.document.specs.examples.Expected.{bytes, no-parent, no-width, no-height, row, bare, keyed, typed, texts, Table, Whole, refusedAs, fills}
+use Rattle.utf8.specs.examples.Quoted.{utf8Of}
+use Rattle.document.specs.examples.Expected.{no-parent, no-width, no-height, row, bare, keyed, typed, texts, Table, Whole, refusedAs, fills}
 
 -- The id x-1 stands before the type t in the pool, and both before the texts, though the text has the type before the id and both behind the title.
 -- The texts are U+00E9 U+0009, written by two escapes, and U+00C9, written raw.
@@ -11,7 +12,7 @@ unfoldable pub id-behind-type : Table
 id-behind-type =
     record {
       rows = row 1 no-parent 4 0 3 3 1 0 0 no-width no-height ∷ bare 8 0 4 ∷ texts 1 3 4 3 ∷ texts 1 4 7 2 ∷ [];
-      pool = bytes "x-1t" ++ (0xC3 ∷ 0xA9 ∷ 0x09 ∷ 0xC3 ∷ 0x89 ∷ []);
+      pool = utf8Of "x-1t" ++ (0xC3 ∷ 0xA9 ∷ 0x09 ∷ 0xC3 ∷ 0x89 ∷ []);
     }
 
 -- Escapes by number at the ends of the lengths that UTF-8 has, and on both sides of the surrogates: U+007F U+0080 U+07FF U+0800 U+D7FF U+E000 U+FFFF.
@@ -50,7 +51,7 @@ images-and-a-link =
           ∷ texts 11 13 17 1
           ∷ keyed 11 11 14 18 1
           ∷ [];
-      pool = bytes "AsBa.pngpaltbc dsef";
+      pool = utf8Of "AsBa.pngpaltbc dsef";
     }
 
 -- A table: summary, head, body in order, two names over rows of two cells, and in a cell a list of two items.
@@ -83,7 +84,7 @@ table-and-list =
           ∷ bare 25 21 23
           ∷ bare 25 21 24
           ∷ [];
-      pool = bytes "tSN1a";
+      pool = utf8Of "tSN1a";
     }
 
 -- The kinds that are left: part, subsection, formal-item, footnote, term, verbatim, link-ext, footnote-ref, list-unordered.
@@ -117,7 +118,7 @@ two-spellings =
           ∷ bare 4 5 25
           ∷ bare 8 23 25
           ∷ [];
-      pool = bytes "ABscCftxvFfu:/";
+      pool = utf8Of "ABscCftxvFfu:/";
     }
 
 -- Under 15 to 18 the table is filled too. A head of one name over a row of no cell:
@@ -145,7 +146,7 @@ unfoldable pub id-again : Table
 id-again =
     record {
       rows = bare 1 no-parent 6 ∷ bare 8 0 2 ∷ keyed 3 0 6 0 1 ∷ bare 8 2 4 ∷ keyed 5 2 6 1 1 ∷ texts 4 6 2 2 ∷ [];
-      pool = bytes "xxhi";
+      pool = utf8Of "xxhi";
     }
 
 -- a link to no block, on the third line: two texts of one character in two bytes, and the target;
@@ -179,37 +180,37 @@ reference-to-a-section =
           ∷ bare 5 3 8
           ∷ keyed 15 6 8 3 1
           ∷ [];
-      pool = bytes "AsBs";
+      pool = utf8Of "AsBs";
     }
 
 unfoldable pub outcomes : List Whole
 outcomes =
-    fills nested (bytes "(document(title \"\\u00e9\\t\" É)[type t](id x-1))") 0 0 1 1 4 9 id-behind-type (0 ∷ 9 ∷ 16 ∷ 27 ∷ [])
-    ∷ fills nested (bytes "[document [title \"\\u007f\\u0080\\u07FF\\u0800\\ud7ff\\uE000\\uffff\"]]") 0 0 1 1 3 17 escaped-by-number (0 ∷ 10 ∷ 17 ∷ [])
-    ∷ fills nested (bytes "[document [title A] [section [title B] [id s] [paragraph [image [target a.png] [size 007 65535] [type p] alt] [image [target b] \"c d\"] [link [target s] e [image [target f]]]]]]") 0 0 1 1 14 19 images-and-a-link
+    fills nested (utf8Of "(document(title \"\\u00e9\\t\" É)[type t](id x-1))") 0 0 1 1 4 9 id-behind-type (0 ∷ 9 ∷ 16 ∷ 27 ∷ [])
+    ∷ fills nested (utf8Of "[document [title \"\\u007f\\u0080\\u07FF\\u0800\\ud7ff\\uE000\\uffff\"]]") 0 0 1 1 3 17 escaped-by-number (0 ∷ 10 ∷ 17 ∷ [])
+    ∷ fills nested (utf8Of "[document [title A] [section [title B] [id s] [paragraph [image [target a.png] [size 007 65535] [type p] alt] [image [target b] \"c d\"] [link [target s] e [image [target f]]]]]]") 0 0 1 1 14 19 images-and-a-link
     (0 ∷ 10 ∷ 17 ∷ 20 ∷ 29 ∷ 36 ∷ 46 ∷ 57 ∷ 105 ∷ 110 ∷ 128 ∷ 135 ∷ 152 ∷ 154 ∷ [])
-    ∷ fills nested (bytes "[document [title] [section [title] [paragraph [table [summary S] [type t] [head [name N] [name]] [body [row [cell 1] [cell [list-ordered [item \"a\"] [item]]]] [row [cell] [cell]]]]]]]") 0 0 1 1 24 5 table-and-list
+    ∷ fills nested (utf8Of "[document [title] [section [title] [paragraph [table [summary S] [type t] [head [name N] [name]] [body [row [cell 1] [cell [list-ordered [item \"a\"] [item]]]] [row [cell] [cell]]]]]]]") 0 0 1 1 24 5 table-and-list
     (0 ∷ 10 ∷ 18 ∷ 27 ∷ 35 ∷ 46 ∷ 53 ∷ 62 ∷ 74 ∷ 80 ∷ 86 ∷ 89 ∷ 97 ∷ 103 ∷ 108 ∷ 114 ∷ 117 ∷ 123 ∷ 137 ∷ 143 ∷ 148 ∷ 158 ∷ 163 ∷ 170 ∷ [])
     -- One document in both spellings: the same table, other places.
-    ∷ fills nested (bytes "[document [title A] [part [title] [section [title B] [subsection [title C] [type c] [id s] [footnote [id f] [term [type t] x] [verbatim v]] [formal-item [title F] [footnote-ref [target f]] [link-ext [target u:/]] [list-unordered [item]]]] [subsection [title]]]]]") 0 0 1 1 25 14 two-spellings
+    ∷ fills nested (utf8Of "[document [title A] [part [title] [section [title B] [subsection [title C] [type c] [id s] [footnote [id f] [term [type t] x] [verbatim v]] [formal-item [title F] [footnote-ref [target f]] [link-ext [target u:/]] [list-unordered [item]]]] [subsection [title]]]]]") 0 0 1 1 25 14 two-spellings
     (0 ∷ 10 ∷ 17 ∷ 20 ∷ 26 ∷ 34 ∷ 43 ∷ 50 ∷ 53 ∷ 65 ∷ 72 ∷ 91 ∷ 108 ∷ 123 ∷ 126 ∷ 136 ∷ 140 ∷ 153 ∷ 160 ∷ 163 ∷ 189 ∷ 213 ∷ 229 ∷ 239 ∷ 251 ∷ [])
-    ∷ fills imperative (bytes "[document [title A]] [part [title]] [section [title B]] [subsection [title C] [id s] [type c]] [footnote [id \"f\"]] [term [type t] \"\\u0078\"] [verbatim v] [formal-item [title F]] [footnote-ref [target f]] [link-ext [target \"u:/\"]] [list-unordered [item]] [subsection [title]]") 0 0 1 1 25 14 two-spellings
+    ∷ fills imperative (utf8Of "[document [title A]] [part [title]] [section [title B]] [subsection [title C] [id s] [type c]] [footnote [id \"f\"]] [term [type t] \"\\u0078\"] [verbatim v] [formal-item [title F]] [footnote-ref [target f]] [link-ext [target \"u:/\"]] [list-unordered [item]] [subsection [title]]") 0 0 1 1 25 14 two-spellings
     (0 ∷ 10 ∷ 17 ∷ 21 ∷ 27 ∷ 36 ∷ 45 ∷ 52 ∷ 56 ∷ 68 ∷ 75 ∷ 95 ∷ 115 ∷ 130 ∷ 140 ∷ 150 ∷ 153 ∷ 166 ∷ 173 ∷ 177 ∷ 203 ∷ 229 ∷ 245 ∷ 253 ∷ 265 ∷ [])
     -- 15 to 18.
-    ∷ fills nested (bytes "[document [title] [section [title] [paragraph [table [summary] [head [name]] [body [row]]]]]]") 15 83 1 84 11 0 row-too-short (0 ∷ 10 ∷ 18 ∷ 27 ∷ 35 ∷ 46 ∷ 53 ∷ 63 ∷ 69 ∷ 77 ∷ 83 ∷ [])
-    ∷ fills imperative (bytes "[document [title]] [section [title] [id x]] [paragraph [id x]] hi") 16 44 1 45 6 4 id-again (0 ∷ 10 ∷ 19 ∷ 28 ∷ 44 ∷ 63 ∷ [])
-    ∷ fills nested (bytes "[document\r\n[title é]\n\t[section [title] [paragraph é [link [target x]]]]]") 17 54 3 32 8 5 link-on-line-3 (0 ∷ 11 ∷ 18 ∷ 23 ∷ 32 ∷ 40 ∷ 51 ∷ 54 ∷ [])
-    ∷ fills nested (bytes "[document [title A] [section [title B] [id s] [paragraph [footnote-ref [target s]]]]]") 18 57 1 58 8 4 reference-to-a-section (0 ∷ 10 ∷ 17 ∷ 20 ∷ 29 ∷ 36 ∷ 46 ∷ 57 ∷ [])
+    ∷ fills nested (utf8Of "[document [title] [section [title] [paragraph [table [summary] [head [name]] [body [row]]]]]]") 15 83 1 84 11 0 row-too-short (0 ∷ 10 ∷ 18 ∷ 27 ∷ 35 ∷ 46 ∷ 53 ∷ 63 ∷ 69 ∷ 77 ∷ 83 ∷ [])
+    ∷ fills imperative (utf8Of "[document [title]] [section [title] [id x]] [paragraph [id x]] hi") 16 44 1 45 6 4 id-again (0 ∷ 10 ∷ 19 ∷ 28 ∷ 44 ∷ 63 ∷ [])
+    ∷ fills nested (utf8Of "[document\r\n[title é]\n\t[section [title] [paragraph é [link [target x]]]]]") 17 54 3 32 8 5 link-on-line-3 (0 ∷ 11 ∷ 18 ∷ 23 ∷ 32 ∷ 40 ∷ 51 ∷ 54 ∷ [])
+    ∷ fills nested (utf8Of "[document [title A] [section [title B] [id s] [paragraph [footnote-ref [target s]]]]]") 18 57 1 58 8 4 reference-to-a-section (0 ∷ 10 ∷ 17 ∷ 20 ∷ 29 ∷ 36 ∷ 46 ∷ 57 ∷ [])
     -- Refusals that the judged examples have not: 2, 3, 6, 10 and 12, and 4 at an escape.
-    ∷ refusedAs nested (bytes "[document [title " ++ (0xC0 ∷ 0x80 ∷ []) ++ bytes "]]") 2 17 1 18
-    ∷ refusedAs imperative (bytes "[document [title A]]\r") 3 20 1 21
+    ∷ refusedAs nested (utf8Of "[document [title " ++ (0xC0 ∷ 0x80 ∷ []) ++ utf8Of "]]") 2 17 1 18
+    ∷ refusedAs imperative (utf8Of "[document [title A]]\r") 3 20 1 21
     -- A surrogate by number is 4, the first half of a pair too, and either half alone.
-    ∷ refusedAs nested (bytes "[document [title \"\\ud83d\\ude00\"]]") 4 18 1 19
-    ∷ refusedAs nested (bytes "[document [title \"\\uD800\"]]") 4 18 1 19
-    ∷ refusedAs nested (bytes "[document [title \"\\udbFF\"]]") 4 18 1 19
-    ∷ refusedAs nested (bytes "[document [title \"\\udc00\"]]") 4 18 1 19
-    ∷ refusedAs imperative (bytes "[document [title \"\\u00e9\\uDFff\"]]") 4 24 1 25
+    ∷ refusedAs nested (utf8Of "[document [title \"\\ud83d\\ude00\"]]") 4 18 1 19
+    ∷ refusedAs nested (utf8Of "[document [title \"\\uD800\"]]") 4 18 1 19
+    ∷ refusedAs nested (utf8Of "[document [title \"\\udbFF\"]]") 4 18 1 19
+    ∷ refusedAs nested (utf8Of "[document [title \"\\udc00\"]]") 4 18 1 19
+    ∷ refusedAs imperative (utf8Of "[document [title \"\\u00e9\\uDFff\"]]") 4 24 1 25
     ∷ refusedAs imperative (replicate 60 0x5B) 6 59 1 60
-    ∷ refusedAs nested (bytes "[document [title A] [type \"t\"]]") 10 20 1 21
-    ∷ refusedAs imperative (bytes "[document [title A]] (include \"x\")") 12 21 1 22
+    ∷ refusedAs nested (utf8Of "[document [title A] [type \"t\"]]") 10 20 1 21
+    ∷ refusedAs imperative (utf8Of "[document [title A]] (include \"x\")") 12 21 1 22
     ∷ []

@@ -6,7 +6,8 @@ use mathlib.Core.List.{List, [], _∷_, _++_}
 use lib.ListN.{length}
 use Rattle.document.specs.reference.Printing.{printing}
 use Rattle.document.specs.rules.Draft.{Printed}
-use Rattle.document.specs.examples.Expected.{bytes, numbers, no-parent, no-width, no-height, row, bare, texts, joined, Table}
+use Rattle.utf8.specs.examples.Quoted.{utf8Of}
+use Rattle.document.specs.examples.Expected.{numbers, no-parent, no-width, no-height, row, bare, texts, joined, Table}
 use Rattle.document.specs.examples.Judged.{titled-A, same-id-twice, link-to-nowhere}
 use Rattle.document.specs.examples.Outcomes.{id-behind-type, images-and-a-link, table-and-list, two-spellings, row-too-short, reference-to-a-section}
 
@@ -35,7 +36,7 @@ spells t n size s =
       bytes = t .pool;
       pool = length (t .pool);
       out = blank n;
-      expected = record { number = 0; size = size; out = bytes s ++ numbers (100 + size) (n - size) };
+      expected = record { number = 0; size = size; out = utf8Of s ++ numbers (100 + size) (n - size) };
     }
 
 -- 21: "output too short; length needed", and the output untouched.
@@ -68,7 +69,7 @@ noTableOf t = noTable (joined (t .rows)) (length (t .rows)) (t .pool) (length (t
 
 -- The same of three records that could be a document, its title and a text, over the pool A.
 abbrev pub noTitle : List ℕ → List ℕ → List ℕ → Print
-noTitle d t x = noTable (d ++ t ++ x) 3 (bytes "A") 1
+noTitle d t x = noTable (d ++ t ++ x) 3 (utf8Of "A") 1
 
 -- Each character that has an escape of its own, others that are spelled by number, and the first that is raw again: " LF CR TAB \ U+0001 U+001F U+007F U+0080.
 unfoldable pub escaped : Table
@@ -103,19 +104,19 @@ prints =
     ∷ record {
       words = joined (titled-A .rows) ++ (5 ∷ 6 ∷ []);
       nodes = 3;
-      bytes = bytes "A\"";
+      bytes = utf8Of "A\"";
       pool = 1;
       out = blank 22;
-      expected = record { number = 0; size = 22; out = bytes "[document [title \"A\"]]" };
+      expected = record { number = 0; size = 22; out = utf8Of "[document [title \"A\"]]" };
     }
     -- A count beyond what is lent, of nodes and of pool bytes; a count of 0; and counts that cut the table or leave pool bytes that no node has.
-    ∷ noTable (joined (titled-A .rows)) 4 (bytes "A") 1
-    ∷ noTable (joined (titled-A .rows)) 3 (bytes "A") 2
-    ∷ noTable (joined (titled-A .rows)) 0 (bytes "A") 1
+    ∷ noTable (joined (titled-A .rows)) 4 (utf8Of "A") 1
+    ∷ noTable (joined (titled-A .rows)) 3 (utf8Of "A") 2
+    ∷ noTable (joined (titled-A .rows)) 0 (utf8Of "A") 1
     ∷ noTable [] 0 [] 0
-    ∷ noTable (joined (titled-A .rows)) 2 (bytes "A") 1
-    ∷ noTable (joined (titled-A .rows)) 3 (bytes "A") 0
-    ∷ noTable (joined (titled-A .rows)) 3 (bytes "AB") 2
+    ∷ noTable (joined (titled-A .rows)) 2 (utf8Of "A") 1
+    ∷ noTable (joined (titled-A .rows)) 3 (utf8Of "A") 0
+    ∷ noTable (joined (titled-A .rows)) 3 (utf8Of "AB") 2
     -- A wrong word: the kind, parent or end of a node, and those of the root.
     ∷ noTitle (bare 3 no-parent 3) (bare 8 0 3) (texts 1 3 0 1)
     ∷ noTitle (bare 1 0 3) (bare 8 0 3) (texts 1 3 0 1)

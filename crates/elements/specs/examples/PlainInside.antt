@@ -142,7 +142,7 @@ lines =
 
 -- A line read as numbers, for one kind: which parameters are taken and which child is the first (0 before it), what may come as a parameter and as a child,
 -- what is of the other sort, whether a parameter is still required and whether the element may end.
-pub record Entry : Type 0 where
+pub record LineEntry : Type 0 where
   pub kind : ℕ
   pub taken : List ℕ
   pub first : ℕ
@@ -152,11 +152,11 @@ pub record Entry : Type 0 where
   pub required : Bool
   pub ends : Bool
 
-unfoldable pub forEach : List ℕ → (ℕ → List Entry) → List Entry
+unfoldable pub forEach : List ℕ → (ℕ → List LineEntry) → List LineEntry
 forEach [] f = []
 forEach (k ∷ ks) f = f k ++ forEach ks f
 
-unfoldable pub entriesOf : Line → List Entry
+unfoldable pub entriesOf : Line → List LineEntry
 unfolding forEach numbers
 entriesOf (needs ks t ps) =
     forEach (numbers ks)
@@ -172,17 +172,17 @@ entriesOf (holds ks t fs cs os) =
     (λ k. forEach (numbers fs)
     (λ f. record { kind = k; taken = numbers t; first = f; parameters = []; children = numbers cs; others = numbers os; required = false; ends = true } ∷ []))
 
-unfoldable pub allEntries : List Line → List Entry
+unfoldable pub allEntries : List Line → List LineEntry
 unfolding entriesOf
 allEntries [] = []
 allEntries (l ∷ ls) = entriesOf l ++ allEntries ls
 
-unfoldable pub entries : List Entry
+unfoldable pub entries : List LineEntry
 unfolding lines allEntries
 entries = allEntries lines
 
 -- What a line says of an expression of a class: 0 where it is taken, or the number of its fault. 12 comes before 8, and 8 before 11.
-unfoldable pub said : Entry → ℕ → ℕ
+unfoldable pub said : LineEntry → ℕ → ℕ
 unfolding numbers among
 said e c =
     cond (among c (e .parameters) || among c (e .children)) 0

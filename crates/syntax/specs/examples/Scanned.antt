@@ -17,12 +17,12 @@ unfoldable pub locatedIn : Scanned → Found
 locatedIn (refused n p) = fault n p
 locatedIn (scanned f) = reads (locate 0 f)
 
-pub record Example : Type 0 where
+pub record ScanExample : Type 0 where
   pub text : String
   pub expected : Found
 
 -- What the scan finds where brackets may nest three deep.
-unfoldable pub found : Example → Found
+unfoldable pub found : ScanExample → Found
 found e = locatedIn (scan 3 (utf8Of (e .text)))
 
 -- Expressions one after another.
@@ -40,13 +40,13 @@ str at s = quoted at (utf8Of s)
 abbrev lst : ℕ → List Expr → Expr
 lst at es = list at (run es)
 
-abbrev holds : String → List Expr → Example
+abbrev holds : String → List Expr → ScanExample
 holds t es = record { text = t; expected = reads (run es) }
 
-abbrev faulty : String → ℕ → ℕ → Example
+abbrev faulty : String → ℕ → ℕ → ScanExample
 faulty t n p = record { text = t; expected = fault n p }
 
-unfoldable pub examples : List Example
+unfoldable pub examples : List ScanExample
 examples =
     -- White space alone.
     holds "" []

@@ -6,7 +6,7 @@ use native.Mathlib.Nat.{add-zero, zero-add}
 use native.Mathlib.Omega.{arith}
 use lib.Dec.{T}
 use lib.ListN.{length, getD, drop, length-append, length-drop}
-use lib.Seq.{getD-drop, drop-drop, drop-append-seam}
+use lib.Seq.{getD-drop}
 use Rattle.base.proofs.Booleans.{both}
 use Rattle.syntax.specs.rules.Byte.{ByteClass, blank, return, quote, ordinary, opening, closing, byteClass, openByte, closeByte, isOrdinary}
 use Rattle.syntax.specs.rules.Syntax.{Piece, piecesBefore, piecesValue, arePieces, areOrdinary, Leaf, space, line-end, word, string, leafBefore, isLeaf}
@@ -17,6 +17,7 @@ use Rattle.lexer.specs.Token.{stringEnd, stringAt, contentOf, atomValue}
 use Rattle.syntax.proofs.ByteClasses.{FitsAfter, blank-class, ordinary-class, open-class, close-class, fits-end, fits-close}
 use Rattle.syntax.proofs.Strings.{pieces-append}
 use Rattle.syntax.proofs.Items.{run-ends, quoted-string}
+use Rattle.syntax.proofs.ExpressionsInBytes.{drop-past}
 use Rattle.syntax.proofs.Runs.{leaf-append, leaf-length, run-append, run-length, lastOf, fits-run}
 use Rattle.reader.specs.internal.RunStands.{Has, Ends, at-bracket, at-end, RunStands, ended, after-blank, after-line-end, a-symbol, a-string, a-list}
 
@@ -26,9 +27,6 @@ has-byte : (s : List ℕ) (i b : ℕ) (k : List ℕ) (c : ByteClass) → drop i 
 has-byte s i b k c d e =
     let first : getD s i 0 ≡ b = rw (← (add-zero i)) (sym (getD-drop i s 0 0) ∙ rw d) in
     record { inside = omega (arith, length-drop i s, ap length d); is = rw first e }
-
-drop-past : (s : List ℕ) (i : ℕ) (a k : List ℕ) → drop i s ≡ a ++ k → drop (i + length a) s ≡ k
-drop-past s i a k d = sym (drop-drop (length a) i s) ∙ rw d (drop-append-seam a k)
 
 -- ---- leaves
 
