@@ -1,3 +1,5 @@
+-- What a reader of the proofs has to believe: documents, their spellings, tables and faults, and what reading and printing answer. Document 01.
+-- No reader, scan or search is in it.
 pub mod Value
 pub mod Document
 pub mod Spelling
