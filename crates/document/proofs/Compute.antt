@@ -141,5 +141,6 @@ unfolding Printing.part Printing.below Printing.notBelow Printing.addRecord Prin
 printing = tt
 
 unfoldable pub computes : Unit {0}
-unfolding leadingZeros scalar sequence position bytes class rules inside byte syntax expression scan value document rulestest spelling meaning command imperative table wellformed memory outcome canonical printing
+unfolding leadingZeros scalar sequence position bytes class rules inside byte syntax expression scan value document rulestest
+    spelling meaning command imperative table wellformed memory outcome canonical printing
 computes = tt

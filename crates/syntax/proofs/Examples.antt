@@ -11,7 +11,10 @@ use Rattle.syntax.specs.reference.Scan.{ordinaryRun, escapeAt, piece, qu
 use Rattle.syntax.specs.examples.Scanned.{ScanExample, examples, found, locatedIn, run, Judged, leaves}
 
 pub texts-scanned : map found examples ≡ map (λ (e : ScanExample). e .expected) examples
-unfolding isScalar encode utf8Of byteClass openByte closeByte sameBracket ordinaryClass isOrdinary pieceBefore piecesBefore leafBefore bytesBefore bytesOf isHex hexDigit hexValue isPiece letterValue pieceValue piecesValue locateLeaf locate ordinaryRun escapeAt piece quotedFrom quotedItem itemAt itemsFrom addLeaf wrap endLevel atEnd oneMore oneLess build outermost scan examples found locatedIn run
+unfolding isScalar encode utf8Of byteClass openByte closeByte sameBracket ordinaryClass isOrdinary pieceBefore piecesBefore
+    leafBefore bytesBefore bytesOf isHex hexDigit hexValue isPiece letterValue pieceValue piecesValue locateLeaf locate
+    ordinaryRun escapeAt piece quotedFrom quotedItem itemAt itemsFrom addLeaf wrap endLevel atEnd oneMore oneLess build outermost
+    scan examples found locatedIn run
 texts-scanned = refl
 
 pub leaves-judged : map (λ (j : Judged). isLeaf (j .leaf)) leaves ≡ map (λ (j : Judged). j .allowed) leaves

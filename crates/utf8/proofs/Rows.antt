@@ -184,8 +184,14 @@ sequence-steps : (a : ℕ) (s : List ℕ)
 unfolding begins choose byOnes
 sequence-steps a s =
     by-rule byOnes by-ones-all by-ones-past a s
-    ∙ simp
-    (cond-under (λ (fs : List (List Range)). choose fs s), begins-cons (to (low a) (high a)) (continuation ∷ []), begins-cons (to (low a) (high a)) (continuation ∷ continuation ∷ []), begins-cons continuation (continuation ∷ []), drop-drop {A = ℕ} 1 1, in-turn)
+    ∙ simp (
+      cond-under (λ (fs : List (List Range)). choose fs s),
+      begins-cons (to (low a) (high a)) (continuation ∷ []),
+      begins-cons (to (low a) (high a)) (continuation ∷ continuation ∷ []),
+      begins-cons continuation (continuation ∷ []),
+      drop-drop {A = ℕ} 1 1,
+      in-turn,
+    )
 
 pub steps-at : (text : List ℕ) (place a : ℕ) → place < length text → getD text place 0 ≡ a
     → sequenceLength (drop place text)

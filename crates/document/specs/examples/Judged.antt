@@ -3,7 +3,7 @@
 -- That each text has what is beside it is proved in `proofs/Judged.antt`.
 use Prim.Native.Nat.{ℕ}
 use Prim.Native.String.{String}
-use mathlib.Core.List.{List, [], _∷_}
+use mathlib.Core.List.{List, [], _∷_, _++_}
 use lib.ListN.{length, replicate}
 use Rattle.document.specs.rules.Spelling.{Spelling, nested, imperative}
 use Rattle.document.specs.reference.Outcome.{outcome}
@@ -210,18 +210,27 @@ short-of-room =
 -- A text and the canonical spelling of its document.
 pub record Tidied : Type 0 where
   pub spelling : Spelling
-  pub text : String
-  pub canonical : String
+  pub text : List ℕ
+  pub canonical : List ℕ
 
-abbrev pub tidied : Spelling → String → String → Tidied
+abbrev pub tidied : Spelling → List ℕ → List ℕ → Tidied
 tidied s t c = record { spelling = s; text = t; canonical = c }
 
 unfoldable pub printable : List Tidied
 printable =
-    tidied nested "(document(title A \"b c\")[type t](id x)[section (title \"S\\u0041\\\"\\n\\r\\t\\u005c\\u0001\\u007Fé\") [paragraph [image [target \"http://x\"] [size 007 65535] [type p] alt] [verbatim \"v\"]]])"
-    "[document [title \"A\" \"b c\"] [id x] [type t] [section [title \"SA\\\"\\n\\r\\t\\u005c\\u0001\\u007fé\"] [paragraph [image [target \"http://x\"] [size 7 65535] [type p] \"alt\"] [verbatim \"v\"]]]]"
-    ∷ tidied imperative "[document [title A]] [part [title P]] [section [title B]] [subsection [title C]] [paragraph [id p]] hi [link [target p] x] [footnote [id f]] n [formal-item [title F]] [footnote-ref [target f]] [list-unordered [item a] [item]] [section [title D]] [paragraph] [table [summary s] [type t] [head [name N]] [body [row [cell 1]]]]"
-    "[document [title \"A\"] [part [title \"P\"] [section [title \"B\"] [subsection [title \"C\"] [paragraph [id p] \"hi\" [link [target \"p\"] \"x\"]] [footnote [id f] \"n\"] [formal-item [title \"F\"] [footnote-ref [target \"f\"]] [list-unordered [item \"a\"] [item]]]]] [section [title \"D\"] [paragraph [table [summary \"s\"] [type t] [head [name \"N\"]] [body [row [cell \"1\"]]]]]]]]"
+    tidied nested
+    (utf8Of "(document(title A \"b c\")[type t](id x)[section (title \"S\\u0041\\\"\\n\\r\\t\\u005c\\u0001\\u007Fé\")"
+    ++ utf8Of " [paragraph [image [target \"http://x\"] [size 007 65535] [type p] alt] [verbatim \"v\"]]])")
+    (utf8Of "[document [title \"A\" \"b c\"] [id x] [type t] [section [title \"SA\\\"\\n\\r\\t\\u005c\\u0001\\u007fé\"]"
+    ++ utf8Of " [paragraph [image [target \"http://x\"] [size 7 65535] [type p] \"alt\"] [verbatim \"v\"]]]]")
+    ∷ tidied imperative
+    (utf8Of "[document [title A]] [part [title P]] [section [title B]] [subsection [title C]] [paragraph [id p]] hi [link"
+    ++ utf8Of " [target p] x] [footnote [id f]] n [formal-item [title F]] [footnote-ref [target f]] [list-unordered [item a]"
+    ++ utf8Of " [item]] [section [title D]] [paragraph] [table [summary s] [type t] [head [name N]] [body [row [cell 1]]]]")
+    (utf8Of "[document [title \"A\"] [part [title \"P\"] [section [title \"B\"] [subsection [title \"C\"] [paragraph [id"
+    ++ utf8Of " p] \"hi\" [link [target \"p\"] \"x\"]] [footnote [id f] \"n\"] [formal-item [title \"F\"] [footnote-ref"
+    ++ utf8Of " [target \"f\"]] [list-unordered [item \"a\"] [item]]]]] [section [title \"D\"] [paragraph [table [summary"
+    ++ utf8Of " \"s\"] [type t] [head [name \"N\"]] [body [row [cell \"1\"]]]]]]]]")
     ∷ []
 
 unfoldable pub paper : List ℕ
@@ -231,8 +240,8 @@ paper = replicate 512 7
 unfoldable pub printedFrom : Outcome → Printed
 printedFrom o = printing (o .memory .nodes) (o .answer .nodes) (o .memory .pool) (o .answer .pool) paper
 
-unfoldable pub readIn : Spelling → String → Outcome
-readIn s t = outcome s (utf8Of t) room
+unfoldable pub readIn : Spelling → List ℕ → Outcome
+readIn s t = outcome s t room
 
-unfoldable pub spelledOut : String → Printed
-spelledOut c = record { number = 0; size = length (utf8Of c); out = over (utf8Of c) paper }
+unfoldable pub spelledOut : List ℕ → Printed
+spelledOut c = record { number = 0; size = length c; out = over c paper }

@@ -187,17 +187,32 @@ unfoldable pub outcomes : List Whole
 outcomes =
     fills nested (utf8Of "(document(title \"\\u00e9\\t\" É)[type t](id x-1))") 0 0 1 1 4 9 id-behind-type (0 ∷ 9 ∷ 16 ∷ 27 ∷ [])
     ∷ fills nested (utf8Of "[document [title \"\\u007f\\u0080\\u07FF\\u0800\\ud7ff\\uE000\\uffff\"]]") 0 0 1 1 3 17 escaped-by-number (0 ∷ 10 ∷ 17 ∷ [])
-    ∷ fills nested (utf8Of "[document [title A] [section [title B] [id s] [paragraph [image [target a.png] [size 007 65535] [type p] alt] [image [target b] \"c d\"] [link [target s] e [image [target f]]]]]]") 0 0 1 1 14 19 images-and-a-link
+    ∷ fills nested
+    (utf8Of "[document [title A] [section [title B] [id s] [paragraph [image [target a.png] [size 007 65535] [type p] alt]"
+    ++ utf8Of " [image [target b] \"c d\"] [link [target s] e [image [target f]]]]]]")
+    0 0 1 1 14 19 images-and-a-link
     (0 ∷ 10 ∷ 17 ∷ 20 ∷ 29 ∷ 36 ∷ 46 ∷ 57 ∷ 105 ∷ 110 ∷ 128 ∷ 135 ∷ 152 ∷ 154 ∷ [])
-    ∷ fills nested (utf8Of "[document [title] [section [title] [paragraph [table [summary S] [type t] [head [name N] [name]] [body [row [cell 1] [cell [list-ordered [item \"a\"] [item]]]] [row [cell] [cell]]]]]]]") 0 0 1 1 24 5 table-and-list
+    ∷ fills nested
+    (utf8Of "[document [title] [section [title] [paragraph [table [summary S] [type t] [head [name N] [name]] [body [row"
+    ++ utf8Of " [cell 1] [cell [list-ordered [item \"a\"] [item]]]] [row [cell] [cell]]]]]]]")
+    0 0 1 1 24 5 table-and-list
     (0 ∷ 10 ∷ 18 ∷ 27 ∷ 35 ∷ 46 ∷ 53 ∷ 62 ∷ 74 ∷ 80 ∷ 86 ∷ 89 ∷ 97 ∷ 103 ∷ 108 ∷ 114 ∷ 117 ∷ 123 ∷ 137 ∷ 143 ∷ 148 ∷ 158 ∷ 163 ∷ 170 ∷ [])
     -- One document in both spellings: the same table, other places.
-    ∷ fills nested (utf8Of "[document [title A] [part [title] [section [title B] [subsection [title C] [type c] [id s] [footnote [id f] [term [type t] x] [verbatim v]] [formal-item [title F] [footnote-ref [target f]] [link-ext [target u:/]] [list-unordered [item]]]] [subsection [title]]]]]") 0 0 1 1 25 14 two-spellings
+    ∷ fills nested
+    (utf8Of "[document [title A] [part [title] [section [title B] [subsection [title C] [type c] [id s] [footnote [id f]"
+    ++ utf8Of " [term [type t] x] [verbatim v]] [formal-item [title F] [footnote-ref [target f]] [link-ext [target u:/]]"
+    ++ utf8Of " [list-unordered [item]]]] [subsection [title]]]]]")
+    0 0 1 1 25 14 two-spellings
     (0 ∷ 10 ∷ 17 ∷ 20 ∷ 26 ∷ 34 ∷ 43 ∷ 50 ∷ 53 ∷ 65 ∷ 72 ∷ 91 ∷ 108 ∷ 123 ∷ 126 ∷ 136 ∷ 140 ∷ 153 ∷ 160 ∷ 163 ∷ 189 ∷ 213 ∷ 229 ∷ 239 ∷ 251 ∷ [])
-    ∷ fills imperative (utf8Of "[document [title A]] [part [title]] [section [title B]] [subsection [title C] [id s] [type c]] [footnote [id \"f\"]] [term [type t] \"\\u0078\"] [verbatim v] [formal-item [title F]] [footnote-ref [target f]] [link-ext [target \"u:/\"]] [list-unordered [item]] [subsection [title]]") 0 0 1 1 25 14 two-spellings
+    ∷ fills imperative
+    (utf8Of "[document [title A]] [part [title]] [section [title B]] [subsection [title C] [id s] [type c]] [footnote [id"
+    ++ utf8Of " \"f\"]] [term [type t] \"\\u0078\"] [verbatim v] [formal-item [title F]] [footnote-ref [target f]] [link-ext"
+    ++ utf8Of " [target \"u:/\"]] [list-unordered [item]] [subsection [title]]")
+    0 0 1 1 25 14 two-spellings
     (0 ∷ 10 ∷ 17 ∷ 21 ∷ 27 ∷ 36 ∷ 45 ∷ 52 ∷ 56 ∷ 68 ∷ 75 ∷ 95 ∷ 115 ∷ 130 ∷ 140 ∷ 150 ∷ 153 ∷ 166 ∷ 173 ∷ 177 ∷ 203 ∷ 229 ∷ 245 ∷ 253 ∷ 265 ∷ [])
     -- 15 to 18.
-    ∷ fills nested (utf8Of "[document [title] [section [title] [paragraph [table [summary] [head [name]] [body [row]]]]]]") 15 83 1 84 11 0 row-too-short (0 ∷ 10 ∷ 18 ∷ 27 ∷ 35 ∷ 46 ∷ 53 ∷ 63 ∷ 69 ∷ 77 ∷ 83 ∷ [])
+    ∷ fills nested (utf8Of "[document [title] [section [title] [paragraph [table [summary] [head [name]] [body [row]]]]]]") 15 83 1 84 11 0 row-too-short
+    (0 ∷ 10 ∷ 18 ∷ 27 ∷ 35 ∷ 46 ∷ 53 ∷ 63 ∷ 69 ∷ 77 ∷ 83 ∷ [])
     ∷ fills imperative (utf8Of "[document [title]] [section [title] [id x]] [paragraph [id x]] hi") 16 44 1 45 6 4 id-again (0 ∷ 10 ∷ 19 ∷ 28 ∷ 44 ∷ 63 ∷ [])
     ∷ fills nested (utf8Of "[document\r\n[title é]\n\t[section [title] [paragraph é [link [target x]]]]]") 17 54 3 32 8 5 link-on-line-3 (0 ∷ 11 ∷ 18 ∷ 23 ∷ 32 ∷ 40 ∷ 51 ∷ 54 ∷ [])
     ∷ fills nested (utf8Of "[document [title A] [section [title B] [id s] [paragraph [footnote-ref [target s]]]]]") 18 57 1 58 8 4 reference-to-a-section (0 ∷ 10 ∷ 17 ∷ 20 ∷ 29 ∷ 36 ∷ 46 ∷ 57 ∷ [])

@@ -4,7 +4,7 @@
 use Prim.Native.Nat.{ℕ}
 use Prim.Native.String.{String}
 use mathlib.Core.Bool.{Bool, true, false, cond}
-use mathlib.Core.List.{List, [], _∷_}
+use mathlib.Core.List.{List, [], _∷_, _++_}
 use lib.Dec.{eqb}
 use lib.ListN.{getD}
 use Rattle.utf8.specs.examples.Quoted.{utf8Of}
@@ -154,7 +154,9 @@ sized s = isSize (s .width) (s .height)
 -- "In strings `\" \n \r \t`; backslash as `\u005c`; other code points below U+0020 and U+007F as `\u` with lower-case hex; the rest raw": those below U+0020 in order.
 unfoldable pub controls : List (List ℕ)
 unfolding words
-controls = words "\\u0000 \\u0001 \\u0002 \\u0003 \\u0004 \\u0005 \\u0006 \\u0007 \\u0008 \\t \\n \\u000b \\u000c \\r \\u000e \\u000f \\u0010 \\u0011 \\u0012 \\u0013 \\u0014 \\u0015 \\u0016 \\u0017 \\u0018 \\u0019 \\u001a \\u001b \\u001c \\u001d \\u001e \\u001f"
+controls =
+    words "\\u0000 \\u0001 \\u0002 \\u0003 \\u0004 \\u0005 \\u0006 \\u0007 \\u0008 \\t \\n \\u000b \\u000c \\r \\u000e \\u000f"
+    ++ words "\\u0010 \\u0011 \\u0012 \\u0013 \\u0014 \\u0015 \\u0016 \\u0017 \\u0018 \\u0019 \\u001a \\u001b \\u001c \\u001d \\u001e \\u001f"
 
 unfoldable pub spelledAs : ℕ → List ℕ
 unfolding codes controls

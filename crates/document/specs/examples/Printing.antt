@@ -28,16 +28,19 @@ unfoldable pub blank : ℕ → List ℕ
 blank n = numbers 100 n
 
 -- The table into an output of n bytes. 0: "the spelling, its length, later bytes unaltered."
-abbrev pub spells : Table → ℕ → ℕ → String → Print
-spells t n size s =
+abbrev pub spellsBytes : Table → ℕ → ℕ → List ℕ → Print
+spellsBytes t n size s =
     record {
       words = joined (t .rows);
       nodes = length (t .rows);
       bytes = t .pool;
       pool = length (t .pool);
       out = blank n;
-      expected = record { number = 0; size = size; out = utf8Of s ++ numbers (100 + size) (n - size) };
+      expected = record { number = 0; size = size; out = s ++ numbers (100 + size) (n - size) };
     }
+
+abbrev pub spells : Table → ℕ → ℕ → String → Print
+spells t n size s = spellsBytes t n size (utf8Of s)
 
 -- 21: "output too short; length needed", and the output untouched.
 abbrev pub needs : Table → ℕ → ℕ → Print
@@ -95,11 +98,18 @@ prints =
     ∷ spells id-behind-type 48 48 "[document [title \"é\\t\" \"É\"] [id x-1] [type t]]"
     -- Every kind.
     ∷ needs images-and-a-link 189 190
-    ∷ spells images-and-a-link 192 190 "[document [title \"A\"] [section [title \"B\"] [id s] [paragraph [image [target \"a.png\"] [size 7 65535] [type p] \"alt\"] [image [target \"b\"] \"c d\"] [link [target \"s\"] \"e\" [image [target \"f\"]]]]]]"
+    ∷ spellsBytes images-and-a-link 192 190
+    (utf8Of "[document [title \"A\"] [section [title \"B\"] [id s] [paragraph [image [target \"a.png\"] [size 7 65535]"
+    ++ utf8Of " [type p] \"alt\"] [image [target \"b\"] \"c d\"] [link [target \"s\"] \"e\" [image [target \"f\"]]]]]]")
     ∷ needs table-and-list 187 188
-    ∷ spells table-and-list 188 188 "[document [title] [section [title] [paragraph [table [summary \"S\"] [type t] [head [name \"N\"] [name]] [body [row [cell \"1\"] [cell [list-ordered [item \"a\"] [item]]]] [row [cell] [cell]]]]]]]"
+    ∷ spellsBytes table-and-list 188 188
+    (utf8Of "[document [title] [section [title] [paragraph [table [summary \"S\"] [type t] [head [name \"N\"] [name]]"
+    ++ utf8Of " [body [row [cell \"1\"] [cell [list-ordered [item \"a\"] [item]]]] [row [cell] [cell]]]]]]]")
     ∷ needs two-spellings 277 278
-    ∷ spells two-spellings 280 278 "[document [title \"A\"] [part [title] [section [title \"B\"] [subsection [title \"C\"] [id s] [type c] [footnote [id f] [term [type t] \"x\"] [verbatim \"v\"]] [formal-item [title \"F\"] [footnote-ref [target \"f\"]] [link-ext [target \"u:/\"]] [list-unordered [item]]]] [subsection [title]]]]]"
+    ∷ spellsBytes two-spellings 280 278
+    (utf8Of "[document [title \"A\"] [part [title] [section [title \"B\"] [subsection [title \"C\"] [id s] [type c]"
+    ++ utf8Of " [footnote [id f] [term [type t] \"x\"] [verbatim \"v\"]] [formal-item [title \"F\"] [footnote-ref [target"
+    ++ utf8Of " \"f\"]] [link-ext [target \"u:/\"]] [list-unordered [item]]]] [subsection [title]]]]]")
     -- Words and pool beyond the counts are not looked at.
     ∷ record {
       words = joined (titled-A .rows) ++ (5 ∷ 6 ∷ []);

@@ -1,4 +1,4 @@
--- The names and numbers of kinds once more, as plain text: a name's number is its place in one line of words, and what holds of a number is a mark at its place.
+-- The names and numbers of kinds once more, as plain text: a name's number is its place in one list of words, and what holds of a number is a mark at its place.
 -- `Class` gives each name its number and tests numbers by comparisons; that both agree is computed in `proofs/PlainNames.antt`.
 -- A rule that is misread has to be misread twice, in two shapes. Document 01, "Elements": "Kinds are numbered 1 to 25".
 use Prim.Native.Nat.{ℕ, _+_, _-_}
@@ -28,7 +28,9 @@ words s = split (codes s)
 -- Document 01's list of the kinds, then the names of parameters, then include and import.
 unfoldable pub inOrder : List (List ℕ)
 unfolding words
-inOrder = words "document part section subsection paragraph formal-item footnote title text term image verbatim link link-ext footnote-ref list-ordered list-unordered item table summary head name body row cell id type target size include import"
+inOrder =
+    words "document part section subsection paragraph formal-item footnote title text term image verbatim link link-ext footnote-ref"
+    ++ words "list-ordered list-unordered item table summary head name body row cell id type target size include import"
 
 unfoldable pub placeIn : List (List ℕ) → ℕ → List ℕ → ℕ
 unfolding same

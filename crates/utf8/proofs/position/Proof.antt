@@ -38,7 +38,8 @@ next c =
 
 loop-again : tie.Need-loop-again Inv-loop μ-loop
 loop-again c =
-    let h : c .before .before .before .loop .i < min (c .before .before .before .before .before .before .args .place) (length (c .before .before .before .before .before .before .args .text .now)) = omega arith in
+    let h : c .before .before .before .loop .i
+    < min (c .before .before .before .before .before .before .args .place) (length (c .before .before .before .before .before .before .args .text .now)) = omega arith in
     let e = left-step (c .before .before .before .before .before .before .args .text .now) (c .before .before .before .before .before .before .args .place) (c .before .before .before .loop .i) h in
     let b = getD (c .before .before .before .before .before .before .args .text .now) (c .before .before .before .loop .i) 0 in (
       omega arith,

@@ -35,13 +35,26 @@ second-read : (c : tie.After-byte-within)
     answer start
     ≡ cond (c .byte-within .result) (cond (eqb ones 2) 2 (cond (continues 2 start) (cond (eqb ones 3) 3 (cond (continues 3 start) 4 0)) 0)) 0
 second-read c =
-    rw (first-read (c .before .before .before .before .before .before), ne-eqb _ 0 (c .before .before .before .before .before .if2 .left), le-ltb _ _ (c .before .before .before .before .if3 .left), le-ltb _ _ (c .before .before .before .if4 .left), ← c .before .before .second-low .ensures, ← c .before .second-high .ensures, ← c .byte-within .ensures)
+    rw (
+      first-read (c .before .before .before .before .before .before),
+      ne-eqb _ 0 (c .before .before .before .before .before .if2 .left),
+      le-ltb _ _ (c .before .before .before .before .if3 .left),
+      le-ltb _ _ (c .before .before .before .if4 .left),
+      ← c .before .before .second-low .ensures,
+      ← c .before .second-high .ensures,
+      ← c .byte-within .ensures,
+    )
 
 third-read : (c : tie.After-byte-within2)
     → let start = c .before .before .before .before .before .before .before .before .before .before .before .before .before in
     answer start ≡ cond (c .byte-within2 .result) (cond (eqb (c .before .before .before .before .before .before .before .before .before .leading-ones .result) 3) 3 (cond (continues 3 start) 4 0)) 0
 third-read c =
-    rw (second-read (c .before .before .before), not-false (c .before .before .before .byte-within .result) (c .before .before .if5 .left), ne-eqb _ 2 (c .before .if6 .left), ← c .byte-within2 .ensures)
+    rw (
+      second-read (c .before .before .before),
+      not-false (c .before .before .before .byte-within .result) (c .before .before .if5 .left),
+      ne-eqb _ 2 (c .before .if6 .left),
+      ← c .byte-within2 .ensures,
+    )
 
 returns : tie.Need-returns
 unfolding sequenceLength firstForm forms begins
@@ -69,10 +82,24 @@ returns-8 : tie.Need-returns-8
 returns-8 c = rw (third-read (c .before .before), not-false (c .before .before .byte-within2 .result) (c .before .if7 .left), eq-eqb _ 3 (c .if8 .taken))
 
 returns-9 : tie.Need-returns-9
-returns-9 c = rw (third-read (c .before .before .before .before), not-false (c .before .before .before .before .byte-within2 .result) (c .before .before .before .if7 .left), ne-eqb _ 3 (c .before .before .if8 .left), ← c .before .byte-within3 .ensures, not-true (c .before .byte-within3 .result) (c .if9 .taken))
+returns-9 c =
+    rw (
+      third-read (c .before .before .before .before),
+      not-false (c .before .before .before .before .byte-within2 .result) (c .before .before .before .if7 .left),
+      ne-eqb _ 3 (c .before .before .if8 .left),
+      ← c .before .byte-within3 .ensures,
+      not-true (c .before .byte-within3 .result) (c .if9 .taken),
+    )
 
 returns-10 : tie.Need-returns-10
-returns-10 c = rw (third-read (c .before .before .before .before), not-false (c .before .before .before .before .byte-within2 .result) (c .before .before .before .if7 .left), ne-eqb _ 3 (c .before .before .if8 .left), ← c .before .byte-within3 .ensures, not-false (c .before .byte-within3 .result) (c .if9 .left))
+returns-10 c =
+    rw (
+      third-read (c .before .before .before .before),
+      not-false (c .before .before .before .before .byte-within2 .result) (c .before .before .before .if7 .left),
+      ne-eqb _ 3 (c .before .before .if8 .left),
+      ← c .before .byte-within3 .ensures,
+      not-false (c .before .byte-within3 .result) (c .if9 .left),
+    )
 
 pub sequence-length-spec : {M : Type 1} → statement M
 sequence-length-spec =
