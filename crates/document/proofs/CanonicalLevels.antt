@@ -21,13 +21,13 @@ pub document-levels : (t : Tree) → T (isDocument t) → treeLevels (layout (sa
 document-levels t h = let (kept, i) = document-node t h in layout-levels 0 t kept i
 
 -- What is asked of the trees inside a tree.
-abbrev Inside : Tree → Type 0
-Inside (text s) = Unit {0}
-Inside (value c s) = Unit {0}
-Inside (size w h) = Unit {0}
-Inside (element c ts) = (es : Exprs) → WritesAll ts es → mostLevelsIn ts ≤ depthAll es
+abbrev LevelsInside : Tree → Type 0
+LevelsInside (text s) = Unit {0}
+LevelsInside (value c s) = Unit {0}
+LevelsInside (size w h) = Unit {0}
+LevelsInside (element c ts) = (es : Exprs) → WritesAll ts es → mostLevelsIn ts ≤ depthAll es
 
-around : {t : Tree} {e : Expr} → Writes t e → Inside t → treeLevels t ≤ depth e
+around : {t : Tree} {e : Expr} → Writes t e → LevelsInside t → treeLevels t ≤ depth e
 unfolding treeLevels depth
 around (writes-text w) i = omega arith
 around (writes-value n w) i = omega arith

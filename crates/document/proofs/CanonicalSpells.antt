@@ -38,7 +38,7 @@ record TreeSpelled (t : Tree) : Type 0 where
   written : (n : ℕ) (f : Forest) → (e : Expr) × (m : ℕ) × (locate n (run f) ≡ and e (locate m f)) × Writes t e
 
 -- What follows a name up to its closing bracket: the bytes that `spelled` puts in front of the bracket, nested so deep, with expressions that are so.
-record Inside (spelled : List ℕ → List ℕ) (depth : ℕ) (Are : Exprs → Type 0) : Type 0 where
+record ListInside (spelled : List ℕ → List ℕ) (depth : ℕ) (Are : Exprs → Type 0) : Type 0 where
   run : Forest
   bytes : (k : List ℕ) → bytesBefore run k ≡ spelled k
   utf8 : (k : List ℕ) → IsUtf8 k → IsUtf8 (spelled k)
@@ -48,7 +48,7 @@ record Inside (spelled : List ℕ → List ℕ) (depth : ℕ) (Are : Exprs → T
 
 -- Trees one after another, each after a space.
 abbrev SpelledAll : Trees → Type 0
-SpelledAll ts = Inside (insideBefore ts) (mostLevelsIn ts) (WritesAll ts)
+SpelledAll ts = ListInside (insideBefore ts) (mostLevelsIn ts) (WritesAll ts)
 
 space-follows : (m : Before) → T (mayFollow m (space 0x20))
 unfolding mayFollow
@@ -95,8 +95,8 @@ data SymbolThen (s : List ℕ) (Are : Exprs → Type 0) : Exprs → Type 0 where
   symbol-then : {at : ℕ} {es : Exprs} → Are es → SymbolThen s Are (and (symbol at s) es)
 
 -- A symbol after a space, in front of the rest.
-symbol-inside : {spelled : List ℕ → List ℕ} {depth : ℕ} {Are : Exprs → Type 0} (s : List ℕ) → T (isSymbol s) → Inside spelled depth Are
-    → Inside (λ k. 0x20 ∷ (s ++ spelled k)) depth (SymbolThen s Are)
+symbol-inside : {spelled : List ℕ → List ℕ} {depth : ℕ} {Are : Exprs → Type 0} (s : List ℕ) → T (isSymbol s) → ListInside spelled depth Are
+    → ListInside (λ k. 0x20 ∷ (s ++ spelled k)) depth (SymbolThen s Are)
 unfolding isSymbol nonEmpty bytesBefore leafBefore Ok mayFollow isLeaf isBlank blankClass byteClass after levels locate locateLeaf
 symbol-inside [] h i = absurd h
 symbol-inside (b ∷ s) h i =
@@ -110,7 +110,7 @@ symbol-inside (b ∷ s) h i =
     }
 
 -- Brackets around the name of a class and what is inside.
-module _ (t : Tree) (c : ℕ) (spelled : List ℕ → List ℕ) (inner : ℕ) (Are : Exprs → Type 0) (i : Inside spelled inner Are)
+module _ (t : Tree) (c : ℕ) (spelled : List ℕ → List ℕ) (inner : ℕ) (Are : Exprs → Type 0) (i : ListInside spelled inner Are)
     (is : (k : List ℕ) → spelledBefore t k ≡ bracketsBefore c spelled k) (d : treeLevels t ≡ suc inner)
     (w : (at p : ℕ) (es : Exprs) → Are es → Writes t (bracketed at p c es)) where
   around : (s : List ℕ) → Class.nameOf c ≡ s → T (isSymbol s) → TreeSpelled t

@@ -22,28 +22,28 @@ module _ (d : Node) where
       omega (arith, visit-below d v mv)
 
   -- A search that names a node of the document, if any.
-  abbrev Below : First → Type 0
-  Below f = (i : ℕ) → f ≡ at-node i → i < count d
+  abbrev NamesNode : First → Type 0
+  NamesNode f = (i : ℕ) → f ≡ at-node i → i < count d
 
-  row-below : Below (badRow 0 any-number d)
+  row-below : NamesNode (badRow 0 any-number d)
   row-below i q =
       let a : FirstIn numberOf isBad (boundsOf d) i = subst (FirstAnswer numberOf isBad (boundsOf d)) q (bad-row-answer d) in
       omega (arith, visit-below d (a .found .visit) (bound-visited d (a .found) (a .stands)), a .number-is)
 
-  repeated-below : Below (repeatedId [] (entries 0 d))
+  repeated-below : NamesNode (repeatedId [] (entries 0 d))
   repeated-below i q =
       let a : FirstRepeated (entries 0 d) i = subst (RepeatAnswer (entries 0 d)) q (repeated-answer d) in
       entry-below i (a .block, block-stands (entries 0 d) i a, a .number-is)
 
-  link-below : Below (unknownLink (entries 0 d))
+  link-below : NamesNode (unknownLink (entries 0 d))
   unfolding unknownLink
   link-below i q = entry-below i (target-stands d Class.link Class.isBlock i q)
 
-  footnote-below : Below (unknownFootnote (entries 0 d))
+  footnote-below : NamesNode (unknownFootnote (entries 0 d))
   unfolding unknownFootnote
   footnote-below i q = entry-below i (target-stands d Class.footnote-ref (eqb Class.footnote) i q)
 
-  checked-below : (n i m : ℕ) (f : First) (next : Check) → Below f → (next ≡ unsound n i → i < count d) → checkedBy m f next ≡ unsound n i → i < count d
+  checked-below : (n i m : ℕ) (f : First) (next : Check) → NamesNode f → (next ≡ unsound n i → i < count d) → checkedBy m f next ≡ unsound n i → i < count d
   unfolding checkedBy
   checked-below n i m nowhere next below on e = on e
   checked-below n i m (at-node j) next below on e = below i (cc)

@@ -21,18 +21,18 @@ use Rattle.document.proofs.BlockRules.{BlockChild, Level, BlockState, L
 use Rattle.document.proofs.BlockExpressions.{join-none, join-join, EndsFine, read-on, inside-block, root-document, flatten-child, flatten-leaf}
 
 -- What follows ends an open block of significance s: nothing, or a command of no lesser significance.
-Ends : ℕ → Exprs → Type 0
-Ends s none = Unit {0}
-Ends s (and e es) = (isCommand e ≡ true) × (s ≤ Class.significance (exprClass e))
+EndsBlock : ℕ → Exprs → Type 0
+EndsBlock s none = Unit {0}
+EndsBlock s (and e es) = (isCommand e ≡ true) × (s ≤ Class.significance (exprClass e))
 
-ends-lesser : (s t : ℕ) (r : Exprs) → t ≤ s → Ends s r → Ends t r
-unfolding Ends
+ends-lesser : (s t : ℕ) (r : Exprs) → t ≤ s → EndsBlock s r → EndsBlock t r
+unfolding EndsBlock
 ends-lesser s t none l h = tt
 ends-lesser s t (and e es) l h = (h .0, let m : s ≤ Class.significance (exprClass e) = h .1 in omega arith)
 
 -- A block that is ended at once gets nothing.
-ended-empty : (s : ℕ) (blocks : List ℕ) (r : Exprs) → Ends s r → contentsOf (s ∷ blocks) r ≡ none ∷ contentsOf blocks r
-unfolding Ends contentsOf opened stillOpen
+ended-empty : (s : ℕ) (blocks : List ℕ) (r : Exprs) → EndsBlock s r → contentsOf (s ∷ blocks) r ≡ none ∷ contentsOf blocks r
+unfolding EndsBlock contentsOf opened stillOpen
 ended-empty s blocks none h = refl
 ended-empty s blocks (and e es) h = rw (h .0, le-leb s (Class.significance (exprClass e)) (h .1))
 
@@ -108,8 +108,8 @@ command-first (list at (and e es)) b =
 -- After a block of class t among its siblings, which are of its alternative, there follows what ends it.
 siblings-end : (es : Exprs) (at k : ℕ) → T (Class.isBlock k) → (ks : List ℕ) → Level ks → (t : ℕ) → T (among t ks)
     → Class.significance t < Class.significance k → EndsFine at k (holding ks) es
-    → (r : Exprs) → Ends (Class.significance k) r → Ends (Class.significance t) (join (flattenContent es) r)
-unfolding BlockState LeadsTo Follows join flatten Ends
+    → (r : Exprs) → EndsBlock (Class.significance k) r → EndsBlock (Class.significance t) (join (flattenContent es) r)
+unfolding BlockState LeadsTo Follows join flatten EndsBlock
 siblings-end none at k b ks w t a less h r ends = ends-lesser (Class.significance k) (Class.significance t) r (omega arith) ends
 siblings-end (and e es) at k b ks w t a less h r ends =
     let (s′, _, l, same, _, _) = taken k b at (holding ks) w e es h in
@@ -150,8 +150,8 @@ flatten-parameter e es p = rw p
 
 -- From the law of the first expression and that of those that follow it to that of them all.
 content-step : (at k : ℕ) → T (Class.isBlock k) → (e : Expr) (es : Exprs) (s : State) → BlockState s → LeadsTo k (exprClass e) s → EndsFine at k s es
-    → (blocks : List ℕ) (r : Exprs) → Ends (Class.significance k) r
-    → (BlockChild k (exprClass e) → (T (Class.isBlock (exprClass e)) → Ends (Class.significance (exprClass e)) (join (flattenContent es) r))
+    → (blocks : List ℕ) (r : Exprs) → EndsBlock (Class.significance k) r
+    → (BlockChild k (exprClass e) → (T (Class.isBlock (exprClass e)) → EndsBlock (Class.significance (exprClass e)) (join (flattenContent es) r))
     → ChildLaw (Class.significance k) e blocks (join (flattenContent es) r))
     → ContentLaw (Class.significance k) es blocks r → ContentLaw (Class.significance k) (and e es) blocks r
 unfolding BlockState LeadsTo content
@@ -168,13 +168,13 @@ mutual
   unfolding judge flatten exprClass listClass join content Class.isBlock
 
   child-law : (e : Expr) (k : ℕ) → BlockChild k (exprClass e) → judge k e ≡ fine → (blocks : List ℕ) (r : Exprs)
-      → (T (Class.isBlock (exprClass e)) → Ends (Class.significance (exprClass e)) r) → ChildLaw (Class.significance k) e blocks r
+      → (T (Class.isBlock (exprClass e)) → EndsBlock (Class.significance (exprClass e)) r) → ChildLaw (Class.significance k) e blocks r
   child-law (symbol at s) k c f blocks r ends = leaf-law (symbol at s) k c refl blocks r
   child-law (quoted at s) k c f blocks r ends = leaf-law (quoted at s) k c refl blocks r
   child-law (list at es) k c f blocks r ends = list-law es at k c f blocks r ends
 
   list-law : (es : Exprs) (at k : ℕ) → BlockChild k (listClass es) → judgeList k at es ≡ fine → (blocks : List ℕ) (r : Exprs)
-      → (T (Class.isBlock (listClass es)) → Ends (Class.significance (listClass es)) r) → ChildLaw (Class.significance k) (list at es) blocks r
+      → (T (Class.isBlock (listClass es)) → EndsBlock (Class.significance (listClass es)) r) → ChildLaw (Class.significance k) (list at es) blocks r
   list-law none at k c f blocks r ends = absurd (not-fine 8 at f)
   list-law (and e es) at k c f blocks r ends =
       bool-case (Class.isBlock (leadClass e))
@@ -187,7 +187,7 @@ mutual
       (λ is-none. leaf-law (list at (and e es)) k c is-none blocks r)
 
   content-law : (es : Exprs) (at k : ℕ) → T (Class.isBlock k) → (s : State) → BlockState s → EndsFine at k s es
-      → (blocks : List ℕ) (r : Exprs) → Ends (Class.significance k) r → ContentLaw (Class.significance k) es blocks r
+      → (blocks : List ℕ) (r : Exprs) → EndsBlock (Class.significance k) r → ContentLaw (Class.significance k) es blocks r
   content-law none at k b s w h blocks r ends = ended-empty (Class.significance k) blocks r ends
   content-law (and e es) at k b s w h blocks r ends =
       let (s′, w′, l, _, f, h′) = taken k b at s w e es h in
@@ -196,7 +196,7 @@ mutual
 
 document-regroup : (e : Expr) → exprClass e ≡ Class.document → judge 0 e ≡ fine
     → (e₀ : Expr) × (es₀ : Exprs) × (flatten e ≡ and e₀ es₀) × (regroup e₀ es₀ ≡ e)
-unfolding judge exprClass listClass flatten regroup innermost block Ends
+unfolding judge exprClass listClass flatten regroup innermost block EndsBlock
 document-regroup (symbol at s) c f = absurd (let z : _≡_ {A = ℕ} 9 1 = c in omega arith)
 document-regroup (quoted at s) c f = absurd (let z : _≡_ {A = ℕ} 9 1 = c in omega arith)
 document-regroup (list at none) c f = absurd (let z : _≡_ {A = ℕ} 0 1 = c in omega arith)

@@ -58,13 +58,13 @@ value-places : (k : ℕ) (t : Tree) (e : Expr) → Writes t e → T (keepsRules 
 value-places k t e w h n = sym (no-node-places e (rw (judge-complete k t e w h .0) n))
 
 -- What is asked of the trees inside a tree.
-abbrev Inside : Tree → Type 0
-Inside (text s) = Unit {0}
-Inside (value c s) = Unit {0}
-Inside (size w h) = Unit {0}
-Inside (element c ts) = (es : Exprs) (ws : WritesAll ts es) → Kept c ts → placesOfAll ts es ws ≡ allPlaces es
+abbrev PlacesInside : Tree → Type 0
+PlacesInside (text s) = Unit {0}
+PlacesInside (value c s) = Unit {0}
+PlacesInside (size w h) = Unit {0}
+PlacesInside (element c ts) = (es : Exprs) (ws : WritesAll ts es) → Kept c ts → placesOfAll ts es ws ≡ allPlaces es
 
-around : (k : ℕ) {t : Tree} {e : Expr} (w : Writes t e) → Inside t → T (keepsRules k t) → placesOf t e w ≡ places e
+around : (k : ℕ) {t : Tree} {e : Expr} (w : Writes t e) → PlacesInside t → T (keepsRules k t) → placesOf t e w ≡ places e
 unfolding placesOf places place keepsRules isNode
 around k (writes-text as-symbol) i h = refl
 around k (writes-text as-string) i h = refl

@@ -172,14 +172,14 @@ text-complete k as-symbol = (refl, refl)
 text-complete k as-string = (refl, refl)
 
 -- What is asked of the trees inside a tree.
-abbrev Inside : Tree → Type 0
-Inside (text s) = Unit {0}
-Inside (value c s) = Unit {0}
-Inside (size w h) = Unit {0}
-Inside (element c ts) =
+abbrev FineInside : Tree → Type 0
+FineInside (text s) = Unit {0}
+FineInside (value c s) = Unit {0}
+FineInside (size w h) = Unit {0}
+FineInside (element c ts) =
     (at : ℕ) (es : Exprs) → WritesAll ts es → T (keepRules c (start c) ts) → (treesOf es ≡ ts) × (finish at c (run at c (start c) es) ≡ fine)
 
-around : (k : ℕ) {t : Tree} {e : Expr} → Writes t e → Inside t → T (keepsRules k t) → (treeOf e ≡ t) × (judge k e ≡ fine)
+around : (k : ℕ) {t : Tree} {e : Expr} → Writes t e → FineInside t → T (keepsRules k t) → (treeOf e ≡ t) × (judge k e ≡ fine)
 unfolding keepsRules
 around k (writes-text w) i h = text-complete k w
 around k (writes-value {c} {at} {p} {s} {e} n w) i h =

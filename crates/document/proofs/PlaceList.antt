@@ -90,13 +90,13 @@ element-begins s k at p c ts es h l n =
     (symbol-ends (n .rest) (n .ends)))
 
 -- What is asked of the trees inside a tree.
-abbrev Inside : List ℕ → Tree → Type 0
-Inside s (Tree.text bytes) = Unit {0}
-Inside s (value c bytes) = Unit {0}
-Inside s (size w h) = Unit {0}
-Inside s (element c ts) = (i j : ℕ) (es : Exprs) (ws : WritesAll ts es) → Kept c ts → StandAll s i es j → Laid s i (treesNodes ts) (placesOfAll ts es ws) j
+abbrev LaidInside : List ℕ → Tree → Type 0
+LaidInside s (Tree.text bytes) = Unit {0}
+LaidInside s (value c bytes) = Unit {0}
+LaidInside s (size w h) = Unit {0}
+LaidInside s (element c ts) = (i j : ℕ) (es : Exprs) (ws : WritesAll ts es) → Kept c ts → StandAll s i es j → Laid s i (treesNodes ts) (placesOfAll ts es ws) j
 
-around : (s : List ℕ) (k : ℕ) {t : Tree} {e : Expr} (w : Writes t e) → Inside s t → T (keepsRules k t) → (i j : ℕ) → Stands s i e j → i ≤ j
+around : (s : List ℕ) (k : ℕ) {t : Tree} {e : Expr} (w : Writes t e) → LaidInside s t → T (keepsRules k t) → (i j : ℕ) → Stands s i e j → i ≤ j
     → Laid s i (treeNodes t) (placesOf t e w) j
 unfolding placesOf place treeNodes treesNodes nodesOf isNode says Stands
 around s k (writes-text {s = bytes} (as-symbol {at})) inside h i j (l, m, st) on = laid-alone l m (symbol-begins s at bytes st)

@@ -303,12 +303,12 @@ number-below-end v = omega (arith, positive (v .visited))
 abbrev SpannedByNone : List Visit → Visit → Type 0
 SpannedByNone vs v = (u : Visit) → List·Memᴰ u vs → Spans u v → ⊥
 
-abbrev Held : List Visit → Visit → Type 0
-Held vs v = (h : Visit) × Holder vs v h
+abbrev HasHolder : List Visit → Visit → Type 0
+HasHolder vs v = (h : Visit) × Holder vs v h
 
 -- Below a node stand nodes that it holds, or that others below it hold.
 holder-below : (u : Visit) (vs : List Visit) (v : Visit) → AllWithin (u .number + 1) (endOf u) vs → List·Memᴰ v vs
-    → ((v .parent ≡ u .number) × SpannedByNone vs v) ⊎ Held vs v → Held (u ∷ vs) v
+    → ((v .parent ≡ u .number) × SpannedByNone vs v) ⊎ HasHolder vs v → HasHolder (u ∷ vs) v
 holder-below u vs v within m (inl (e, none)) = (
   u,
   record {
@@ -337,8 +337,8 @@ holder-below u vs v within m (inr (h, a)) = (
     go x (inr y) s = a .innermost x y s
 
 first-or-below : (u : Visit) (vs : List Visit) (v : Visit) → AllWithin (u .number + 1) (endOf u) vs
-    → (List·Memᴰ v vs → ((v .parent ≡ u .number) × SpannedByNone vs v) ⊎ Held vs v) → (v ≡ u) ⊎ List·Memᴰ v vs
-    → ((v .number ≡ u .number) × (v .parent ≡ u .parent)) ⊎ Held (u ∷ vs) v
+    → (List·Memᴰ v vs → ((v .parent ≡ u .number) × SpannedByNone vs v) ⊎ HasHolder vs v) → (v ≡ u) ⊎ List·Memᴰ v vs
+    → ((v .number ≡ u .number) × (v .parent ≡ u .parent)) ⊎ HasHolder (u ∷ vs) v
 first-or-below u vs v within below (inl x) = inl (rw x (refl, refl))
 first-or-below u vs v within below (inr x) = inr (holder-below u vs v within x (below x))
 
@@ -358,7 +358,7 @@ module _ (s t : List Visit) (i j k : ℕ) (within-s : AllWithin i j s) (within-t
       go (inl y) = absurd (omega (arith, within-t v m, within-s u y, x .below))
       go (inr y) = y
 
-  holder-left : List·Memᴰ v s → Held s v → Held (s ++ t) v
+  holder-left : List·Memᴰ v s → HasHolder s v → HasHolder (s ++ t) v
   holder-left m (h, a) = (
     h,
     record {
@@ -369,7 +369,7 @@ module _ (s t : List Visit) (i j k : ℕ) (within-s : AllWithin i j s) (within-t
     },
   )
 
-  holder-right : List·Memᴰ v t → Held t v → Held (s ++ t) v
+  holder-right : List·Memᴰ v t → HasHolder t v → HasHolder (s ++ t) v
   holder-right m (h, a) = (
     h,
     record {
@@ -380,17 +380,17 @@ module _ (s t : List Visit) (i j k : ℕ) (within-s : AllWithin i j s) (within-t
     },
   )
 
-  holder-append : (parent : ℕ) → (List·Memᴰ v s → ((v .number ≡ i) × (v .parent ≡ parent)) ⊎ Held s v)
-      → (List·Memᴰ v t → ((v .parent ≡ parent) × SpannedByNone t v) ⊎ Held t v) → List·Memᴰ v s ⊎ List·Memᴰ v t
-      → ((v .parent ≡ parent) × SpannedByNone (s ++ t) v) ⊎ Held (s ++ t) v
+  holder-append : (parent : ℕ) → (List·Memᴰ v s → ((v .number ≡ i) × (v .parent ≡ parent)) ⊎ HasHolder s v)
+      → (List·Memᴰ v t → ((v .parent ≡ parent) × SpannedByNone t v) ⊎ HasHolder t v) → List·Memᴰ v s ⊎ List·Memᴰ v t
+      → ((v .parent ≡ parent) × SpannedByNone (s ++ t) v) ⊎ HasHolder (s ++ t) v
   holder-append parent one more (inl m) = go (one m)
     where
-      go : ((v .number ≡ i) × (v .parent ≡ parent)) ⊎ Held s v → ((v .parent ≡ parent) × SpannedByNone (s ++ t) v) ⊎ Held (s ++ t) v
+      go : ((v .number ≡ i) × (v .parent ≡ parent)) ⊎ HasHolder s v → ((v .parent ≡ parent) × SpannedByNone (s ++ t) v) ⊎ HasHolder (s ++ t) v
       go (inl (e, q)) = inl (q, λ u n x. omega (arith, within-s u (on-left m u n x), x .above))
       go (inr a) = inr (holder-left m a)
   holder-append parent one more (inr m) = go (more m)
     where
-      go : ((v .parent ≡ parent) × SpannedByNone t v) ⊎ Held t v → ((v .parent ≡ parent) × SpannedByNone (s ++ t) v) ⊎ Held (s ++ t) v
+      go : ((v .parent ≡ parent) × SpannedByNone t v) ⊎ HasHolder t v → ((v .parent ≡ parent) × SpannedByNone (s ++ t) v) ⊎ HasHolder (s ++ t) v
       go (inl (q, none)) = inl (q, λ u n x. none u (on-right m u n x) x)
       go (inr a) = inr (holder-right m a)
 
@@ -399,13 +399,13 @@ mutual
 
   -- A visited node is the first, or has its holder among the visited.
   visit-holder : (n : Node) (i parent p : ℕ) (v : Visit) → List·Memᴰ v (visits i parent p n)
-      → ((v .number ≡ i) × (v .parent ≡ parent)) ⊎ Held (visits i parent p n) v
+      → ((v .number ≡ i) × (v .parent ≡ parent)) ⊎ HasHolder (visits i parent p n) v
   visit-holder (node k key type text w h ns) i parent p v m =
       first-or-below _ _ v (λ u x. omega (arith, visits-within-all ns (i + 1) _ _ u x)) (λ x. visit-holder-all ns (i + 1) _ _ v x) (List·Memᴰ·cases-cons m)
 
   -- Of these nodes and those in them, one is in none of them, and under the parent; or its holder is one of them.
   visit-holder-all : (ns : Nodes) (i parent p : ℕ) (v : Visit) → List·Memᴰ v (visitsAll i parent p ns)
-      → ((v .parent ≡ parent) × SpannedByNone (visitsAll i parent p ns) v) ⊎ Held (visitsAll i parent p ns) v
+      → ((v .parent ≡ parent) × SpannedByNone (visitsAll i parent p ns) v) ⊎ HasHolder (visitsAll i parent p ns) v
   visit-holder-all childless i parent p v m = absurd (List·Memᴰ·not-nil m)
   visit-holder-all (child n ns) i parent p v m =
       holder-append (visits i parent p n) _ i (i + count n) (i + count n + countAll ns) (visits-within n i _ _) (visits-within-all ns (i + count n) _ _)

@@ -22,48 +22,48 @@ use Rattle.document.proofs.BlockExpressions.{join-none, join-join, Ends
 
 -- No empty list stands in a block, at any depth: what may not stand there is put as one.
 mutual
-  Kept : Expr → Type 0
-  Kept (symbol at s) = Unit {0}
-  Kept (quoted at s) = Unit {0}
-  Kept (list at es) = KeptList es
+  NoneEmpty : Expr → Type 0
+  NoneEmpty (symbol at s) = Unit {0}
+  NoneEmpty (quoted at s) = Unit {0}
+  NoneEmpty (list at es) = NoneEmptyList es
 
-  KeptList : Exprs → Type 0
-  KeptList none = ⊥
-  KeptList (and e es) = T (Class.isBlock (leadClass e)) → KeptAll es
+  NoneEmptyList : Exprs → Type 0
+  NoneEmptyList none = ⊥
+  NoneEmptyList (and e es) = T (Class.isBlock (leadClass e)) → NoneEmptyAll es
 
-  KeptAll : Exprs → Type 0
-  KeptAll none = Unit {0}
-  KeptAll (and e es) = Kept e × KeptAll es
+  NoneEmptyAll : Exprs → Type 0
+  NoneEmptyAll none = Unit {0}
+  NoneEmptyAll (and e es) = NoneEmpty e × NoneEmptyAll es
 
 -- What is fine is kept.
 mutual
-  unfolding judge Kept
+  unfolding judge NoneEmpty
 
-  kept : (e : Expr) (k : ℕ) → judge k e ≡ fine → Kept e
+  kept : (e : Expr) (k : ℕ) → judge k e ≡ fine → NoneEmpty e
   kept (symbol at s) k h = tt
   kept (quoted at s) k h = tt
   kept (list at es) k h = kept-list es k at h
 
-  kept-list : (es : Exprs) (k at : ℕ) → judgeList k at es ≡ fine → KeptList es
+  kept-list : (es : Exprs) (k at : ℕ) → judgeList k at es ≡ fine → NoneEmptyList es
   kept-list none k at h = not-fine 8 at h
   kept-list (and e es) k at h = λ b. kept-all es at (leadClass e) (start (leadClass e)) (inside-block k at e es b h)
 
-  kept-all : (es : Exprs) (at k : ℕ) (s : State) → EndsFine at k s es → KeptAll es
+  kept-all : (es : Exprs) (at k : ℕ) (s : State) → EndsFine at k s es → NoneEmptyAll es
   kept-all none at k s h = tt
   kept-all (and e es) at k s h =
       let (s′, _, f, r) = read-on at k s e es h in
       (kept e k f, kept-all es at k s′ r)
 
 -- From a block that is kept its command's parameters and its content are told apart again.
-command-kept : (ps inside : Exprs) → KeptAll (join (inCommand ps) inside) → parameters inside ≡ none
-    → (parameters (join (inCommand ps) inside) ≡ ps) × (flattenContent (join (inCommand ps) inside) ≡ flattenContent inside) × KeptAll inside
-unfolding join inCommand parameters flatten Kept notAllowed
+command-kept : (ps inside : Exprs) → NoneEmptyAll (join (inCommand ps) inside) → parameters inside ≡ none
+    → (parameters (join (inCommand ps) inside) ≡ ps) × (flattenContent (join (inCommand ps) inside) ≡ flattenContent inside) × NoneEmptyAll inside
+unfolding join inCommand parameters flatten NoneEmpty notAllowed
 command-kept none inside h bare = (bare, refl, h)
 command-kept (and p ps) inside h bare =
     let es = join (inCommand ps) inside in
     cond-case
-    (λ (x : Expr). KeptAll (and x es)
-    → (parameters (and x es) ≡ and p ps) × (flattenContent (and x es) ≡ flattenContent inside) × KeptAll inside)
+    (λ (x : Expr). NoneEmptyAll (and x es)
+    → (parameters (and x es) ≡ and p ps) × (flattenContent (and x es) ≡ flattenContent inside) × NoneEmptyAll inside)
     (isBlockParameter (exprClass p))
     (λ e (_, k). let (ps-same, inside-same, k′) = command-kept ps inside k bare in (rw (e, ps-same), rw (e, inside-same), k′))
     (λ e (k, _). absurd k)
@@ -77,9 +77,9 @@ block-class (list at none) inside = refl
 block-class (list at (and e es)) inside = refl
 
 -- Flattening a block gives its command, and its content after it.
-block-flatten : (e : Expr) (inside : Exprs) → T (Class.isBlock (exprClass e)) → Kept (block e inside) → parameters inside ≡ none
-    → (flatten (block e inside) ≡ and e (flattenContent inside)) × KeptAll inside
-unfolding flatten Kept block exprClass listClass Class.isBlock
+block-flatten : (e : Expr) (inside : Exprs) → T (Class.isBlock (exprClass e)) → NoneEmpty (block e inside) → parameters inside ≡ none
+    → (flatten (block e inside) ≡ and e (flattenContent inside)) × NoneEmptyAll inside
+unfolding flatten NoneEmpty block exprClass listClass Class.isBlock
 block-flatten (symbol at s) inside b k bare = absurd b
 block-flatten (quoted at s) inside b k bare = absurd b
 block-flatten (list at none) inside b k bare = absurd b
@@ -110,22 +110,22 @@ loose-bare e =
     (λ o. or-false p _ o .0)
 
 -- A loose expression that is kept is itself, and no document.
-loose-kept : (e : Expr) → Kept (loose e) → (loose e ≡ e) × (eqb (exprClass e) Class.document ≡ false)
-unfolding loose notAllowed Kept
+loose-kept : (e : Expr) → NoneEmpty (loose e) → (loose e ≡ e) × (eqb (exprClass e) Class.document ≡ false)
+unfolding loose notAllowed NoneEmpty
 loose-kept e =
     let p = isBlockParameter (exprClass e) in
-    cond-case (λ (x : Expr). Kept x → (x ≡ e) × (eqb (exprClass e) Class.document ≡ false)) (p || eqb (exprClass e) Class.document)
+    cond-case (λ (x : Expr). NoneEmpty x → (x ≡ e) × (eqb (exprClass e) Class.document ≡ false)) (p || eqb (exprClass e) Class.document)
     (λ _ k. absurd k)
     (λ o k. (refl, or-false p _ o .1))
 
 -- The contents of every open block: each is kept, none holds a parameter, and all of them flattened one after another.
-KeptIn : List Exprs → Type 0
-KeptIn [] = Unit {0}
-KeptIn (c ∷ cs) = KeptAll c × KeptIn cs
+NoneEmptyIn : List Exprs → Type 0
+NoneEmptyIn [] = Unit {0}
+NoneEmptyIn (c ∷ cs) = NoneEmptyAll c × NoneEmptyIn cs
 
-Bare : List Exprs → Type 0
-Bare [] = Unit {0}
-Bare (c ∷ cs) = (parameters c ≡ none) × Bare cs
+NoParameters : List Exprs → Type 0
+NoParameters [] = Unit {0}
+NoParameters (c ∷ cs) = (parameters c ≡ none) × NoParameters cs
 
 flat : List Exprs → Exprs
 flat [] = none
@@ -134,23 +134,23 @@ flat (c ∷ cs) = join (flattenContent c) (flat cs)
 -- The contents `cs` of n open blocks: none holds a parameter, and where nothing was refused they are the expressions `es`, one after another.
 record Regrouped (n : ℕ) (es : Exprs) (cs : List Exprs) : Type 0 where
   many : length cs ≡ n
-  bare : Bare cs
-  same : KeptIn cs → flat cs ≡ es
+  bare : NoParameters cs
+  same : NoneEmptyIn cs → flat cs ≡ es
 
 regrouped-more : {n : ℕ} {es : Exprs} {cs : List Exprs} → Regrouped n es cs → Regrouped (suc n) es (none ∷ cs)
-unfolding KeptIn Bare flat parameters join flatten
+unfolding NoneEmptyIn NoParameters flat parameters join flatten
 regrouped-more r = record { many = ap suc (r .many); bare = (refl, r .bare); same = λ k. r .same (k .1) }
 
 -- At the end nothing is left to be content.
 regrouped-none : (blocks : List ℕ) → Regrouped (length blocks) none (map (λ o. none) blocks)
-unfolding Bare flat
+unfolding NoParameters flat
 regrouped-none [] = record { many = refl; bare = tt; same = λ k. refl }
 regrouped-none (o ∷ os) = regrouped-more (regrouped-none os)
 
 -- An expression that is no command is the first of the innermost content.
 regrouped-content : (e : Expr) (es : Exprs) (n : ℕ) (cs : List Exprs) → isCommand e ≡ false
     → Regrouped (suc n) es cs → Regrouped (suc n) (and e es) (atInnermost (loose e) cs)
-unfolding atInnermost KeptIn Bare flat Kept isCommand join
+unfolding atInnermost NoneEmptyIn NoParameters flat NoneEmpty isCommand join
 regrouped-content e es n [] command r = absurd (let z : 0 ≡ suc n = r .many in omega arith)
 regrouped-content e es n (c ∷ cs) command r = record {
   many = r .many;
@@ -164,7 +164,7 @@ regrouped-content e es n (c ∷ cs) command r = record {
 -- A command is the first of its parent's content, with the new block's content inside.
 regrouped-child : (e : Expr) (es : Exprs) (n : ℕ) (cs : List Exprs) → isCommand e ≡ true
     → Regrouped (suc (suc n)) es cs → Regrouped (suc n) (and e es) (childOf e cs)
-unfolding childOf atInnermost KeptIn Bare flat Kept join
+unfolding childOf atInnermost NoneEmptyIn NoParameters flat NoneEmpty join
 regrouped-child e es n [] command r = absurd (let z : 0 ≡ suc (suc n) = r .many in omega arith)
 regrouped-child e es n (c ∷ []) command r = absurd (let z : 1 ≡ suc (suc n) = r .many in omega arith)
 regrouped-child e es n (c ∷ (d ∷ cs)) command r =
@@ -212,9 +212,9 @@ regrouped (and e es) (o ∷ os) h =
     (regrouped es (s ∷ stillOpen s (o ∷ os)) (rw (ne-eqb 4 s (λ z. omega arith)) (document-open s (o ∷ os) l h))))
     (λ c. regrouped-content e es (length os) _ c (regrouped es (o ∷ os) h))
 
-regroup-kept : (e : Expr) (es : Exprs) (cs : List Exprs) → T (Class.isBlock (exprClass e)) → Regrouped 1 es cs → Kept (block e (innermost cs))
+regroup-kept : (e : Expr) (es : Exprs) (cs : List Exprs) → T (Class.isBlock (exprClass e)) → Regrouped 1 es cs → NoneEmpty (block e (innermost cs))
     → flatten (block e (innermost cs)) ≡ and e es
-unfolding innermost KeptIn Bare flat
+unfolding innermost NoneEmptyIn NoParameters flat
 regroup-kept e es [] b r k = absurd (let z : 0 ≡ 1 = r .many in omega arith)
 regroup-kept e es (c ∷ []) b r k =
     let (command-first, k′) = block-flatten e c b k (r .bare .0) in

@@ -128,13 +128,13 @@ children-bounded (holds u ts) k c s f t =
     omega (arith, count-said c u ts)
 
 -- A node of what lawful trees say has at most as many children of class c as its kind has parameters of that class, where its content does not allow c.
-abbrev Bounded : ℕ → Node → Type 0
-Bounded c t = allows (ruleOf (nodeKind t) .content) c ≡ false → kindCount c (nodeChildren t) ≤ room c (start (nodeKind t))
+abbrev BoundedChildren : ℕ → Node → Type 0
+BoundedChildren c t = allows (ruleOf (nodeKind t) .content) c ≡ false → kindCount c (nodeChildren t) ≤ room c (start (nodeKind t))
 
 mutual
   unfolding keepsRules says In nodeKind nodeChildren kindCount
 
-  tree-bounded : (u : Tree) (k c : ℕ) (t : Node) → T (keepsRules k u) → In t (says u) → Bounded c t
+  tree-bounded : (u : Tree) (k c : ℕ) (t : Node) → T (keepsRules k u) → In t (says u) → BoundedChildren c t
   tree-bounded (text s) k c t l (inl e) = rw e (λ f. omega arith)
   tree-bounded (text s) k c t l (inr x) = absurd x
   tree-bounded (value v s) k c t l (inl e) = rw e (λ f. omega arith)
@@ -144,23 +144,23 @@ mutual
   tree-bounded (element v ts) k c t l (inl e) = rw e (λ f. children-bounded ts v c (start v) f (both (Class.isElement v) _ l .1))
   tree-bounded (element v ts) k c t l (inr x) = trees-bounded ts v (start v) c t (both (Class.isElement v) _ l .1) x
 
-  trees-bounded : (ts : Trees) (k : ℕ) (s : State) (c : ℕ) (t : Node) → T (keepRules k s ts) → InSome t (sayAll ts) → Bounded c t
+  trees-bounded : (ts : Trees) (k : ℕ) (s : State) (c : ℕ) (t : Node) → T (keepRules k s ts) → InSome t (sayAll ts) → BoundedChildren c t
   trees-bounded empty k s c t l x = absurd x
   trees-bounded (holds u ts) k s c t l x =
       let (s′, e, rest) = goes-on (step k s (treeClass u)) (λ (s′ : State). keepRules k s′ ts) (both (keepsRules k u) _ l .1) in
       pick (isNode u) (λ y. tree-bounded u k c t (both (keepsRules k u) _ l .0) y) (λ y. trees-bounded ts k s′ c t rest y) x
     where
-      split : In t (says u) ⊎ InSome t (sayAll ts) → (In t (says u) → Bounded c t) → (InSome t (sayAll ts) → Bounded c t) → Bounded c t
+      split : In t (says u) ⊎ InSome t (sayAll ts) → (In t (says u) → BoundedChildren c t) → (InSome t (sayAll ts) → BoundedChildren c t) → BoundedChildren c t
       split (inl y) own rest = own y
       split (inr y) own rest = rest y
 
-      pick : (b : Bool) → (In t (says u) → Bounded c t) → (InSome t (sayAll ts) → Bounded c t)
-          → InSome t (cond b (child (says u) (sayAll ts)) (sayAll ts)) → Bounded c t
+      pick : (b : Bool) → (In t (says u) → BoundedChildren c t) → (InSome t (sayAll ts) → BoundedChildren c t)
+          → InSome t (cond b (child (says u) (sayAll ts)) (sayAll ts)) → BoundedChildren c t
       pick true own rest y = split y own rest
       pick false own rest y = rest y
 
 -- A document's node has at most as many children of class c as its kind has parameters of that class, where its content does not allow c.
-document-bounded : (d : Node) → Document d → (c : ℕ) (t : Node) → In t d → Bounded c t
+document-bounded : (d : Node) → Document d → (c : ℕ) (t : Node) → In t d → BoundedChildren c t
 document-bounded d doc c t x = tree-bounded (doc .tree) 0 c t (kept-test 0 (doc .tree) (doc .lawful .keeps)) (rw (doc .said) x)
 
 -- The root of a document is no part of a table.

@@ -103,12 +103,12 @@ digits-of d₁ d₂ d₃ d₄ t =
     record { first = h₁; second = h₂; third = h₃; fourth = h₄; scalar = s }
 
 -- The bytes s after a backslash begin with the rest of the escape p.
-Begins : Piece → List ℕ → Type 0
-Begins p s = (t : List ℕ) × (pieceBefore p t ≡ 0x5C ∷ s)
+BeginsEscape : Piece → List ℕ → Type 0
+BeginsEscape p s = (t : List ℕ) × (pieceBefore p t ≡ 0x5C ∷ s)
 
 number-spelled : (s : List ℕ) → EscapeDigits (getD s 0 0) (getD s 1 0) (getD s 2 0) (getD s 3 0)
-    → Begins (number (getD s 0 0) (getD s 1 0) (getD s 2 0) (getD s 3 0)) (0x75 ∷ s)
-unfolding isHex pieceBefore Begins
+    → BeginsEscape (number (getD s 0 0) (getD s 1 0) (getD s 2 0) (getD s 3 0)) (0x75 ∷ s)
+unfolding isHex pieceBefore BeginsEscape
 number-spelled [] r = absurd (r .first)
 number-spelled (d₁ ∷ []) r = absurd (r .second)
 number-spelled (d₁ ∷ d₂ ∷ []) r = absurd (r .third)
@@ -117,13 +117,13 @@ number-spelled (d₁ ∷ d₂ ∷ d₃ ∷ d₄ ∷ t) r = (t, refl)
 
 -- An escape that is found stands there.
 pub escape-spelled : (s : List ℕ) → T (isPiece (escapeAt s)) → (t : List ℕ) × (pieceBefore (escapeAt s) t ≡ 0x5C ∷ s)
-unfolding escapeAt isPiece pieceBefore Begins
+unfolding escapeAt isPiece pieceBefore BeginsEscape
 escape-spelled [] u = absurd u
 escape-spelled (c ∷ s) u = go (eqb c 0x75) refl u
   where
     found : Piece
     found = number (getD s 0 0) (getD s 1 0) (getD s 2 0) (getD s 3 0)
 
-    go : (b : Bool) → eqb c 0x75 ≡ b → T (isPiece (cond b found (letter c))) → Begins (cond b found (letter c)) (c ∷ s)
+    go : (b : Bool) → eqb c 0x75 ≡ b → T (isPiece (cond b found (letter c))) → BeginsEscape (cond b found (letter c)) (c ∷ s)
     go true e v = rw (eqb-true c 0x75 e) (number-spelled s (digits-of (getD s 0 0) (getD s 1 0) (getD s 2 0) (getD s 3 0) v))
     go false e v = (s, refl)

@@ -83,12 +83,12 @@ cut : (l rest text : List ℕ) (v m : ℕ) → l ++ rest ≡ text → length l +
 cut l rest text v m e f = rw (← e, ← f) (take-append-add l rest v, drop-append-add l rest v)
 
 -- What is valid is UTF-8, and no sequence stands behind it.
-record Part (text : List ℕ) : Type 0 where
+record TextParts (text : List ℕ) : Type 0 where
   valid : IsUtf8 (take (validFrom 0 text) text)
   behind : sequenceLength (drop (validFrom 0 text) text) ≡ 0
 
 -- The length bounds how many sequences a text has.
-part-step : (fuel : ℕ) (text : List ℕ) → length text ≤ suc fuel → ((s : List ℕ) → length s ≤ fuel → Part s) → (n : ℕ) → sequenceLength text ≡ n → Part text
+part-step : (fuel : ℕ) (text : List ℕ) → length text ≤ suc fuel → ((s : List ℕ) → length s ≤ fuel → TextParts s) → (n : ℕ) → sequenceLength text ≡ n → TextParts text
 part-step fuel text h parts zero e =
     let v = stop text e in
     record { valid = rw v nil-utf8; behind = rw v e }
@@ -99,7 +99,7 @@ part-step fuel text h parts (suc k) e =
     let c = cut (encode (u .number)) (drop (suc k) text) text (validFrom 0 (drop (suc k) text)) (validFrom 0 text) (u .encoded) f in
     record { valid = rw (c .0) (cons-utf8 (u .number) (take (validFrom 0 (drop (suc k) text)) (drop (suc k) text)) (u .is-scalar) (p .valid)); behind = rw (c .1) (p .behind) }
 
-part : (fuel : ℕ) (text : List ℕ) → length text ≤ fuel → Part text
+part : (fuel : ℕ) (text : List ℕ) → length text ≤ fuel → TextParts text
 unfolding validFrom
 part zero [] h = record { valid = nil-utf8; behind = nothing-starts }
 part zero (b ∷ text) h = absurd (not-suc-le-zero h)
