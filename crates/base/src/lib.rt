@@ -8,7 +8,5 @@ mod store; // store.rt: bytes stored at an index, as many as there are places fo
 pub use compare::equal;
 pub use put::put_byte;
 pub use put::put_bytes;
-pub use put::word_sum;
 pub use store::lesser;
 pub use store::store_all;
-pub use store::store_byte;

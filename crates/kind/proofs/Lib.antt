@@ -1,5 +1,2 @@
 pub mod Arms
 pub mod Chosen
-pub mod Table
-pub mod Steps
-pub mod Children

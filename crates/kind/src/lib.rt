@@ -1,14 +1,6 @@
 // The names of the language and their numbers (document 01, "Elements").
-mod machine; // machine.rt: what may stand inside an element
-mod number; // number.rt: the numbers of the kinds, for patterns
-mod rows; // rows.rt: the table of elements
-mod values; // values.rt: the characters of values
 mod words; // words.rt: the comparisons with the names
 
-pub use machine::Stepped;
-pub use machine::may_end;
-pub use machine::step;
-pub use values::character;
 ghost use mathlib.Core.Path.{_≡_};
 ghost use Rattle.elements.specs.rules.Class.{classOf, kindOf, significance};
 

@@ -1,5 +1,3 @@
--- Laws that several passes and other crates cite: white space, what is seen at a place, and the pieces and contents of strings.
-pub mod PieceAt
+-- Laws that several source files and other crates cite: white space, and what is seen at a place.
 pub mod Blanks
 pub mod Looks
-pub mod Contents

@@ -10,9 +10,12 @@ use lib.Seq.{drop-cons, drop-drop}
 use Rattle.elements.specs.rules.Class.{classOf}
 use Rattle.syntax.specs.rules.Byte.{round, square, ByteClass, blank, return, quote, forbidden, ordinary, opening, closing, byteClass}
 use Rattle.syntax.specs.reference.Scan.{ordinaryRun}
-use Rattle.lexer.specs.Token.{codeOf, blanks, stringAt, leadClassAt, leadLength, Seen, seenEnd, seenBy, seenFirst, seen}
-use Rattle.lexer.proofs.Blanks.{blank-stop, blanks-fit, run-fits, run-part}
-use Rattle.lexer.proofs.class.ClassNumbers.{classBy, code-class}
+use Rattle.characters.specs.Codes.{codeOf}
+use Rattle.atoms.specs.Atom.{stringAt}
+use Rattle.lexer.specs.Token.{blanks, leadClassAt, leadLength, Seen, seenEnd, seenBy, seenFirst, seen}
+use Rattle.atoms.proofs.Symbols.{run-fits, run-part}
+use Rattle.lexer.proofs.Blanks.{blank-stop, blanks-fit}
+use Rattle.characters.proofs.ClassNumbers.{classBy, code-class}
 
 -- What is seen has these fields.
 abbrev pub Fields : ℕ → ℕ → ℕ → ℕ → ℕ → Seen → Type 0

@@ -1,3 +1,2 @@
--- Definitions that serve the contracts of private functions: runs of plain bytes (Run) and the steps of the loops (Step).
-pub mod Run
+-- Definitions that serve the contracts of private functions: the steps of the scan.
 pub mod Step

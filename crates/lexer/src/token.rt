@@ -1,12 +1,15 @@
-// White space, symbols and what is seen at a place (document 01, "Characters and brackets").
-use super::class;
-use super::string::string_at;
+// White space, and what is seen at a place (document 01, "Characters and brackets").
+use atoms::string_at;
+use atoms::symbol_end;
+use characters::byte_at;
+use characters::class;
 ghost use mathlib.Core.Path.{_≡_};
 ghost use lib.ListN.{drop, length};
 ghost use Prim.Native.Nat.{_+_, _<_};
 ghost use Rattle.elements.specs.rules.Class as Class;
 ghost use Rattle.syntax.specs.reference.Scan.{ordinaryRun};
-ghost use Rattle.lexer.specs.Token.{a-list, a-string, a-symbol, blanks, leadClassAt, leadLength, seen, seenFirst, stringAt, the-end};
+ghost use Rattle.atoms.specs.Atom.{stringAt};
+ghost use Rattle.lexer.specs.Token.{a-list, a-string, a-symbol, blanks, leadClassAt, leadLength, seen, seenFirst, the-end};
 
 // The sorts of what is seen at a place, under the names of specs/Token.antt: the end of the run, a symbol, a string, a list.
 pub const THE_END: u8 = 0;
@@ -41,27 +44,13 @@ pub fn skip_blanks(text: &[u8], place: usize) -> usize
             if b != 0x0D {
                 return at;
             }
-            if class::byte_at(text, at + 1) != 0x0A {
+            if byte_at(text, at + 1) != 0x0A {
                 return at;
             }
         }
         at += 1;
     }
     at
-}
-
-// The place after the ordinary bytes from a place on.
-pub fn symbol_end(text: &[u8], place: usize) -> usize
-    ensures { λ r. ⌜ r ≡ place + length (ordinaryRun (drop place (now (text .entry)))) ⌝ }
-{
-    let mut i = place;
-    while i < text.len() {
-        if class::byte_class(text[i]) != class::ORDINARY {
-            return i;
-        }
-        i += 1;
-    }
-    i
 }
 
 // The end of the run at a place.

@@ -6,6 +6,7 @@ use native.Mathlib.Omega.{arith}
 use lib.Dec.{eqb, ltb}
 use lib.ListN.{length, getD, length-append}
 use borrow.Author.Tests.{ltb-true, ltb-false}
+use Rattle.document.specs.rules.Record.{recordLength}
 use Rattle.base.proofs.Booleans.{bool-case, cond-case}
 use Rattle.elements.specs.rules.Bytes.{codes}
 use Rattle.base.specs.rules.Limits.{missing}
@@ -43,8 +44,8 @@ module _ (table : List ℕ) (words : (i : ℕ) → getD table i 0 < 2 ^ 32) wher
       (omega (
         arith,
         lines-length n (omega arith),
-        node-length n (getD table (n * 11) 0) (getD table (n * 11 + 1) 0) (getD table (n * 11 + 2) 0) (omega arith)
-            (words (n * 11)) (words (n * 11 + 1)) (words (n * 11 + 2)),
+        node-length n (getD table (n * recordLength) 0) (getD table (n * recordLength + 1) 0) (getD table (n * recordLength + 2) 0) (omega arith)
+            (words (n * recordLength)) (words (n * recordLength + 1)) (words (n * recordLength + 2)),
       ))
 
   pub document-length : (nodes pool : ℕ) → nodes < 2 ^ 32 → pool < 2 ^ 32 → length (documentLines table nodes pool) ≤ 44 * nodes + 33

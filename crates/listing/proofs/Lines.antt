@@ -5,6 +5,7 @@ use Prim.Native.Nat.{ℕ, _+_, _*_, _≤_}
 use native.Mathlib.Numerals.{add-one}
 use native.Mathlib.Omega.{arith}
 use lib.ListN.{getD}
+use Rattle.document.specs.rules.Record.{recordLength}
 use Rattle.listing.specs.Listing.{nodeLine, lineOfNode, nodeLines}
 use Rattle.listing.specs.internal.Puts.{Puts}
 use Rattle.listing.proofs.Puts.{puts-none, puts-on}
@@ -14,7 +15,7 @@ unfolding nodeLines
 lines-none l at table = puts-none l at
 
 pub lines-next : {l m n : List ℕ} {at i j kind parent end : ℕ} (table : List ℕ) (k : ℕ)
-    → kind ≡ getD table (k * 11) 0 → parent ≡ getD table (k * 11 + 1) 0 → end ≡ getD table (k * 11 + 2) 0
+    → kind ≡ getD table (k * recordLength) 0 → parent ≡ getD table (k * recordLength + 1) 0 → end ≡ getD table (k * recordLength + 2) 0
     → Puts l at (nodeLines table k) m i → Puts m i (nodeLine k kind parent end) n j → Puts l at (nodeLines table (k + 1)) n j
 unfolding nodeLines lineOfNode
 lines-next table k a b c p q = rw (add-one k, ← a, ← b, ← c) (puts-on p q)

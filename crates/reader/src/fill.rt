@@ -1,7 +1,8 @@
 // The fill of node words, places and pool from the tape of a text that was judged (document 01, "The table").
 // It is one loop over the nodes: neither the grammar nor the order of the text is repeated here.
+use super::tape;
+use atoms::put_atom;
 use kind::Kind;
-use lexer::put_atom;
 use table::MISSING;
 use table::record::Record;
 use table::record::put_record;
@@ -41,16 +42,16 @@ fn entry_at(tape: &[u32; 32768], node: usize) -> Entry
     requires { ⌜ node < mostNodes ⌝ }
     ensures { λ r. ⌜ r ≡ entryAt (now (tape .entry)) node ⌝ }
 {
-    let i = 8 * node;
+    let i = tape::NODE_WORDS * node;
     Entry {
         place: tape[i],
-        class: tape[i + 1],
-        parent: tape[i + 2],
-        end: tape[i + 3],
-        key: tape[i + 4],
-        typename: tape[i + 5],
-        width: tape[i + 6],
-        height: tape[i + 7],
+        class: tape[i + tape::CLASS],
+        parent: tape[i + tape::PARENT],
+        end: tape[i + tape::END],
+        key: tape[i + tape::KEY],
+        typename: tape[i + tape::TYPE],
+        width: tape[i + tape::WIDTH],
+        height: tape[i + tape::HEIGHT],
     }
 }
 

@@ -8,13 +8,13 @@ use super::tape::enter;
 use super::tape::note;
 use super::value::value;
 use base::number;
+use characters::byte_class;
+use characters::class::ROUND_END;
+use inside::may_end;
+use inside::step;
 use kind::Kind;
-use kind::may_end;
-use kind::step;
 use lexer::A_LIST;
-use lexer::ROUND_END;
 use lexer::THE_END;
-use lexer::byte_class;
 use lexer::look;
 ghost use mathlib.Core.Path.{_≡_};
 ghost use mathlib.Core.Logic.{_⊎_};
@@ -26,7 +26,7 @@ ghost use Rattle.base.specs.rules.Numbers as Number;
 ghost use Rattle.elements.specs.rules.Class as Class;
 ghost use Rattle.elements.specs.rules.Class.{isElement};
 ghost use Rattle.elements.specs.rules.Inside.{ended};
-ghost use Rattle.kind.specs.Machine.{stateOf};
+ghost use Rattle.inside.specs.Machine.{stateOf};
 ghost use Rattle.lexer.specs.Token.{seen, the-end};
 ghost use Rattle.document.specs.reference.Meaning.{Verdict};
 ghost use Rattle.reader.specs.internal.WalkAnswer.{walkedTo, MayStart, MayEnter, Bounded};
@@ -34,7 +34,7 @@ ghost use Rattle.reader.specs.internal.Tape.{left};
 ghost use Rattle.reader.specs.internal.TapeWord.{tapeWords, mostWord};
 ghost use Rattle.reader.specs.internal.Walk.{AnswersFrom, Finishes, JudgesList, TurnFrom, TurnWithin, pastBracket};
 
-// The numbers answered by a walk. A step of `kind` tells its faults as bytes, so a walk takes them so.
+// The numbers answered by a walk. A step of `inside` tells its faults as bytes, so a walk takes them so.
 pub const NOT_ONE_EXPRESSION: u8 = number::NOT_ONE_EXPRESSION as u8;
 
 pub const NOT_ALLOWED: u8 = number::NOT_ALLOWED as u8;

@@ -5,6 +5,7 @@ use mathlib.Core.List.{List}
 use native.Mathlib.Omega.{arith}
 use lib.ListN.{length, take, drop, length-drop, drop-of-length-le, List·getD-eq-default}
 use lib.Seq.{take-nil, take-all}
+use Rattle.document.specs.rules.Record.{recordLength}
 use Rattle.document.specs.reference.Printing.{part}
 use Rattle.table.specs.Stored.{wordAt, stringAt}
 
@@ -28,6 +29,6 @@ module _ (s : List ℕ) (at size : ℕ) where
 pub no-string : (words bytes : List ℕ) (i j : ℕ) → length words ≤ j → take (length bytes - length bytes) (drop (length bytes) bytes) ≡ stringAt words bytes i j
 unfolding stringAt wordAt part
 no-string words bytes i j h =
-    let past : length words ≤ 11 * i + (j + 1) = omega arith in
+    let past : length words ≤ recordLength * i + (j + 1) = omega arith in
     let none : length bytes ≤ length bytes = omega arith in
     rw (List·getD-eq-default words 0 past, drop-of-length-le bytes none, take-nil (length bytes - length bytes))

@@ -8,7 +8,7 @@ use borrow.Author.Tests.{leb-true, leb-false, ne-eqb, lt-leb, le-leb}
 use Rattle.base.proofs.Booleans.{bool-case}
 use Rattle.base.proofs.Tables.{each-below, alike, alike-eq}
 use Rattle.elements.specs.rules.Rules.{rules, ruleIn, ruleOf}
-use Rattle.kind.proofs.Table.{no-row}
+use Rattle.inside.proofs.Table.{no-row}
 use Rattle.document.specs.rules.Canonical.{nodeFirst}
 
 -- As the code tests them.

@@ -60,7 +60,7 @@ fn byte_within(text: &[u8], place: usize, low: u8, high: u8) -> bool
 }
 
 // The length of the well-formed sequence at a place, and 0 where none stands there.
-pub fn sequence_length(text: &[u8], place: usize) -> usize
+fn sequence_length(text: &[u8], place: usize) -> usize
     ensures { λ r. ⌜ r ≡ sequenceLength (drop place (now (text .entry))) ⌝ }
 {
     if text.len() <= place {

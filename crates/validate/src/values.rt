@@ -1,10 +1,10 @@
 // The values of an element: id or target, size, type (document 01, "Elements").
 use super::OK;
 use super::record::words;
+use characters::character;
+use inside::step;
 use kind::Keyword;
 use kind::Kind;
-use kind::character;
-use kind::step;
 use table::HEIGHT;
 use table::KEY;
 use table::KEY_LENGTH;

@@ -15,9 +15,11 @@ use Rattle.syntax.specs.rules.Byte.{Bracket, round, square, ByteClass, blank, r
 use Rattle.syntax.specs.rules.Syntax.{Leaf, space, line-end, word, string, piecesBefore}
 use Rattle.syntax.specs.reference.Scan.{Quoted, closed, unclosed, bad-escape, quotedFrom, quotedItem, ordinaryRun, Items, a-leaf, itemAt, itemsFrom}
 use Rattle.syntax.specs.reference.Scan.{Open, Levels, fault, level, addLeaf, wrap, endLevel, atEnd, oneMore, oneLess, build, outermost}
-use Rattle.lexer.specs.Token.{codeOf, stringEnd, stringAt, scanNumber, scanPlace}
+use Rattle.characters.specs.Codes.{codeOf}
+use Rattle.atoms.specs.Atom.{stringEnd, stringAt}
+use Rattle.lexer.specs.Token.{scanNumber, scanPlace}
 use Rattle.lexer.specs.internal.Step.{Passed, goesOn, stops, pastString, passedAt, bracketOf, closesIt}
-use Rattle.lexer.proofs.class.ClassNumbers.{classBy, code-class}
+use Rattle.characters.proofs.ClassNumbers.{classBy, code-class}
 use Rattle.syntax.proofs.ByteClasses.{ordinary-class}
 use Rattle.syntax.proofs.Items.{item-of}
 use Rattle.syntax.proofs.Escapes.{later}

@@ -9,16 +9,18 @@ use Rattle.listing.proofs.put_document.Tie as tie
 returns : tie.Need-returns
 unfolding documentLines
 returns c =
+    let args = c .before .before .before .before .before .before .before .before .before .before .args in
+    let fits = c .before .before .before .before .before .before .before .before .before .before .fits in
     let lines = puts-whole (puts-on (c .before .before .before .before .before .before .put-header .ensures) (c .before .before .put-nodes .ensures)) in (
       lines .0,
       (
         lines .1,
-        document-length (c .before .before .before .before .before .before .before .before .before .before .args .table .now)
+        document-length (args .table .now)
             (λ i. c .before .before .before .before .before .before .before .before .before .shared-slice-known .given i .fits)
-            (c .before .before .before .before .before .before .before .before .before .before .args .nodes)
-            (c .before .before .before .before .before .before .before .before .before .before .args .pool)
-            (c .before .before .before .before .before .before .before .before .before .before .fits .nodes .fits)
-            (c .before .before .before .before .before .before .before .before .before .before .fits .pool .fits),
+            (args .nodes)
+            (args .pool)
+            (fits .nodes .fits)
+            (fits .pool .fits),
       ),
     )
 

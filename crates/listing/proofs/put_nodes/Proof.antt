@@ -16,23 +16,29 @@ abbrev μ-loop : tie.MeasureT-loop
 μ-loop out₀ at table nodes next₀ k₀ out next k = nodes - k
 
 loop-holds : tie.Need-loop-holds Inv-loop μ-loop
-loop-holds c = (refl, search needs, lines-none (c .before .before .args .out .now) (c .before .before .args .at) (c .before .before .args .table .now))
+loop-holds c =
+    let args = c .before .before .args in
+    (refl, search needs, lines-none (args .out .now) (args .at) (args .table .now))
 
 loop-again : tie.Need-loop-again Inv-loop μ-loop
-loop-again c = (
-  c .before .before .put-node .kept .0 ∙ c .before .before .before .before .before .before .before .before .loop .inv .0,
-  search needs,
-  lines-next
-      (c .before .before .before .before .before .before .before .before .before .before .before .args .table .now)
-      (c .before .before .before .before .before .before .before .before .loop .k) (c .before .before .before .before .before .word .ensures)
-      (c .before .before .before .before .word2 .ensures) (c .before .before .before .word3 .ensures)
-      (c .before .before .before .before .before .before .before .before .loop .inv .2) (c .before .before .put-node .ensures),
-)
+loop-again c =
+    let loop = c .before .before .before .before .before .before .before .before .loop in
+    let put-node = c .before .before .put-node in (
+      put-node .kept .0 ∙ loop .inv .0,
+      search needs,
+      lines-next
+          (c .before .before .before .before .before .before .before .before .before .before .before .args .table .now)
+          (loop .k) (c .before .before .before .before .before .word .ensures)
+          (c .before .before .before .before .word2 .ensures) (c .before .before .before .word3 .ensures)
+          (loop .inv .2) (put-node .ensures),
+    )
 
 returns : tie.Need-returns Inv-loop μ-loop
 returns c =
-    lines-all (c .before .before .before .before .args .table .now) (c .before .loop .k) (c .before .before .before .before .args .nodes)
-    (c .before .loop .inv .1) (c .loop-test .left) (c .before .loop .inv .2)
+    let args = c .before .before .before .before .args in
+    let loop = c .before .loop in
+    lines-all (args .table .now) (loop .k) (args .nodes)
+    (loop .inv .1) (c .loop-test .left) (loop .inv .2)
 
 pub put-nodes-spec : {M : Type 1} → statement M
 put-nodes-spec =

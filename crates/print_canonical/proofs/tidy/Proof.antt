@@ -30,23 +30,26 @@ returns-2 c =
 element-write-out : tie.Need-element-write-out
 unfolding lentMemory
 element-write-out c =
+    let print-arg = c .before .before .print-arg in
+    let print = c .before .print in
     let r = c .before .before .before .before .before .before .before .before .before .before in
     let args = r .before .before .before .before .before .before .args in
     omega (
       arith,
-      c .before .before .print-arg .given .0 .1,
+      print-arg .given .0 .1,
       line-end-fits (args .text .now) _ (args .out .now)
-          (omega (arith, c .before .before .print-arg .given .0 .1)) (r .read-nested .result) _ (r .read-nested .ensures) refl
-          (c .before .before .before .before .before .if2 .left) (c .before .print .result) _ (c .before .print .ensures),
+          (omega (arith, print-arg .given .0 .1)) (r .read-nested .result) _ (r .read-nested .ensures) refl
+          (c .before .before .before .before .before .if2 .left) (print .result) _ (print .ensures),
     )
 
 returns-3 : tie.Need-returns-3
 unfolding lentMemory
 returns-3 c =
+    let print = c .before .print in
     let r = c .before .before .before .before .before .before .before .before .before .before in
     let args = r .before .before .before .before .before .before .args in
     tidies-document (args .text .now) _ (args .out .now) (omega (arith, c .before .before .print-arg .given .0 .1)) (r .read-nested .result) _
-    (r .read-nested .ensures) refl (c .before .before .before .before .before .if2 .left) (c .before .print .result) _ (c .before .print .ensures)
+    (r .read-nested .ensures) refl (c .before .before .before .before .before .if2 .left) (print .result) _ (print .ensures)
     (r .before .before .before .before .if1 .left)
 
 pub tidy-spec : {M : Type 1} → statement M

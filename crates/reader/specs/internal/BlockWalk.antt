@@ -8,7 +8,7 @@ use lib.ListN.{length}
 use Rattle.base.specs.rules.Numbers as Number
 use Rattle.elements.specs.rules.Class as Class
 use Rattle.elements.specs.rules.Inside.{step as stepped, bad}
-use Rattle.kind.specs.Machine.{stateOf}
+use Rattle.inside.specs.Machine.{stateOf}
 use Rattle.syntax.specs.rules.Byte.{Bracket, closing}
 use Rattle.syntax.specs.rules.Expression.{Expr, Exprs, none, and}
 use Rattle.lexer.specs.Token.{the-end, a-list}

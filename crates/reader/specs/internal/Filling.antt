@@ -7,7 +7,7 @@ use lib.Dec.{eqb}
 use lib.ListN.{length, getD, drop, set}
 use lib.Seq.{sets}
 use Rattle.elements.specs.rules.Class as Class
-use Rattle.lexer.specs.Token.{atomValue}
+use Rattle.atoms.specs.Atom.{atomValue}
 use Rattle.syntax.specs.rules.Expression.{Exprs}
 use Rattle.base.specs.rules.Limits.{mostBytes, mostNodes, missing}
 use Rattle.document.specs.rules.Document.{Nodes, sayAll}

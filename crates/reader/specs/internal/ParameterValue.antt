@@ -7,7 +7,8 @@ use lib.Dec.{eqb}
 use lib.ListN.{length, drop}
 use Rattle.elements.specs.rules.Class as Class
 use Rattle.syntax.specs.rules.Expression.{Expr, Exprs, none, and}
-use Rattle.lexer.specs.Token.{a-symbol, a-string, atomValue}
+use Rattle.atoms.specs.Atom.{atomValue}
+use Rattle.lexer.specs.Token.{a-symbol, a-string}
 use Rattle.document.specs.reference.Meaning.{onlyOne, textBytes, symbolBytes, numberOf}
 use Rattle.reader.specs.internal.RunStands.{RunStands}
 use Rattle.reader.specs.internal.Tape.{valuePlace, noted}

@@ -6,7 +6,7 @@ use lib.ListN.{length, getD, drop}
 use Rattle.syntax.specs.rules.Byte.{Bracket, ByteClass, blank, return, quote, ordinary, opening, closing, byteClass}
 use Rattle.syntax.specs.rules.Expression.{symbol, quoted, list, Exprs, none, and}
 use Rattle.syntax.specs.reference.Scan.{ordinaryRun}
-use Rattle.lexer.specs.Token.{atomValue, stringAt}
+use Rattle.atoms.specs.Atom.{atomValue, stringAt}
 
 -- A byte of this class stands at i.
 pub record Has (s : List ℕ) (i : ℕ) (c : ByteClass) : Type 0 where

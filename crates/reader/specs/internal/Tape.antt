@@ -9,7 +9,7 @@ use lib.ListN.{drop, set}
 use lib.Seq.{sets}
 use Rattle.elements.specs.rules.Class as Class
 use Rattle.syntax.specs.rules.Expression.{Expr, symbol, quoted, list, Exprs, none, and, place}
-use Rattle.lexer.specs.Token.{atomValue}
+use Rattle.atoms.specs.Atom.{atomValue}
 use Rattle.base.specs.rules.Limits.{missing}
 use Rattle.document.specs.rules.Document.{widthOr, heightOr}
 use Rattle.document.specs.rules.Lead.{leadClass}

@@ -8,7 +8,7 @@ use lib.ListN.{length}
 use Rattle.base.specs.rules.Numbers as Number
 use Rattle.elements.specs.rules.Class.{isElement}
 use Rattle.elements.specs.rules.Inside.{step as stepped, start, go}
-use Rattle.kind.specs.Machine.{stateOf}
+use Rattle.inside.specs.Machine.{stateOf}
 use Rattle.syntax.specs.rules.Byte.{Bracket, closing}
 use Rattle.syntax.specs.rules.Expression.{Expr, list, Exprs, and}
 use Rattle.document.specs.rules.Lead.{leadClass}

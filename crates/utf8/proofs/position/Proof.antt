@@ -38,23 +38,27 @@ next c =
 
 loop-again : tie.Need-loop-again Inv-loop μ-loop
 loop-again c =
-    let h : c .before .before .before .loop .i
-    < min (c .before .before .before .before .before .before .args .place) (length (c .before .before .before .before .before .before .args .text .now)) = omega arith in
-    let e = left-step (c .before .before .before .before .before .before .args .text .now) (c .before .before .before .before .before .before .args .place) (c .before .before .before .loop .i) h in
-    let b = getD (c .before .before .before .before .before .before .args .text .now) (c .before .before .before .loop .i) 0 in (
+    let args = c .before .before .before .before .before .before .args in
+    let loop = c .before .before .before .loop in
+    let h : loop .i
+    < min (args .place) (length (args .text .now)) = omega arith in
+    let e = left-step (args .text .now) (args .place) (loop .i) h in
+    let b = getD (args .text .now) (loop .i) 0 in (
       omega arith,
-      c .before .before .before .loop .inv .1,
-      omega (arith, next c, next-line-bound b (c .before .before .before .loop .line)),
-      omega (arith, next c, next-column-bound b (c .before .before .before .loop .column)),
-      rw (next c .0, ← line-step, ← e) (c .before .before .before .loop .inv .4),
-      rw (next c .1, ← column-step, ← e) (c .before .before .before .loop .inv .5),
+      loop .inv .1,
+      omega (arith, next c, next-line-bound b (loop .line)),
+      omega (arith, next c, next-column-bound b (loop .column)),
+      rw (next c .0, ← line-step, ← e) (loop .inv .4),
+      rw (next c .1, ← column-step, ← e) (loop .inv .5),
     )
 
 returns : tie.Need-returns Inv-loop μ-loop
 unfolding lineFeeds
 returns c =
-    let done = left-end (c .before .before .before .before .args .text .now) (c .before .before .before .before .args .place) (c .before .loop .i) (omega arith) in
-    (omega (arith, rw done at (c .before .loop .inv .4)), sym (column-end (c .before .loop .column)) ∙ (rw done at (c .before .loop .inv .5)))
+    let args = c .before .before .before .before .args in
+    let loop = c .before .loop in
+    let done = left-end (args .text .now) (args .place) (loop .i) (omega arith) in
+    (omega (arith, rw done at (loop .inv .4)), sym (column-end (loop .column)) ∙ (rw done at (loop .inv .5)))
 
 pub position-spec : {M : Type 1} → statement M
 position-spec =

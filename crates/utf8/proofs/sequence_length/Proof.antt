@@ -83,22 +83,24 @@ returns-8 c = rw (third-read (c .before .before), not-false (c .before .before .
 
 returns-9 : tie.Need-returns-9
 returns-9 c =
+    let byte-within3 = c .before .byte-within3 in
     rw (
       third-read (c .before .before .before .before),
       not-false (c .before .before .before .before .byte-within2 .result) (c .before .before .before .if7 .left),
       ne-eqb _ 3 (c .before .before .if8 .left),
-      ← c .before .byte-within3 .ensures,
-      not-true (c .before .byte-within3 .result) (c .if9 .taken),
+      ← byte-within3 .ensures,
+      not-true (byte-within3 .result) (c .if9 .taken),
     )
 
 returns-10 : tie.Need-returns-10
 returns-10 c =
+    let byte-within3 = c .before .byte-within3 in
     rw (
       third-read (c .before .before .before .before),
       not-false (c .before .before .before .before .byte-within2 .result) (c .before .before .before .if7 .left),
       ne-eqb _ 3 (c .before .before .if8 .left),
-      ← c .before .byte-within3 .ensures,
-      not-false (c .before .byte-within3 .result) (c .if9 .left),
+      ← byte-within3 .ensures,
+      not-false (byte-within3 .result) (c .if9 .left),
     )
 
 pub sequence-length-spec : {M : Type 1} → statement M

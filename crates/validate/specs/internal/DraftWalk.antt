@@ -9,7 +9,7 @@ use Rattle.elements.specs.rules.Class as Class
 use Rattle.document.specs.rules.Record as Word
 use Rattle.elements.specs.rules.Rules.{ruleOf}
 use Rattle.elements.specs.rules.Inside.{State, go, step, start}
-use Rattle.kind.specs.Machine.{stateOf}
+use Rattle.inside.specs.Machine.{stateOf}
 use Rattle.base.specs.rules.Limits.{missing}
 use Rattle.document.specs.rules.Document.{Trees, Node, Nodes, says, sayAll}
 use Rattle.document.specs.reference.RulesTest.{keepsRules, keepRules}

@@ -7,7 +7,7 @@ use borrow.Author.Needs.{needs}
 use lib.ListN.{length, drop}
 use Rattle.lexer.specs.Token.{blanks}
 use Rattle.lexer.proofs.Blanks.{blanks-end, blank-on, blank-stop, return-on, return-stop}
-use Rattle.lexer.proofs.class.ClassNumbers.{above-space}
+use Rattle.characters.proofs.ClassNumbers.{above-space}
 use Rattle.lexer.proofs.token.skip_blanks.Statement.{statement}
 use Rattle.lexer.proofs.token.skip_blanks.Tie as tie
 

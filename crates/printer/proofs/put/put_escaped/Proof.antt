@@ -20,7 +20,9 @@ abbrev μ-loop : tie.MeasureT-loop
 
 loop-holds : tie.Need-loop-holds Inv-loop μ-loop
 unfolding bytesBefore
-loop-holds c = (search needs, refl, adds-none (c .before .before .args .at) (c .before .before .args .out .now))
+loop-holds c =
+    let args = c .before .before .args in
+    (search needs, refl, adds-none (args .at) (args .out .now))
 
 returns : tie.Need-returns Inv-loop μ-loop
 returns c =

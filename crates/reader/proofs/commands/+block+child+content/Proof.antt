@@ -92,7 +92,9 @@ abbrev block-μ-loop : block-lts.MeasureT-loop
 block-μ-loop text at from kind nodes pool node tape₀ i₀ state₀ n₀ p₀ tape i state n p = length text - i
 
 block-loop-holds : (t : ℕ) → block-lts.Need-loop-holds (block-claims t) (block-at t) block.Post block-Inv-loop block-μ-loop
-block-loop-holds t c = begun (c .before .pre .1 .0) (c .before .pre .1 .1) (c .before .pre .1 .2)
+block-loop-holds t c =
+    let pre = c .before .pre in
+    begun (pre .1 .0) (pre .1 .1) (pre .1 .2)
 
 block-returns : (t : ℕ) → block-lts.Need-returns (block-claims t) (block-at t) block.Post block-Inv-loop block-μ-loop
 block-returns t c =
@@ -102,38 +104,42 @@ block-returns t c =
 
 block-content-requires : (t : ℕ) → block-lts.Need-content-requires (block-claims t) (block-at t) block.Post block-Inv-loop block-μ-loop
 block-content-requires t c κs =
+    let pre = c .before .before .before .before .before .before .before .pre in
     let inv = c .before .before .before .before .before .loop .inv in
     let h = place-from _ _ (c .before .before .before .before .look .ensures) (inv .within) in (
-      omega (arith, h, c .before .before .before .before .before .before .before .pre .0, inv .forward),
+      omega (arith, h, pre .0, inv .forward),
       (
         omega (arith, c .before .if2 .left),
         omega (arith, h, inv .nodes-within),
         omega (arith, h, inv .pool-within),
-        c .before .before .before .before .before .before .before .pre .1 .3,
-        c .before .before .before .before .before .before .before .pre .1 .4,
+        pre .1 .3,
+        pre .1 .4,
       ),
     )
 
 block-returns-2 : (t : ℕ) → block-lts.Need-returns-2 (block-claims t) (block-at t) block.Post block-Inv-loop block-μ-loop
 block-returns-2 t c =
+    let look = c .before .before .before .before .before .look in
     let inv = c .before .before .before .before .before .before .loop .inv in
-    let h = place-from _ _ (c .before .before .before .before .before .look .ensures) (inv .within) in
+    let h = place-from _ _ (look .ensures) (inv .within) in
     answered inv (later (omega (arith, h)) (c .content .ensures .0))
-    (command-end (c .before .before .before .before .before .look .ensures) (c .before .before .before .if1 .taken) (c .content .ensures .1))
+    (command-end (look .ensures) (c .before .before .before .if1 .taken) (c .content .ensures .1))
 
 block-turn-as-requires : (t : ℕ) → block-lts.Need-turn-as-requires (block-claims t) (block-at t) block.Post block-Inv-loop block-μ-loop
 block-turn-as-requires t c κs =
+    let pre = c .before .before .before .before .before .before .before .pre in
+    let look = c .before .before .before .before .look in
     let inv = c .before .before .before .before .before .loop .inv in (
       inv .nodes-within,
-      turn-fits _ _ (c .before .before .before .before .look .ensures) (inv .within) (c .before .before .if1 .left) (inv .pool-within),
-      omega (arith, inv .within, c .before .before .before .before .before .before .before .pre .1),
+      turn-fits _ _ (look .ensures) (inv .within) (c .before .before .if1 .left) (inv .pool-within),
+      omega (arith, inv .within, pre .1),
       omega (
         arith,
-        place-within _ _ (c .before .before .before .before .look .ensures)
+        place-within _ _ (look .ensures)
             (inv .within),
-        c .before .before .before .before .before .before .before .pre .1,
+        pre .1,
       ),
-      c .before .before .before .before .before .before .before .pre .1 .4,
+      pre .1 .4,
     )
 
 block-returns-3 : (t : ℕ) → block-lts.Need-returns-3 (block-claims t) (block-at t) block.Post block-Inv-loop block-μ-loop
@@ -158,36 +164,44 @@ block-loop-less t c =
 
 block-loop-again : (t : ℕ) → block-lts.Need-loop-again (block-claims t) (block-at t) block.Post block-Inv-loop block-μ-loop
 block-loop-again t c =
+    let look = c .before .before .before .before .before .before .before .before .look in
+    let if1 = c .before .before .before .before .before .before .if1 in
     let inv = c .before .before .before .before .before .before .before .before .before .loop .inv in
     let turned = rw (c .before .t2 .given .1, c .before .before .before .before .before .in-command .ensures) at
     (c .before .before .before .turn-as .ensures) in
-    gone-on inv (atom-forward _ _ (c .before .before .before .before .before .before .before .before .look .ensures) (inv .within)
-    (c .before .before .before .before .before .before .if1 .left) (turned .0) (inv .nodes-within) (inv .pool-within) (turned .2) (turned .3))
-    (command-atom _ _ (c .before .before .before .before .before .before .before .before .look .ensures) (inv .within)
-    (c .before .before .before .before .before .before .if1 .left) (turned .0) (turned .1))
+    gone-on inv (atom-forward _ _ (look .ensures) (inv .within)
+    (if1 .left) (turned .0) (inv .nodes-within) (inv .pool-within) (turned .2) (turned .3))
+    (command-atom _ _ (look .ensures) (inv .within)
+    (if1 .left) (turned .0) (turned .1))
 
 block-inside-requires : (t : ℕ) → block-lts.Need-inside-requires (block-claims t) (block-at t) block.Post block-Inv-loop block-μ-loop
 block-inside-requires t c κs =
+    let pre = c .before .before .before .before .before .before .before .before .before .before .before .before .pre in
+    let look = c .before .before .before .before .before .before .before .before .before .look in
     let inv = c .before .before .before .before .before .before .before .before .before .before .loop .inv in
     let turned = rw (c .before .before .t3 .given .1, c .before .before .before .before .before .before .in-command .ensures) at
     (c .before .before .before .before .turn-as .ensures) in
-    let h = list-forward _ _ (c .before .before .before .before .before .before .before .before .before .look .ensures) (inv .within)
+    let h = list-forward _ _ (look .ensures) (inv .within)
     (c .before .before .before .before .before .before .before .if1 .left) (turned .0) in (
       h .1,
       omega (arith, h, inv .nodes-within),
       omega (arith, h, inv .pool-within),
-      c .before .before .before .before .before .before .before .before .before .before .before .before .pre .1 .3,
-      c .before .before .before .before .before .before .before .before .before .before .before .before .pre .1 .4,
+      pre .1 .3,
+      pre .1 .4,
       omega (
         arith,
         turned .2,
-        place-within _ _ (c .before .before .before .before .before .before .before .before .before .look .ensures)
+        place-within _ _ (look .ensures)
             (inv .within),
       ),
     )
 
 block-returns-4 : (t : ℕ) → block-lts.Need-returns-4 (block-claims t) (block-at t) block.Post block-Inv-loop block-μ-loop
 block-returns-4 t c =
+    let look = c .before .before .before .before .before .before .before .before .before .before .before .before .before .look in
+    let if1 = c .before .before .before .before .before .before .before .before .before .before .before .if1 in
+    let inside = c .before .before .before .inside in
+    let past-bracket = c .before .before .past-bracket in
     let inv = c .before .before .before .before .before .before .before .before .before .before .before .before .before .before .loop .inv in
     let turned = rw (
       c .before .before .before .before .before .before .t3 .given .1,
@@ -195,13 +209,13 @@ block-returns-4 t c =
     ) at
     (c .before .before .before .before .before .before .before .before .turn-as .ensures) in
     let h = list-forward _ _
-    (c .before .before .before .before .before .before .before .before .before .before .before .before .before .look .ensures) (inv .within)
-    (c .before .before .before .before .before .before .before .before .before .before .before .if1 .left) (turned .0) in
-    answered inv (later (omega (arith, h)) (past-bounded (c .before .before .before .inside .ensures .0) (c .before .before .past-bracket .ensures)))
-    (parameter-stopped _ _ (c .before .before .before .before .before .before .before .before .before .before .before .before .before .look .ensures)
-    (inv .within) (c .before .before .before .before .before .before .before .before .before .before .before .if1 .left) (turned .0) (turned .1)
-    (c .before .before .before .inside .ensures .0)
-    (rw (turned .2, turned .3, turned .4) at (c .before .before .before .inside .ensures .1)) (c .before .before .past-bracket .ensures)
+    (look .ensures) (inv .within)
+    (if1 .left) (turned .0) in
+    answered inv (later (omega (arith, h)) (past-bounded (inside .ensures .0) (past-bracket .ensures)))
+    (parameter-stopped _ _ (look .ensures)
+    (inv .within) (if1 .left) (turned .0) (turned .1)
+    (inside .ensures .0)
+    (rw (turned .2, turned .3, turned .4) at (inside .ensures .1)) (past-bracket .ensures)
     (c .if3 .taken))
 
 block-loop-less-2 : (t : ℕ) → block-lts.Need-loop-less-2 (block-claims t) (block-at t) block.Post block-Inv-loop block-μ-loop
@@ -216,18 +230,20 @@ block-loop-less-2 t c =
 
 block-loop-again-2 : (t : ℕ) → block-lts.Need-loop-again-2 (block-claims t) (block-at t) block.Post block-Inv-loop block-μ-loop
 block-loop-again-2 t c =
+    let inside = c .before .before .before .inside in
+    let past-bracket = c .before .before .past-bracket in
     let inv = c .before .before .before .before .before .before .before .before .before .before .before .before .before .before .loop .inv in
     let turned = rw (
       c .before .before .before .before .before .before .t3 .given .1,
       c .before .before .before .before .before .before .before .before .before .before .in-command .ensures,
     ) at
     (c .before .before .before .before .before .before .before .before .turn-as .ensures) in
-    gone-on inv (taken-forward (turned .0) (past-bounded (c .before .before .before .inside .ensures .0) (c .before .before .past-bracket .ensures))
+    gone-on inv (taken-forward (turned .0) (past-bounded (inside .ensures .0) (past-bracket .ensures))
     (c .if3 .left))
     (parameter-passed _ _ (c .before .before .before .before .before .before .before .before .before .before .before .before .before .look .ensures)
     (inv .within) (c .before .before .before .before .before .before .before .before .before .before .before .if1 .left) (turned .0) (turned .1)
-    (c .before .before .before .inside .ensures .0)
-    (rw (turned .2, turned .3, turned .4) at (c .before .before .before .inside .ensures .1)) (c .before .before .past-bracket .ensures)
+    (inside .ensures .0)
+    (rw (turned .2, turned .3, turned .4) at (inside .ensures .1)) (past-bracket .ensures)
     (c .if3 .left))
 
 abbrev child-claims : ℕ → child-lts.Claims
@@ -247,22 +263,25 @@ child-claims t = (
 )
 
 child-enter-requires : (t : ℕ) → child-lts.Need-enter-requires (child-claims t) (child-at t) child.Post
-child-enter-requires t c κs = (omega (arith, c .before .before .before .before .pre .1 .0), c .before .before .before .before .pre .1 .0 .4, omega arith)
+child-enter-requires t c κs =
+    let pre = c .before .before .before .before .pre in
+    (omega (arith, pre .1 .0), pre .1 .0 .4, omega arith)
 
 child-add-block : (t : ℕ) → child-lts.Need-add-block (child-claims t) (child-at t) child.Post
 child-add-block t c = omega (arith, c .before .before .before .before .before .pre .1 .0, c .before .before .before .before .before .good)
 
 child-block-requires : (t : ℕ) → child-lts.Need-block-requires (child-claims t) (child-at t) child.Post
-child-block-requires t c κs = (
-  omega (arith, c .before .before .before .before .before .before .pre .0),
-  (
-    c .before .before .before .before .before .before .pre .1 .0 .0,
-    omega (arith, c .before .before .before .before .before .before .pre .1 .0),
-    c .before .before .before .before .before .before .pre .1 .0 .2,
-    c .before .before .before .before .before .before .pre .1 .0 .3,
-    omega (arith, c .before .before .before .before .before .before .pre .1 .0),
-  ),
-)
+child-block-requires t c κs =
+    let pre = c .before .before .before .before .before .before .pre in (
+      omega (arith, pre .0),
+      (
+        pre .1 .0 .0,
+        omega (arith, pre .1 .0),
+        pre .1 .0 .2,
+        pre .1 .0 .3,
+        omega (arith, pre .1 .0),
+      ),
+    )
 
 child-leave-requires : (t : ℕ) → child-lts.Need-leave-requires (child-claims t) (child-at t) child.Post
 child-leave-requires t c κs = λ y. omega (
@@ -272,26 +291,30 @@ child-leave-requires t c κs = λ y. omega (
 )
 
 child-returns : (t : ℕ) → child-lts.Need-returns (child-claims t) (child-at t) child.Post
-child-returns t c = (
-  c .before .before .block .ensures .0,
-  command-child (sym (c .before .before .before .before .before .before .before .is-command .ensures)
-      ∙ c .before .before .before .before .before .before .if1 .taken)
-      (c .before .before .before .before .before .before .before .before .before .pre .1 .1)
-      (omega (arith, c .before .before .before .before .before .before .before .before .before .pre .1 .0))
-      (c .before .before .block .ensures .0)
-      (c .before .before .block .ensures .1) (c .before .before .before .before .enter .ensures) (c .leave .ensures),
-)
+child-returns t c =
+    let pre = c .before .before .before .before .before .before .before .before .before .pre in
+    let block = c .before .before .block in (
+      block .ensures .0,
+      command-child (sym (c .before .before .before .before .before .before .before .is-command .ensures)
+          ∙ c .before .before .before .before .before .before .if1 .taken)
+          (pre .1 .1)
+          (omega (arith, pre .1 .0))
+          (block .ensures .0)
+          (block .ensures .1) (c .before .before .before .before .enter .ensures) (c .leave .ensures),
+    )
 
 child-inside-requires : (t : ℕ) → child-lts.Need-inside-requires (child-claims t) (child-at t) child.Post
 child-inside-requires t c κs = c .before .before .before .before .pre .1 .0
 
 child-returns-2 : (t : ℕ) → child-lts.Need-returns-2 (child-claims t) (child-at t) child.Post
-child-returns-2 t c = (
-  past-bounded (c .before .inside .ensures .0) (c .past-bracket .ensures),
-  inside-child (sym (c .before .before .before .before .is-command .ensures) ∙ c .before .before .before .if1 .left)
-      (c .before .before .before .before .before .before .pre .1 .1) (c .before .inside .ensures .0) (c .before .inside .ensures .1)
-      (c .past-bracket .ensures) (omega (arith, c .before .before .before .before .before .before .pre .1 .0)),
-)
+child-returns-2 t c =
+    let pre = c .before .before .before .before .before .before .pre in
+    let inside = c .before .inside in (
+      past-bounded (inside .ensures .0) (c .past-bracket .ensures),
+      inside-child (sym (c .before .before .before .before .is-command .ensures) ∙ c .before .before .before .if1 .left)
+          (pre .1 .1) (inside .ensures .0) (inside .ensures .1)
+          (c .past-bracket .ensures) (omega (arith, pre .1 .0)),
+    )
 
 abbrev content-claims : ℕ → content-lts.Claims
 content-claims t = (
@@ -317,7 +340,9 @@ abbrev content-μ-loop : content-lts.MeasureT-loop
 content-μ-loop text at from kind read nodes pool node tape₀ i₀ state₀ n₀ p₀ tape i state n p = length text - i
 
 content-loop-holds : (t : ℕ) → content-lts.Need-loop-holds (content-claims t) (content-at t) content.Post content-Inv-loop content-μ-loop
-content-loop-holds t c = begun (c .before .pre .1 .0) (c .before .pre .1 .1) (c .before .pre .1 .2)
+content-loop-holds t c =
+    let pre = c .before .pre in
+    begun (pre .1 .0) (pre .1 .1) (pre .1 .2)
 
 content-returns : (t : ℕ) → content-lts.Need-returns (content-claims t) (content-at t) content.Post content-Inv-loop content-μ-loop
 content-returns t c =
@@ -328,18 +353,20 @@ content-returns t c =
 
 content-turn-as-requires : (t : ℕ) → content-lts.Need-turn-as-requires (content-claims t) (content-at t) content.Post content-Inv-loop content-μ-loop
 content-turn-as-requires t c κs =
+    let pre = c .before .before .before .before .before .before .before .pre in
+    let look = c .before .before .before .before .look in
     let inv = c .before .before .before .before .before .loop .inv in
     let goes-on = not-ended _ _ _ (sym (c .before .before .before .ends .ensures) ∙ c .before .before .if1 .left) in (
       inv .nodes-within,
-      turn-fits _ _ (c .before .before .before .before .look .ensures) (inv .within) (goes-on .0) (inv .pool-within),
-      omega (arith, inv .within, c .before .before .before .before .before .before .before .pre .1),
+      turn-fits _ _ (look .ensures) (inv .within) (goes-on .0) (inv .pool-within),
+      omega (arith, inv .within, pre .1),
       omega (
         arith,
-        place-within _ _ (c .before .before .before .before .look .ensures)
+        place-within _ _ (look .ensures)
             (inv .within),
-        c .before .before .before .before .before .before .before .pre .1,
+        pre .1,
       ),
-      c .before .before .before .before .before .before .before .pre .1 .4,
+      pre .1 .4,
     )
 
 content-returns-2 : (t : ℕ) → content-lts.Need-returns-2 (content-claims t) (content-at t) content.Post content-Inv-loop content-μ-loop
@@ -368,47 +395,52 @@ content-loop-less t c =
 
 content-loop-again : (t : ℕ) → content-lts.Need-loop-again (content-claims t) (content-at t) content.Post content-Inv-loop content-μ-loop
 content-loop-again t c =
+    let look = c .before .before .before .before .before .before .before .before .look in
     let inv = c .before .before .before .before .before .before .before .before .before .loop .inv in
     let goes-on = not-ended _ _ _ (sym (c .before .before .before .before .before .before .before .ends .ensures)
     ∙ c .before .before .before .before .before .before .if1 .left) in
     let turned = rw (c .before .t2 .given .1, c .before .before .before .before .before .loose .ensures) at
     (c .before .before .before .turn-as .ensures) in
-    gone-on inv (atom-forward _ _ (c .before .before .before .before .before .before .before .before .look .ensures) (inv .within) (goes-on .0)
+    gone-on inv (atom-forward _ _ (look .ensures) (inv .within) (goes-on .0)
     (turned .0) (inv .nodes-within) (inv .pool-within) (turned .2) (turned .3))
-    (content-atom _ _ (c .before .before .before .before .before .before .before .before .look .ensures) (inv .within) (goes-on .0) (turned .0)
+    (content-atom _ _ (look .ensures) (inv .within) (goes-on .0) (turned .0)
     (turned .1) (turned .2) (turned .3) (turned .4))
 
 content-child-requires : (t : ℕ) → content-lts.Need-child-requires (content-claims t) (content-at t) content.Post content-Inv-loop content-μ-loop
 content-child-requires t c κs =
+    let pre = c .before .before .before .before .before .before .before .before .before .before .before .before .pre in
+    let look = c .before .before .before .before .before .before .before .before .before .look in
     let inv = c .before .before .before .before .before .before .before .before .before .before .loop .inv in
     let goes-on = not-ended _ _ _ (sym (c .before .before .before .before .before .before .before .before .ends .ensures)
     ∙ c .before .before .before .before .before .before .before .if1 .left) in
     let turned = rw (c .before .before .t3 .given .1, c .before .before .before .before .before .before .loose .ensures) at
     (c .before .before .before .before .turn-as .ensures) in
-    let h = list-forward _ _ (c .before .before .before .before .before .before .before .before .before .look .ensures) (inv .within) (goes-on .0)
+    let h = list-forward _ _ (look .ensures) (inv .within) (goes-on .0)
     (turned .0) in (
-      omega (arith, h, c .before .before .before .before .before .before .before .before .before .before .before .before .pre .0, inv .forward),
+      omega (arith, h, pre .0, inv .forward),
       (
         (
           h .1,
           omega (arith, h, inv .nodes-within),
           omega (arith, h, inv .pool-within),
-          c .before .before .before .before .before .before .before .before .before .before .before .before .pre .1 .3,
-          c .before .before .before .before .before .before .before .before .before .before .before .before .pre .1 .4,
+          pre .1 .3,
+          pre .1 .4,
           omega (
             arith,
             turned .2,
-            place-within _ _ (c .before .before .before .before .before .before .before .before .before .look .ensures)
+            place-within _ _ (look .ensures)
                 (inv .within),
           ),
         ),
-        rw (turned .3) (belongs _ _ (c .before .before .before .before .before .before .before .before .before .look .ensures) (inv .within)
+        rw (turned .3) (belongs _ _ (look .ensures) (inv .within)
             (goes-on .0) (turned .0) (goes-on .1)),
       ),
     )
 
 content-returns-3 : (t : ℕ) → content-lts.Need-returns-3 (content-claims t) (content-at t) content.Post content-Inv-loop content-μ-loop
 content-returns-3 t c =
+    let look = c .before .before .before .before .before .before .before .before .before .before .before .before .look in
+    let child = c .before .before .child in
     let inv = c .before .before .before .before .before .before .before .before .before .before .before .before .before .loop .inv in
     let goes-on = not-ended _ _ _ (sym (c .before .before .before .before .before .before .before .before .before .before .before .ends .ensures)
     ∙ c .before .before .before .before .before .before .before .before .before .before .if1 .left) in
@@ -417,12 +449,12 @@ content-returns-3 t c =
       c .before .before .before .before .before .before .before .before .before .loose .ensures,
     ) at
     (c .before .before .before .before .before .before .before .turn-as .ensures) in
-    let h = list-forward _ _ (c .before .before .before .before .before .before .before .before .before .before .before .before .look .ensures)
+    let h = list-forward _ _ (look .ensures)
     (inv .within) (goes-on .0) (turned .0) in
-    answered inv (later (omega (arith, h)) (c .before .before .child .ensures .0))
-    (child-stopped _ _ (c .before .before .before .before .before .before .before .before .before .before .before .before .look .ensures)
-    (inv .within) (goes-on .0) (turned .0) (turned .1) (c .before .before .child .ensures .0)
-    (rw (turned .2, turned .3, turned .4) at (c .before .before .child .ensures .1)) (c .if2 .taken))
+    answered inv (later (omega (arith, h)) (child .ensures .0))
+    (child-stopped _ _ (look .ensures)
+    (inv .within) (goes-on .0) (turned .0) (turned .1) (child .ensures .0)
+    (rw (turned .2, turned .3, turned .4) at (child .ensures .1)) (c .if2 .taken))
 
 content-loop-less-2 : (t : ℕ) → content-lts.Need-loop-less-2 (content-claims t) (content-at t) content.Post content-Inv-loop content-μ-loop
 content-loop-less-2 t c =
@@ -435,6 +467,7 @@ content-loop-less-2 t c =
 
 content-loop-again-2 : (t : ℕ) → content-lts.Need-loop-again-2 (content-claims t) (content-at t) content.Post content-Inv-loop content-μ-loop
 content-loop-again-2 t c =
+    let child = c .before .before .child in
     let inv = c .before .before .before .before .before .before .before .before .before .before .before .before .before .loop .inv in
     let goes-on = not-ended _ _ _ (sym (c .before .before .before .before .before .before .before .before .before .before .before .ends .ensures)
     ∙ c .before .before .before .before .before .before .before .before .before .before .if1 .left) in
@@ -443,10 +476,10 @@ content-loop-again-2 t c =
       c .before .before .before .before .before .before .before .before .before .loose .ensures,
     ) at
     (c .before .before .before .before .before .before .before .turn-as .ensures) in
-    gone-on inv (taken-forward (turned .0) (c .before .before .child .ensures .0) (c .if2 .left))
+    gone-on inv (taken-forward (turned .0) (child .ensures .0) (c .if2 .left))
     (child-passed _ _ (c .before .before .before .before .before .before .before .before .before .before .before .before .look .ensures)
-    (inv .within) (goes-on .0) (turned .0) (turned .1) (c .before .before .child .ensures .0)
-    (rw (turned .2, turned .3, turned .4) at (c .before .before .child .ensures .1)) (c .if2 .left))
+    (inv .within) (goes-on .0) (turned .0) (turned .1) (child .ensures .0)
+    (rw (turned .2, turned .3, turned .4) at (child .ensures .1)) (c .if2 .left))
 
 pub +block+child+content-spec : {M : Type 1} → statement M
 +block+child+content-spec = close μ-block μ-child μ-content (λ t. block-lts.spec (block-claims t) (block-at t)

@@ -37,14 +37,15 @@ enter-requires c κs = (
 )
 
 block-requires : tie.Need-block-requires
-block-requires c κs = (
-  turn-within _ 0 (c .before .before .before .before .before .before .before .before .look .ensures) (omega arith)
-      (c .before .before .before .before .before .before .if1 .left) (c .before .before .before .if3 .left),
-  omega (arith, c .before .before .before .if3 .left),
-  omega arith,
-  c .before .before .before .before .before .before .before .before .before .before .pre,
-  omega arith,
-)
+block-requires c κs =
+    let if3 = c .before .before .before .if3 in (
+      turn-within _ 0 (c .before .before .before .before .before .before .before .before .look .ensures) (omega arith)
+          (c .before .before .before .before .before .before .if1 .left) (if3 .left),
+      omega (arith, if3 .left),
+      omega arith,
+      c .before .before .before .before .before .before .before .before .before .before .pre,
+      omega arith,
+    )
 
 leave-requires : tie.Need-leave-requires
 leave-requires c κs = λ y. omega (
@@ -54,24 +55,28 @@ leave-requires c κs = λ y. omega (
 )
 
 returns-4 : tie.Need-returns-4
-returns-4 c = document-fault _
+returns-4 c =
+    let block = c .before .before .before .before .block in
+    document-fault _
     (c .before .before .before .before .before .before .before .before .before .before .before .before .before .before .before .args .tape .now)
     (c .before .before .before .before .before .before .before .before .before .before .before .before .before .look .ensures)
     (c .before .before .before .before .before .before .before .before .before .before .before .if1 .left)
     (c .before .before .before .before .before .before .before .before .before .if2 .left)
     (c .before .before .before .before .before .before .before .before .if3 .left)
-    (c .before .before .before .before .block .ensures .0)
-    (c .before .before .before .before .block .ensures .1) (c .if4 .taken)
+    (block .ensures .0)
+    (block .ensures .1) (c .if4 .taken)
 
 returns-5 : tie.Need-returns-5
-returns-5 c = document-fine _
+returns-5 c =
+    let block = c .before .before .before .before .block in
+    document-fine _
     (c .before .before .before .before .before .before .before .before .before .before .before .before .before .before .before .args .tape .now)
     (c .before .before .before .before .before .before .before .before .before .before .before .before .before .look .ensures)
     (c .before .before .before .before .before .before .before .before .before .before .before .if1 .left)
     (c .before .before .before .before .before .before .before .before .before .if2 .left)
     (c .before .before .before .before .before .before .before .before .if3 .left)
-    (c .before .before .before .before .block .ensures .0)
-    (c .before .before .before .before .block .ensures .1) (c .if4 .left) (c .before .before .before .before .before .before .enter .ensures)
+    (block .ensures .0)
+    (block .ensures .1) (c .if4 .left) (c .before .before .before .before .before .before .enter .ensures)
     (c .before .before .leave .ensures)
 
 pub judge-imperative-spec : {M : Type 1} → statement M

@@ -6,13 +6,15 @@ use Rattle.reader.proofs.lemmas.walk.OneTurn.{step-goes, step-bad}
 use borrow.Author.Needs.{needs}
 use Rattle.reader.proofs.commands.turn_as.Statement.{statement}
 use Rattle.reader.proofs.commands.turn_as.Tie as tie
-use Rattle.kind.proofs.step.Reads as step-reads
+use Rattle.inside.proofs.step.Reads as step-reads
 use Rattle.reader.proofs.tape.enter.Reads as enter-reads
 use Rattle.reader.proofs.walk.fault_at.Reads as fault-at-reads
 use Rattle.reader.proofs.walk.refusal.Reads as refusal-reads
 
 returns : tie.Need-returns
-returns c = by-step _ (c .before .if1 .taken) (step-bad _ _ _ _ (c .before .if1 .taken) (c .before .before .before .step .ensures .stands)) (c .fault-at .ensures)
+returns c =
+    let if1 = c .before .if1 in
+    by-step _ (if1 .taken) (step-bad _ _ _ _ (if1 .taken) (c .before .before .before .step .ensures .stands)) (c .fault-at .ensures)
 
 returns-2 : tie.Need-returns-2
 returns-2 c = stuck (c .before .if2 .taken) (c .refusal .ensures)

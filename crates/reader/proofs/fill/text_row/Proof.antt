@@ -29,11 +29,12 @@ add-result c =
 
 returns : tie.Need-returns
 returns c =
+    let offset-word = c .before .before .before .offset-word in
     let put = c .before .before .before .before .before .before .before .before in
     let g = put .before .before .before .before .before .before .before .args in
     let a : Filling = record { node = g .node; bytes = g .bytes; words = g .nodes .now; places = g .places .now; pool = g .pool .now } in
-    text-rowed (g .text .now) (g .e) a (put .put-atom .result) (c .before .before .before .offset-word .result) _ _ _ (put .put-atom .ensures .0)
-    (c .before .before .before .offset-word .ensures) (c .before .before .put-record .ensures) refl (put .put-atom .ensures .1)
+    text-rowed (g .text .now) (g .e) a (put .put-atom .result) (offset-word .result) _ _ _ (put .put-atom .ensures .0)
+    (offset-word .ensures) (c .before .before .put-record .ensures) refl (put .put-atom .ensures .1)
 
 pub text-row-spec : {M : Type 1} → statement M
 text-row-spec =

@@ -12,8 +12,8 @@ use borrow.Author.Tests.{eqb-true, eqb-false, leb-true}
 use Rattle.base.proofs.Booleans.{cond-case, bool-case, both, true-T, T-true}
 use Rattle.elements.specs.rules.Class as Class
 use Rattle.elements.specs.rules.Inside.{ended}
-use Rattle.kind.specs.Machine.{stateOf}
-use Rattle.kind.proofs.Steps.{start-state}
+use Rattle.inside.specs.Machine.{stateOf}
+use Rattle.inside.proofs.Steps.{start-state}
 use Rattle.syntax.specs.rules.Byte.{Bracket, closing}
 use Rattle.syntax.specs.rules.Expression.{Expr, list, Exprs, none, and, place}
 use Rattle.lexer.specs.Token.{Seen, seen}

@@ -10,7 +10,8 @@ use borrow.Author.Tests.{eqb-false, leb-false, le-leb, lt-leb, ne-eqb}
 use Rattle.base.proofs.Booleans.{cond-case, cond-under, bool-case, both, or-false, and-true, and-false, true-T, T-true, not-true}
 use Rattle.elements.specs.rules.Class as Class
 use Rattle.syntax.specs.rules.Expression.{Expr, symbol, quoted, list, Exprs, none, and, place}
-use Rattle.lexer.specs.Token.{Seen, atomValue}
+use Rattle.atoms.specs.Atom.{atomValue}
+use Rattle.lexer.specs.Token.{Seen}
 use Rattle.document.specs.rules.Spelling.{isBlockParameter}
 use Rattle.document.specs.rules.Lead.{exprClass, listClass}
 use Rattle.document.specs.reference.Meaning.{fine, judge}

@@ -11,7 +11,7 @@ use lib.Seq.{getD-set-same}
 use Rattle.base.proofs.Booleans.{bool-case, both, true-T, not-T-false}
 use Rattle.elements.specs.rules.Class as Class
 use Rattle.elements.specs.rules.Inside.{start}
-use Rattle.lexer.specs.Token.{atomValue}
+use Rattle.atoms.specs.Atom.{atomValue}
 use Rattle.syntax.specs.rules.Expression.{Expr, symbol, quoted, list, Exprs, none, and}
 use Rattle.base.specs.rules.Limits.{missing}
 use Rattle.document.specs.rules.Document.{text, keyIn, typeIn, widthIn, heightIn}

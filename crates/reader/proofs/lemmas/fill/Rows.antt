@@ -11,7 +11,7 @@ use lib.ListN.{length, drop, set}
 use lib.Seq.{sets}
 use Rattle.base.proofs.Booleans.{cond-case}
 use Rattle.elements.specs.rules.Class as Class
-use Rattle.lexer.specs.Token.{atomValue}
+use Rattle.atoms.specs.Atom.{atomValue}
 use Rattle.base.specs.rules.Limits.{missing}
 use Rattle.document.specs.rules.Record.{recordLength}
 use Rattle.document.specs.rules.Table.{offset}

@@ -11,6 +11,7 @@ use lib.Seq.{sets}
 use Rattle.elements.specs.rules.Class as Class
 use Rattle.syntax.specs.rules.Expression.{Expr, list, Exprs, none, and}
 use Rattle.base.specs.rules.Limits.{missing}
+use Rattle.document.specs.rules.Record.{recordLength}
 use Rattle.document.specs.rules.Document.{Trees, text, node, Nodes, childless, child, isNode, says, sayAll, keyIn, typeIn, widthIn, heightIn}
 use Rattle.document.specs.rules.Lead.{leadClass}
 use Rattle.document.specs.reference.Meaning.{treeOf, treesOf, places, allPlaces}
@@ -26,7 +27,7 @@ pub record WroteRun (parent : ℕ) (es : Exprs) (a z : Filling) : Type 0 where
   pub counted : z .node ≡ a .node + countAll (saidBy es)
   pub pooled : z .bytes ≡ a .bytes + length (poolAll (saidBy es))
   pub placed : length (allPlaces es) ≡ countAll (saidBy es)
-  pub words-are : z .words ≡ sets (a .words) (11 * a .node) (rowsAll (a .node) parent (a .bytes) (saidBy es))
+  pub words-are : z .words ≡ sets (a .words) (recordLength * a .node) (rowsAll (a .node) parent (a .bytes) (saidBy es))
   pub places-are : z .places ≡ sets (a .places) (a .node) (allPlaces es)
   pub pool-is : z .pool ≡ sets (a .pool) (a .bytes) (poolAll (saidBy es))
 
@@ -78,14 +79,14 @@ wrote-on parent x es a m z v w =
     let q : length (poolAll (saidBy (and x es))) ≡ length (poolAll ns) + length (poolAll ms) = ap length p ∙ length-append (poolAll ns) (poolAll ms) in
     let l : length (allPlaces (and x es)) ≡ length (allPlaces (and x none)) + length (allPlaces es) =
     ap length (places-joined x es) ∙ length-append (allPlaces (and x none)) (allPlaces es) in
-    let i : 11 * m .node ≡ 11 * a .node + length (rowsAll (a .node) parent (a .bytes) ns) =
+    let i : recordLength * m .node ≡ recordLength * a .node + length (rowsAll (a .node) parent (a .bytes) ns) =
     omega (arith, v .counted, rows-length-all ns (a .node) parent (a .bytes)) in
     let j : m .node ≡ a .node + length (allPlaces (and x none)) = omega (arith, v .counted, v .placed) in
     record {
       counted = omega (arith, v .counted, w .counted, k);
       pooled = omega (arith, v .pooled, w .pooled, q);
       placed = omega (arith, v .placed, w .placed, k, l);
-      words-are = sets-on (a .words) (m .words) (z .words) (11 * a .node) (11 * m .node) (rowsAll (a .node) parent (a .bytes) ns)
+      words-are = sets-on (a .words) (m .words) (z .words) (recordLength * a .node) (recordLength * m .node) (rowsAll (a .node) parent (a .bytes) ns)
           (rowsAll (m .node) parent (m .bytes) ms) (rowsAll (a .node) parent (a .bytes) (saidBy (and x es))) (v .words-are) (w .words-are) i
           (rw (said-joined x es, v .counted, v .pooled) (rows-joined (a .node) parent (a .bytes) ns ms));
       places-are = sets-on (a .places) (m .places) (z .places) (a .node) (m .node) (allPlaces (and x none)) (allPlaces es) (allPlaces (and x es))
@@ -206,7 +207,7 @@ wrote-element parent at c lead inner a z i l v =
       placed = rw (said, ats) (omega (arith, v .placed));
       words-are =
           rw (said, element-rows (a .node) parent (a .bytes) c end key type w h ns e)
-          (sets-on (a .words) _ (z .words) (11 * a .node) (11 * (a .node + 1)) front (rowsAll (a .node + 1) (a .node) (by + 0) ns)
+          (sets-on (a .words) _ (z .words) (recordLength * a .node) (recordLength * (a .node + 1)) front (rowsAll (a .node + 1) (a .node) (by + 0) ns)
           (c ∷ parent ∷ end ∷ offset (a .bytes) key ∷ length key ∷ offset (a .bytes + length key) type ∷ length type ∷ 0 ∷ 0 ∷ w ∷ h ∷ rowsAll
           (a .node + 1) (a .node) by ns)
           refl (v .words-are) (omega arith) (rw r));

@@ -13,7 +13,7 @@ use Rattle.syntax.specs.rules.Syntax.{Piece, piecesBefore, piecesValue, arePiec
 use Rattle.syntax.specs.rules.Syntax.{Before, another, after, Forest, end, leaf, brackets, bytesBefore, bytesOf, Ok}
 use Rattle.syntax.specs.rules.Expression.{Exprs, locateLeaf, locate}
 use Rattle.syntax.specs.reference.Scan.{closed, quotedFrom, ordinaryRun}
-use Rattle.lexer.specs.Token.{stringEnd, stringAt, contentOf, atomValue}
+use Rattle.atoms.specs.Atom.{stringEnd, stringAt, contentOf, atomValue}
 use Rattle.syntax.proofs.ByteClasses.{FitsAfter, blank-class, ordinary-class, open-class, close-class, fits-end, fits-close}
 use Rattle.syntax.proofs.Strings.{pieces-append}
 use Rattle.syntax.proofs.Items.{run-ends, quoted-string}

@@ -11,8 +11,9 @@ use borrow.Author.Tests.{ne-eqb, le-leb, lt-leb}
 use Rattle.base.proofs.Booleans.{and-false}
 use Rattle.syntax.specs.rules.Byte.{ByteClass, blank, return, quote, forbidden, ordinary, opening, closing, byteClass}
 use Rattle.syntax.specs.rules.Expression.{Expr, symbol, list, Exprs, none, and}
-use Rattle.lexer.specs.Token.{Seen, blanks, seenEnd, seenBy, seenFirst, seen, atomValue}
-use Rattle.lexer.proofs.Blanks.{run-part}
+use Rattle.atoms.specs.Atom.{atomValue}
+use Rattle.lexer.specs.Token.{Seen, blanks, seenEnd, seenBy, seenFirst, seen}
+use Rattle.atoms.proofs.Symbols.{run-part}
 use Rattle.document.specs.rules.Value.{isSize, isDecimal, nonEmpty}
 use Rattle.document.specs.rules.Document.{widthOr, heightOr}
 use Rattle.document.specs.reference.RulesTest.{keepsRules}

@@ -14,8 +14,9 @@ use Rattle.elements.specs.rules.Characters.{typeCharacter, idCharacter, uriChar
 use Rattle.syntax.specs.rules.Expression.{Expr, symbol, quoted, list, Exprs, none, and, place}
 use Rattle.syntax.specs.rules.Syntax.{pieceValue, piecesValue}
 use Rattle.syntax.specs.reference.Scan.{Quoted, closed, unclosed, bad-escape, quotedFrom}
-use Rattle.lexer.specs.Token.{Seen, stringEnd, stringAt, atomValue, fits}
-use Rattle.lexer.proofs.PieceAt.{piece-few}
+use Rattle.atoms.specs.Atom.{stringEnd, stringAt, atomValue, fits}
+use Rattle.lexer.specs.Token.{Seen}
+use Rattle.atoms.proofs.PieceAt.{piece-few}
 use Rattle.document.specs.rules.Value.{nonEmpty, every, namesBlock, targetCharacter, isValue}
 use Rattle.document.specs.rules.Document.{value, keyOf, typeOf}
 use Rattle.document.specs.reference.RulesTest.{keepsRules}

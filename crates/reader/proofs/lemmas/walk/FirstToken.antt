@@ -15,9 +15,11 @@ use Rattle.elements.specs.rules.Class as Class
 use Rattle.syntax.specs.rules.Byte.{ByteClass, blank, return, quote, forbidden, ordinary, opening, closing, byteClass, blankClass, isBlank, ordinaryClass}
 use Rattle.syntax.specs.rules.Byte.{isOrdinary}
 use Rattle.syntax.specs.reference.Scan.{ordinaryRun}
-use Rattle.lexer.specs.Token.{blanks, stringAt, atomValue, leadClassAt, leadLength, seenBy, seenFirst, seen}
+use Rattle.atoms.specs.Atom.{stringAt, atomValue}
+use Rattle.lexer.specs.Token.{blanks, leadClassAt, leadLength, seenBy, seenFirst, seen}
 use Rattle.syntax.proofs.ByteClasses.{ByteOf, class-byte}
-use Rattle.lexer.proofs.Blanks.{blanks-fit, run-fits}
+use Rattle.atoms.proofs.Symbols.{run-fits}
+use Rattle.lexer.proofs.Blanks.{blanks-fit}
 use Rattle.reader.specs.internal.RunStands.{Has}
 use Rattle.reader.proofs.lemmas.walk.QuotedStrings.{StringSpans, string-spans, string-value}
 

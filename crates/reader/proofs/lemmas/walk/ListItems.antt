@@ -13,7 +13,7 @@ use Rattle.elements.specs.rules.Bytes.{among}
 use Rattle.elements.specs.rules.Class as Class
 use Rattle.elements.specs.rules.Rules.{Slot, Content, alternatives, rules, ruleIn, ruleOf}
 use Rattle.elements.specs.rules.Inside.{State, expecting, holding}
-use Rattle.kind.specs.Machine.{stateOf}
+use Rattle.inside.specs.Machine.{stateOf}
 use Rattle.document.specs.rules.Faults.{Begun, Next, Taken, Allowed}
 use Rattle.document.proofs.RuleClasses.{chosen-allowed}
 use Rattle.document.proofs.ElementSteps.{begunOf, stepped as step-says}

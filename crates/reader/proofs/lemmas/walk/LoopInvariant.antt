@@ -14,7 +14,7 @@ use Rattle.base.proofs.Booleans.{bool-case}
 use Rattle.elements.specs.rules.Class as Class
 use Rattle.elements.specs.rules.Class.{isElement}
 use Rattle.elements.specs.rules.Inside.{start}
-use Rattle.kind.proofs.Steps.{start-state}
+use Rattle.inside.proofs.Steps.{start-state}
 use Rattle.syntax.specs.rules.Expression.{Expr, list, Exprs, and}
 use Rattle.document.specs.rules.Lead.{exprClass, listClass}
 use Rattle.document.specs.reference.Meaning.{Verdict, fine, fault, finish, run, judge, judgeValue, valueTree}

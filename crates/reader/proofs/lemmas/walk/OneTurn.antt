@@ -12,7 +12,7 @@ use Rattle.base.proofs.Booleans.{cond-case, both}
 use Rattle.elements.specs.rules.Class as Class
 use Rattle.elements.specs.rules.Rules.{Slot, must, may, id-type, ruleOf}
 use Rattle.elements.specs.rules.Inside.{State, expecting, holding, Step, go, bad, step as stepped, ended}
-use Rattle.kind.specs.Machine.{stateOf, stepOf}
+use Rattle.inside.specs.Machine.{stateOf, stepOf}
 use Rattle.syntax.specs.rules.Expression.{Expr, symbol, quoted, list, Exprs, and, place}
 use Rattle.lexer.specs.Token.{Seen, seen}
 use Rattle.document.specs.rules.Lead.{exprClass}

@@ -8,11 +8,11 @@ use lib.ListN.{length, length-append, getD, drop, length-drop}
 use Rattle.base.proofs.Booleans.{cond-case}
 use Rattle.syntax.specs.rules.Syntax.{Piece, raw, letter, number, pieceBefore, piecesBefore, isPiece, pieceValue, piecesValue}
 use Rattle.syntax.specs.reference.Scan.{Quoted, closed, unclosed, bad-escape, piece, escapeAt, quotedFrom}
-use Rattle.lexer.specs.Token.{StringEnd, stringEnd, stringAt, contentOf, atomValue}
+use Rattle.atoms.specs.Atom.{StringEnd, stringEnd, stringAt, contentOf, atomValue}
 use Rattle.syntax.proofs.Strings.{piece-append}
-use Rattle.lexer.proofs.PieceAt.{piece-few}
-use Rattle.lexer.proofs.Blanks.{run-fits}
-use Rattle.lexer.proofs.Contents.{content-anywhere}
+use Rattle.atoms.proofs.PieceAt.{piece-few}
+use Rattle.atoms.proofs.Symbols.{run-fits}
+use Rattle.atoms.proofs.Contents.{content-anywhere}
 
 -- ---- what a string stands for is no longer than its spelling
 

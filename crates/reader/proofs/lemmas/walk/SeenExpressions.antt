@@ -11,14 +11,17 @@ use Rattle.elements.specs.rules.Bytes.{codes, same}
 use Rattle.syntax.specs.rules.Byte.{Bracket, ByteClass, blank, return, quote, forbidden, ordinary, opening, closing, byteClass, ordinaryClass}
 use Rattle.syntax.specs.reference.Scan.{ordinaryRun}
 use Rattle.syntax.specs.rules.Expression.{Expr, symbol, quoted, list, Exprs, none, and}
-use Rattle.lexer.specs.Token.{blanks, stringAt, leadClassAt, leadLength, Seen, seenEnd, seenBy, seenFirst, seen, atomValue, the-end, a-symbol}
+use Rattle.atoms.specs.Atom.{stringAt, atomValue}
+use Rattle.lexer.specs.Token.{blanks, leadClassAt, leadLength, Seen, seenEnd, seenBy, seenFirst, seen, the-end, a-symbol}
 use Rattle.lexer.specs.Token.{a-string, a-list}
 use Rattle.document.specs.rules.Lead.{leadClass, listClass}
 use Rattle.reader.specs.internal.RunStands.{Has, Ends, at-bracket, at-end, RunStands, ended, after-blank, after-line-end}
 use Rattle.reader.proofs.lemmas.walk.QuotedStrings.{StringSpans, string-spans, string-good}
-use Rattle.lexer.proofs.Blanks.{blanks-fit, run-fits}
+use Rattle.atoms.proofs.Symbols.{run-fits}
+use Rattle.lexer.proofs.Blanks.{blanks-fit}
 use Rattle.reader.proofs.lemmas.walk.FirstToken.{solid, lead-length, run-first, run-none, has-drop, SeenAlike, passes-blank}
-use Rattle.lexer.proofs.Blanks.{blanks-fit, run-fits}
+use Rattle.atoms.proofs.Symbols.{run-fits}
+use Rattle.lexer.proofs.Blanks.{blanks-fit}
 use Rattle.reader.proofs.lemmas.walk.FirstToken.{passes-line-end, TokenHere, here, SymbolHere, symbol-here, StringHere, string-here}
 
 -- Where things are seen from place i on in a text of n bytes, whatever it holds.

@@ -32,11 +32,13 @@ enter-requires c κs = let b = looked-within (c .before .before .before .before 
     (omega (arith, b .1, c .before .before .before .before .before .before .before .before .pre), omega arith, omega arith)
 
 inline-requires : tie.Need-inline-requires
-inline-requires c κs = let b = looked-within (c .before .before .before .before .before .before .before .before .before .before .args .text .now) 0
+inline-requires c κs =
+    let if3 = c .before .before .before .if3 in
+    let b = looked-within (c .before .before .before .before .before .before .before .before .before .before .args .text .now) 0
     (c .before .before .before .before .before .before .before .before .look .ensures) (omega arith) .2
-    (c .before .before .before .before .before .before .if1 .left) (omega (arith, c .before .before .before .if3 .left)) in (
+    (c .before .before .before .before .before .before .if1 .left) (omega (arith, if3 .left)) in (
       b .1,
-      omega (arith, c .before .before .before .if3 .left),
+      omega (arith, if3 .left),
       omega arith,
       c .before .before .before .before .before .before .before .before .before .before .pre,
       omega arith,
@@ -50,18 +52,23 @@ leave-requires c κs = λ y. omega (
 )
 
 returns-4 : tie.Need-returns-4
-returns-4 c = (
-  first-root (c .before .before .before .before .before .before .before .before .before .before .before .before .look .ensures)
-      (c .before .before .before .before .before .before .before .before .before .before .if1 .left) _ _
-      (c .before .before .before .before .before .before .before .before .if2 .left)
-      (omega (arith, c .before .before .before .before .before .before .before .if3 .left)) (to-start (c .before .before .before .inline .ensures))
-      (c .past-bracket .ensures),
-  first-tape (c .before .before .before .before .before .before .before .before .before .before .before .before .look .ensures)
-      (c .before .before .before .before .before .before .before .before .before .before .if1 .left) _ _
-      (c .before .before .before .before .before .before .before .before .if2 .left)
-      (omega (arith, c .before .before .before .before .before .before .before .if3 .left)) (to-start (c .before .before .before .inline .ensures))
-      (c .past-bracket .ensures) _ (c .before .before .before .before .before .enter .ensures) (c .before .leave .ensures),
-)
+returns-4 c =
+    let look = c .before .before .before .before .before .before .before .before .before .before .before .before .look in
+    let if1 = c .before .before .before .before .before .before .before .before .before .before .if1 in
+    let if2 = c .before .before .before .before .before .before .before .before .if2 in
+    let if3 = c .before .before .before .before .before .before .before .if3 in
+    let inline = c .before .before .before .inline in (
+      first-root (look .ensures)
+          (if1 .left) _ _
+          (if2 .left)
+          (omega (arith, if3 .left)) (to-start (inline .ensures))
+          (c .past-bracket .ensures),
+      first-tape (look .ensures)
+          (if1 .left) _ _
+          (if2 .left)
+          (omega (arith, if3 .left)) (to-start (inline .ensures))
+          (c .past-bracket .ensures) _ (c .before .before .before .before .before .enter .ensures) (c .before .leave .ensures),
+    )
 
 pub judge-first-spec : {M : Type 1} → statement M
 judge-first-spec =

@@ -27,14 +27,16 @@ returns-3 c = rw (c .refusal3 .ensures)
     (c .before .before .before .look .ensures) (c .before .if3 .taken))
 
 returns-4 : tie.Need-returns-4
-returns-4 c = size-good _ _ _ _
+returns-4 c =
+    let pre = c .before .before .before .before .before .before .before .before .before .before .before .before .before .before .pre in
+    size-good _ _ _ _
     (c .before .before .before .before .before .before .before .before .before .before .before .before .number-at .ensures)
     (c .before .before .before .before .before .before .before .before .before .before .if1 .left)
     (c .before .before .before .before .before .before .before .before .before .number-at2 .ensures)
     (c .before .before .before .before .before .before .before .if2 .left)
     (c .before .before .before .before .before .before .look .ensures) (c .before .before .before .before .if3 .left)
-    (c .before .before .before .before .before .before .before .before .before .before .before .before .before .before .pre .1)
-    (c .before .before .before .before .before .before .before .before .before .before .before .before .before .before .pre .2)
+    (pre .1)
+    (pre .2)
     (c .before .before .note .ensures) (c .note2 .ensures)
 
 pub size-spec : {M : Type 1} → statement M

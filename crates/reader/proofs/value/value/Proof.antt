@@ -46,12 +46,14 @@ add-t16 c = omega (
 )
 
 returns-4 : tie.Need-returns-4
-returns-4 c = value-good _ _ _ _ (c .before .before .before .before .before .before .before .before .before .if1 .left)
+returns-4 c =
+    let pre = c .before .before .before .before .before .before .before .before .before .before .before .pre in
+    value-good _ _ _ _ (c .before .before .before .before .before .before .before .before .before .if1 .left)
     (c .before .before .before .before .before .before .before .before .only .ensures)
     (not-false _ (c .before .before .before .before .before .before .if2 .left)) (not-false _ (c .before .before .before .before .if3 .left))
     (c .before .before .before .before .before .is-value .ensures)
-    (c .before .before .before .before .before .before .before .before .before .before .before .pre .1)
-    (c .before .before .before .before .before .before .before .before .before .before .before .pre .2) (c .before .before .word-of .ensures)
+    (pre .1)
+    (pre .2) (c .before .before .word-of .ensures)
     (c .before .note .ensures)
 
 pub value-spec : {M : Type 1} → statement M

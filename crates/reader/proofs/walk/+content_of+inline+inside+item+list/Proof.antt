@@ -7,7 +7,7 @@ use native.Mathlib.Omega.{arith}
 use borrow.Author.Needs.{needs}
 use borrow.Author.Tests.{not-true, not-false}
 use lib.ListN.{length}
-use Rattle.kind.specs.Machine.{stateOf}
+use Rattle.inside.specs.Machine.{stateOf}
 use Rattle.reader.specs.internal.WalkAnswer.{Bounded}
 use Rattle.reader.specs.internal.Walk.{TakesList, JudgesList}
 use Rattle.reader.proofs.lemmas.walk.LoopInvariant.{Walking, begun, answered, passed, list-answered, list-forward, list-gone-on}
@@ -32,7 +32,7 @@ use Rattle.reader.proofs.walk.+content_of+inline+inside+item+list.Lts-i
 use Rattle.reader.proofs.walk.list.Reads as list
 use Rattle.reader.proofs.walk.list.Kinds as list-kinds
 use Rattle.reader.proofs.walk.+content_of+inline+inside+item+list.Lts-list as list-lts
-use Rattle.kind.proofs.step.Reads as step-reads
+use Rattle.inside.proofs.step.Reads as step-reads
 use Rattle.lexer.proofs.look.Reads as look-reads
 use Rattle.reader.proofs.tape.enter.Reads as enter-reads
 use Rattle.reader.proofs.value.value.Reads as value-reads
@@ -102,7 +102,9 @@ content-of-list-requires t c κs =
     (omega (arith, pre .0), (pre .1, is-list _ (c .before .before .if1 .left) (c .before .if2 .taken)))
 
 content-of-inline-requires : (t : ℕ) → content-of-lts.Need-inline-requires (content-of-claims t) (content-of-at t) content-of.Post
-content-of-inline-requires t c κs = (omega (arith, c .before .before .before .pre .0), c .before .before .before .pre .1)
+content-of-inline-requires t c κs =
+    let pre = c .before .before .before .pre in
+    (omega (arith, pre .0), pre .1)
 
 content-of-returns : (t : ℕ) → content-of-lts.Need-returns (content-of-claims t) (content-of-at t) content-of.Post
 content-of-returns t c = to-start (c .list .ensures)
@@ -133,16 +135,20 @@ abbrev inline-μ-loop : inline-lts.MeasureT-loop
 inline-μ-loop text at from kind nodes pool node tape₀ i₀ state₀ n₀ p₀ tape i state n p = length text - i
 
 inline-loop-holds : (t : ℕ) → inline-lts.Need-loop-holds (inline-claims t) (inline-at t) inline.Post inline-Inv-loop inline-μ-loop
-inline-loop-holds t c = begun (c .before .pre .1 .0) (c .before .pre .1 .1) (c .before .pre .1 .2)
+inline-loop-holds t c =
+    let pre = c .before .pre in
+    begun (pre .1 .0) (pre .1 .1) (pre .1 .2)
 
 inline-next-turn-requires : (t : ℕ) → inline-lts.Need-next-turn-requires (inline-claims t) (inline-at t) inline.Post inline-Inv-loop inline-μ-loop
-inline-next-turn-requires t c κs = (
-  c .before .loop .inv .within,
-  c .before .loop .inv .nodes-within,
-  c .before .loop .inv .pool-within,
-  c .before .before .before .pre .1 .3,
-  c .before .before .before .pre .1 .4,
-)
+inline-next-turn-requires t c κs =
+    let pre = c .before .before .before .pre in
+    let inv = c .before .loop .inv in (
+      inv .within,
+      inv .nodes-within,
+      inv .pool-within,
+      pre .1 .3,
+      pre .1 .4,
+    )
 
 inline-returns : (t : ℕ) → inline-lts.Need-returns (inline-claims t) (inline-at t) inline.Post inline-Inv-loop inline-μ-loop
 inline-returns t c = answered (c .before .before .before .before .before .loop .inv)
@@ -261,35 +267,39 @@ inside-claims t = (
 )
 
 inside-value-requires : (t : ℕ) → inside-lts.Need-value-requires (inside-claims t) (inside-at t) inside.Post
-inside-value-requires t c κs = (
-  c .before .before .before .before .pre .1 .0,
-  omega (arith, c .before .before .before .before .pre .1),
-  c .before .before .before .before .pre .1 .2,
-  c .before .before .before .before .pre .1 .3,
-  c .before .before .before .before .pre .1 .4,
-)
+inside-value-requires t c κs =
+    let pre = c .before .before .before .before .pre in (
+      pre .1 .0,
+      omega (arith, pre .1),
+      pre .1 .2,
+      pre .1 .3,
+      pre .1 .4,
+    )
 
 inside-returns : (t : ℕ) → inside-lts.Need-returns (inside-claims t) (inside-at t) inside.Post
 inside-returns t c = value-judges (sym (c .before .before .before .is-element .ensures) ∙ not-true _ (c .before .before .if1 .taken))
     (c .value .ensures)
 
 inside-enter-requires : (t : ℕ) → inside-lts.Need-enter-requires (inside-claims t) (inside-at t) inside.Post
-inside-enter-requires t c κs = (omega (arith, c .before .before .before .before .pre .1), c .before .before .before .before .pre .1 .4, omega arith)
+inside-enter-requires t c κs =
+    let pre = c .before .before .before .before .pre in
+    (omega (arith, pre .1), pre .1 .4, omega arith)
 
 inside-add-content-of : (t : ℕ) → inside-lts.Need-add-content-of (inside-claims t) (inside-at t) inside.Post
 inside-add-content-of t c = omega (arith, c .before .before .before .before .before .pre .1, c .before .before .before .before .before .good)
 
 inside-content-of-requires : (t : ℕ) → inside-lts.Need-content-of-requires (inside-claims t) (inside-at t) inside.Post
-inside-content-of-requires t c κs = (
-  omega (arith, c .before .before .before .before .before .before .pre .0),
-  (
-    c .before .before .before .before .before .before .pre .1 .0,
-    omega (arith, c .before .before .before .before .before .before .pre .1),
-    c .before .before .before .before .before .before .pre .1 .2,
-    c .before .before .before .before .before .before .pre .1 .3,
-    omega (arith, c .before .before .before .before .before .before .pre .1),
-  ),
-)
+inside-content-of-requires t c κs =
+    let pre = c .before .before .before .before .before .before .pre in (
+      omega (arith, pre .0),
+      (
+        pre .1 .0,
+        omega (arith, pre .1),
+        pre .1 .2,
+        pre .1 .3,
+        omega (arith, pre .1),
+      ),
+    )
 
 inside-leave-requires : (t : ℕ) → inside-lts.Need-leave-requires (inside-claims t) (inside-at t) inside.Post
 inside-leave-requires t c κs = λ y. omega (
@@ -308,7 +318,9 @@ inside-returns-2 t c =
 
 item-inline-requires :
     (t : ℕ) → item-lts.Need-inline-requires (inline-below t, inline.Post) (item-at t) item.Post
-item-inline-requires t c κs = (omega (arith, c .before .before .pre .0), c .before .before .pre .1)
+item-inline-requires t c κs =
+    let pre = c .before .before .pre in
+    (omega (arith, pre .0), pre .1)
 
 abbrev item-claims : ℕ → item-lts.Claims
 item-claims t = (inline-below t, inline.Post)
@@ -346,23 +358,31 @@ abbrev list-μ-loop : list-lts.MeasureT-loop
 list-μ-loop text at from kind nodes pool node tape₀ i₀ state₀ n₀ p₀ tape i state n p = length text - i
 
 list-loop-holds : (t : ℕ) → list-lts.Need-loop-holds (list-claims t) (list-at t) list.Post list-Inv-loop list-μ-loop
-list-loop-holds t c = (begun (c .before .pre .1 .0 .0) (c .before .pre .1 .0 .1) (c .before .pre .1 .0 .2), bare-start (c .before .args .kind) (c .before .pre .1 .1))
+list-loop-holds t c =
+    let pre = c .before .pre in
+    (begun (pre .1 .0 .0) (pre .1 .0 .1) (pre .1 .0 .2), bare-start (c .before .args .kind) (pre .1 .1))
 
 list-returns : (t : ℕ) → list-lts.Need-returns (list-claims t) (list-at t) list.Post list-Inv-loop list-μ-loop
-list-returns t c = answered (c .before .before .before .before .loop .inv .0)
-    (rw (c .at-end .ensures) (turn-end (c .before .before .before .look .ensures) (c .before .before .before .before .loop .inv .0 .within)
-    (c .before .before .before .before .loop .inv .0 .nodes-within) (c .before .before .before .before .loop .inv .0 .pool-within) (c .before .if1 .taken)))
+list-returns t c =
+    let inv = c .before .before .before .before .loop .inv in
+    answered (inv .0)
+    (rw (c .at-end .ensures) (turn-end (c .before .before .before .look .ensures) (inv .0 .within)
+    (inv .0 .nodes-within) (inv .0 .pool-within) (c .before .if1 .taken)))
 
 list-returns-2 : (t : ℕ) → list-lts.Need-returns-2 (list-claims t) (list-at t) list.Post list-Inv-loop list-μ-loop
-list-returns-2 t c = answered (c .before .before .before .before .before .before .before .loop .inv .0)
+list-returns-2 t c =
+    let inv = c .before .before .before .before .before .before .before .loop .inv in
+    answered (inv .0)
     (rw (c .fault-at .ensures) (turn-fault (c .before .before .before .before .before .before .look .ensures)
-    (c .before .before .before .before .before .before .before .loop .inv .0 .within) _ _ (c .before .before .before .step .ensures .stands)
+    (inv .0 .within) _ _ (c .before .before .before .step .ensures .stands)
     (c .before .before .before .before .if1 .left) (c .before .if2 .taken)))
 
 list-returns-3 : (t : ℕ) → list-lts.Need-returns-3 (list-claims t) (list-at t) list.Post list-Inv-loop list-μ-loop
-list-returns-3 t c = answered (c .before .before .before .before .before .before .before .before .loop .inv .0)
+list-returns-3 t c =
+    let inv = c .before .before .before .before .before .before .before .before .loop .inv in
+    answered (inv .0)
     (rw (c .refusal .ensures) (turn-stuck (c .before .before .before .before .before .before .before .look .ensures)
-    (c .before .before .before .before .before .before .before .before .loop .inv .0 .within) (c .before .before .before .before .before .if1 .left) (c .before .if3 .taken)))
+    (inv .0 .within) (c .before .before .before .before .before .if1 .left) (c .before .if3 .taken)))
 
 -- What a list takes is an item.
 list-taken : (t : ℕ) (c : list-lts.Else3 (list-claims t) (list-at t) list.Post list-Inv-loop list-μ-loop)
@@ -386,9 +406,10 @@ list-taken t c =
 
 list-enter-requires : (t : ℕ) → list-lts.Need-enter-requires (list-claims t) (list-at t) list.Post list-Inv-loop list-μ-loop
 list-enter-requires t c κs =
+    let pre = c .before .before .before .before .before .before .before .before .before .before .pre in
     let turn = list-taken t (c .before) in (
-      omega (arith, turn .0, c .before .before .before .before .before .before .before .before .before .before .pre .1 .0),
-      c .before .before .before .before .before .before .before .before .before .before .pre .1 .0 .4,
+      omega (arith, turn .0, pre .1 .0),
+      pre .1 .0 .4,
       omega arith,
     )
 

@@ -8,12 +8,16 @@ use Rattle.reader.proofs.walk.next_turn.Statement.{statement}
 use Rattle.reader.proofs.walk.next_turn.Tie as tie
 
 returns : tie.Need-returns
-returns c = rw (c .at-end .ensures) (turn-end (ended-here _ _ (c .before .before .closes .ensures (c .before .if1 .taken))) (c .before .before .before .before .pre .0)
-    (c .before .before .before .before .pre .1) (c .before .before .before .before .pre .2) refl)
+returns c =
+    let pre = c .before .before .before .before .pre in
+    rw (c .at-end .ensures) (turn-end (ended-here _ _ (c .before .before .closes .ensures (c .before .if1 .taken))) (pre .0)
+    (pre .1) (pre .2) refl)
 
 returns-2 : tie.Need-returns-2
-returns-2 c = rw (c .at-end2 .ensures) (turn-end (c .before .before .before .look .ensures) (c .before .before .before .before .before .before .before .pre .0)
-    (c .before .before .before .before .before .before .before .pre .1) (c .before .before .before .before .before .before .before .pre .2) (c .before .if2 .taken))
+returns-2 c =
+    let pre = c .before .before .before .before .before .before .before .pre in
+    rw (c .at-end2 .ensures) (turn-end (c .before .before .before .look .ensures) (pre .0)
+    (pre .1) (pre .2) (c .before .if2 .taken))
 
 returns-3 : tie.Need-returns-3
 returns-3 c = rw (c .fault-at .ensures) (turn-fault (c .before .before .before .before .before .before .look .ensures)
@@ -34,39 +38,46 @@ returns-5 c =
 
 enter-requires : tie.Need-enter-requires
 enter-requires c κs =
-    let b = seen-bounds (c .before .before .before .before .before .before .before .before .before .before .before .before .before .args .text .now)
-    (c .before .before .before .before .before .before .before .before .before .before .before .before .before .args .i)
-    (c .before .before .before .before .before .before .before .before .before .before .before .before .before .pre .0) in (
+    let args = c .before .before .before .before .before .before .before .before .before .before .before .before .before .args in
+    let pre = c .before .before .before .before .before .before .before .before .before .before .before .before .before .pre in
+    let b = seen-bounds (args .text .now)
+    (args .i)
+    (pre .0) in (
       omega (
         arith,
         b .place-within,
         c .before .before .before .before .before .before .before .before .before .look .ensures .1,
-        c .before .before .before .before .before .before .before .before .before .before .before .before .before .pre .3,
+        pre .3,
       ),
-      c .before .before .before .before .before .before .before .before .before .before .before .before .before .pre .4,
+      pre .4,
       omega
-          (arith, c .before .before .before .before .before .before .before .before .before .before .before .before .before .pre),
+          (arith, pre),
     )
 
 add-t24 : tie.Need-add-t24
-add-t24 c = omega (
-  arith,
-  seen-within (c .before .before .before .before .before .before .before .before .before .before .before .before .before .before .before .args .text .now)
-      (c .before .before .before .before .before .before .before .before .before .before .before .before .before .before .before .args .i)
-      (c .before .before .before .before .before .before .before .before .before .before .before .look .ensures)
-      (c .before .before .before .before .before .before .before .before .before .before .before .before .before .before .before .pre .0)
-      (c .before .before .before .before .before .before .before .before .before .if2 .left) (c .before .before .before .before .before .if4 .left),
-  c .before .before .before .before .before .before .before .before .before .before .before .before .before .before .before .pre,
-  c .before .before .before .before .before .before .before .before .before .before .before .before .before .before .before .good,
-)
+add-t24 c =
+    let args = c .before .before .before .before .before .before .before .before .before .before .before .before .before .before .before .args in
+    let pre = c .before .before .before .before .before .before .before .before .before .before .before .before .before .before .before .pre in
+    omega (
+      arith,
+      seen-within (args .text .now)
+          (args .i)
+          (c .before .before .before .before .before .before .before .before .before .before .before .look .ensures)
+          (pre .0)
+          (c .before .before .before .before .before .before .before .before .before .if2 .left) (c .before .before .before .before .before .if4 .left),
+      pre,
+      c .before .before .before .before .before .before .before .before .before .before .before .before .before .before .before .good,
+    )
 
 returns-6 : tie.Need-returns-6
-returns-6 c = turn-atom (c .before .before .before .before .before .before .before .before .before .before .before .look .ensures)
-    (c .before .before .before .before .before .before .before .before .before .before .before .before .before .before .before .pre .0) _ _
+returns-6 c =
+    let pre = c .before .before .before .before .before .before .before .before .before .before .before .before .before .before .before .pre in
+    turn-atom (c .before .before .before .before .before .before .before .before .before .before .before .look .ensures)
+    (pre .0) _ _
     (c .before .before .before .before .before .before .before .before .step .ensures .stands)
     (c .before .before .before .before .before .before .before .before .before .if2 .left)
-    (c .before .before .before .before .before .before .before .before .before .before .before .before .before .before .before .pre .1)
-    (c .before .before .before .before .before .before .before .before .before .before .before .before .before .before .before .pre .2)
+    (pre .1)
+    (pre .2)
     (c .before .before .before .before .before .before .if3 .left) (c .before .before .before .before .before .if4 .left) (c .before .before .before .if5 .left)
     (c .before .enter .ensures)
 

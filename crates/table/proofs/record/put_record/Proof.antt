@@ -2,6 +2,7 @@
 use Prim.Native.Nat.{_*_}
 use native.Mathlib.Omega.{arith}
 use lib.ListN.{length-set}
+use Rattle.document.specs.rules.Record.{recordLength}
 use Rattle.table.specs.Stored.{wordsOf}
 use Rattle.table.proofs.Stores.{stores-run}
 use borrow.Author.Needs.{needs}
@@ -9,7 +10,7 @@ use Rattle.table.proofs.record.put_record.Statement.{statement}
 use Rattle.table.proofs.record.put_record.Tie as tie
 
 returns : tie.Need-returns
-returns c = stores-run (c .args .nodes .now) (11 * c .args .i) (wordsOf (c .args .r))
+returns c = stores-run (c .args .nodes .now) (recordLength * c .args .i) (wordsOf (c .args .r))
 
 pub put-record-spec : {M : Type 1} → statement M
 put-record-spec =

@@ -12,7 +12,8 @@ use lib.ListN.{length, getD}
 use Rattle.base.proofs.Booleans.{T-true, not-T-false}
 use Rattle.elements.specs.rules.Rules.{ruleOf}
 use Rattle.elements.specs.rules.Inside.{start}
-use Rattle.kind.specs.Machine.{stateOf}
+use Rattle.inside.specs.Machine.{stateOf}
+use Rattle.document.specs.rules.Record.{recordLength}
 use Rattle.document.specs.rules.Canonical.{nodeFirst, placeValues, layoutAll}
 use Rattle.validate.specs.internal.DraftWalk.{stringsEnd, nodeValues, behindFirst, ChildrenAt}
 use Rattle.validate.proofs.lemmas.records.Decided.{not-held, decides-none, Same, through, decides-same, none-same}
@@ -36,8 +37,8 @@ use Rattle.validate.proofs.draft.+child+children+element+node.Lts-eleme
 use Rattle.validate.proofs.draft.node.Reads as node
 use Rattle.validate.proofs.draft.node.Kinds as node-kinds
 use Rattle.validate.proofs.draft.+child+children+element+node.Lts-node as node-lts
-use Rattle.kind.proofs.may_end.Reads as may-end-reads
-use Rattle.kind.proofs.step.Reads as step-reads
+use Rattle.inside.proofs.may_end.Reads as may-end-reads
+use Rattle.inside.proofs.step.Reads as step-reads
 use Rattle.validate.proofs.draft.lead.Reads as lead-reads
 use Rattle.validate.proofs.draft.refused.Reads as refused-reads
 use Rattle.validate.proofs.draft.text_node.Reads as text-node-reads
@@ -50,16 +51,16 @@ use Rattle.validate.proofs.draft.+child+children+element+node.{statemen
 use Rattle.validate.proofs.draft.+child+children+element+node.Tie.{close}
 
 abbrev μ-child : Measures 2 child-kinds.ps ℕ
-μ-child κs a = length (a .0 .now) - 11 * a .1 .1 .0 + 1
+μ-child κs a = length (a .0 .now) - recordLength * a .1 .1 .0 + 1
 
 abbrev μ-children : Measures 2 children-kinds.ps ℕ
-μ-children κs a = length (a .0 .now) - 11 * a .1 .1 .0 + 2
+μ-children κs a = length (a .0 .now) - recordLength * a .1 .1 .0 + 2
 
 abbrev μ-element : Measures 2 element-kinds.ps ℕ
-μ-element κs a = length (a .0 .now) - 11 * a .1 .1 .0 + 3
+μ-element κs a = length (a .0 .now) - recordLength * a .1 .1 .0 + 3
 
 abbrev μ-node : Measures 2 node-kinds.ps ℕ
-μ-node κs a = length (a .0 .now) - 11 * a .1 .1 .0 + 4
+μ-node κs a = length (a .0 .now) - recordLength * a .1 .1 .0 + 4
 
 abbrev child-at : ℕ → In 2 child-kinds.ps
 child-at t = and 2 child-kinds.ps (is 2 child-kinds.ps μ-child t) child.Pre
@@ -90,7 +91,9 @@ abbrev child-claims : ℕ → child-lts.Claims
 child-claims t = (node-below t, node.Post, words-reads.Asked, words-reads.Learnt, step-reads.Asked, step-reads.Learnt)
 
 child-node-requires : (t : ℕ) → child-lts.Need-node-requires (child-claims t) (child-at t) child.Post
-child-node-requires t c κs = (omega (arith, c .before .before .pre), c .before .before .pre .1 .2)
+child-node-requires t c κs =
+    let pre = c .before .before .pre in
+    (omega (arith, pre), pre .1 .2)
 
 child-returns : (t : ℕ) → child-lts.Need-returns (child-claims t) (child-at t) child.Post
 child-returns t c = child-refused _ _ _ _ (c .before .before .node .ensures) (not-true _ (c .if1 .taken))
@@ -139,7 +142,9 @@ abbrev children-μ-loop : children-lts.MeasureT-loop
 children-μ-loop nodes pool i kind end levels at left due₀ s₀ j₀ p₀ due s j p = end - j
 
 children-lead-requires : (t : ℕ) → children-lts.Need-lead-requires (children-claims t) (children-at t) children.Post children-Inv-loop children-μ-loop
-children-lead-requires t c κs = (c .before .before .pre .1 .0, c .before .before .pre .1 .2)
+children-lead-requires t c κs =
+    let pre = c .before .before .pre in
+    (pre .1 .0, pre .1 .2)
 
 children-returns : (t : ℕ) → children-lts.Need-returns (children-claims t) (children-at t) children.Post children-Inv-loop children-μ-loop
 children-returns t c =

@@ -6,6 +6,7 @@ use lib.Dec.{eqb}
 use Prim.Native.Nat.{_/_}
 use lib.ListN.{length}
 use borrow.Author.Tests.{not-true, not-false, eqb-true, eqb-false}
+use Rattle.document.specs.rules.Record.{recordLength}
 use Rattle.elements.specs.rules.Class as Class
 use Rattle.table.specs.Stored.{wordAt}
 use Rattle.validate.proofs.lemmas.records.RecordTests.{word-there}
@@ -50,7 +51,7 @@ returns-7 c =
     let element = c .before .before .before .before .before .element in
     let if5 = c .before .before .before .if5 in
     let next = element .result .next in
-    let count = length (args .nodes .now) / 11 in
+    let count = length (args .nodes .now) / recordLength in
     draft-told (eqb next count)
     (λ t. record {
       root = element .ensures .sound (not-false _ (if5 .left));

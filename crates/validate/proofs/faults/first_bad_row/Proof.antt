@@ -4,6 +4,7 @@ use mathlib.Core.Path.{_≡_, _∙_, sym, ap}
 use mathlib.Core.Logic.{⊎-elim}
 use native.Mathlib.Omega.{arith}
 use borrow.Author.Needs.{needs}
+use Rattle.document.specs.rules.Record.{recordLength}
 use Rattle.document.specs.reference.Check.{First}
 use Rattle.validate.specs.internal.TableWords.{found, Searched}
 use Rattle.validate.proofs.lemmas.index.BlockIds.{kind-read}
@@ -23,7 +24,7 @@ loop-holds c = λ f s.
     rw e s
 
 cast-if1 : tie.Need-cast-if1 Inv-loop μ-loop
-cast-if1 c = omega (arith, c .shared-slice-known2 .given (11 * c .before .before .loop .i))
+cast-if1 c = omega (arith, c .shared-slice-known2 .given (recordLength * c .before .before .loop .i))
 
 row-differs-requires : tie.Need-row-differs-requires Inv-loop μ-loop
 row-differs-requires c κs = sym (kind-read _ _) ∙ c .if1 .taken

@@ -7,6 +7,7 @@ use mathlib.Core.List.{[]}
 use mathlib.Core.Logic.{⊎-elim}
 use native.Mathlib.Omega.{arith}
 use borrow.Author.Needs.{needs}
+use Rattle.document.specs.rules.Record.{recordLength}
 use Rattle.document.specs.reference.Check.{repeatedId}
 use Rattle.validate.specs.internal.TableWords.{entriesFrom, idsBefore, repeatsAt, found}
 use Rattle.validate.specs.internal.IdIndex.{Indexed}
@@ -26,11 +27,12 @@ abbrev μ-loop : tie.MeasureT-loop
 loop-holds : tie.Need-loop-holds Inv-loop μ-loop
 unfolding idsBefore
 loop-holds c =
-    let e : c .before .before .args .count - 0 ≡ c .before .before .args .count = omega arith in
+    let args = c .before .before .args in
+    let e : args .count - 0 ≡ args .count = omega arith in
     (omega arith, c .before .before .pre .2, rw e)
 
 cast-if1 : tie.Need-cast-if1 Inv-loop μ-loop
-cast-if1 c = omega (arith, c .shared-slice-known3 .given (11 * c .before .before .loop .i))
+cast-if1 c = omega (arith, c .shared-slice-known3 .given (recordLength * c .before .before .loop .i))
 
 repeats-requires : tie.Need-repeats-requires Inv-loop μ-loop
 repeats-requires c κs =

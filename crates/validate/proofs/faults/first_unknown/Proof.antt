@@ -5,6 +5,7 @@ use mathlib.Core.Logic.{⊎-elim}
 use native.Mathlib.Omega.{arith}
 use borrow.Author.Needs.{needs}
 use borrow.Author.Tests.{ne-eqb}
+use Rattle.document.specs.rules.Record.{recordLength}
 use Rattle.document.specs.reference.Check.{unknownTarget}
 use Rattle.validate.specs.internal.TableWords.{entriesFrom, idsBefore, found}
 use Rattle.validate.proofs.lemmas.index.BlockIds.{kind-read, rest, unknown-here, unknown-on, unknown-end}
@@ -25,7 +26,7 @@ loop-holds c =
     rw e
 
 cast-if1 : tie.Need-cast-if1 Inv-loop μ-loop
-cast-if1 c = omega (arith, c .shared-slice-known3 .given (11 * c .before .before .loop .i))
+cast-if1 c = omega (arith, c .shared-slice-known3 .given (recordLength * c .before .before .loop .i))
 
 dangles-requires : tie.Need-dangles-requires Inv-loop μ-loop
 dangles-requires c κs = (sym (kind-read _ _) ∙ c .if1 .taken, c .before .before .before .before .before .before .pre .1)

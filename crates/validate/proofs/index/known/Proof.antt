@@ -36,7 +36,9 @@ cast-j c =
     omega (arith, pre .1 .few, left-first (args .nodes .now) (args .pool .now) (args .only) (args .id .now) _ _ _ (pre .1) (pre .0) .within)
 
 loop-holds : tie.Need-loop-holds Inv-loop μ-loop
-loop-holds c = left-first _ _ _ _ _ _ _ (c .before .before .before .before .pre .1) (c .before .before .before .before .pre .0)
+loop-holds c =
+    let pre = c .before .before .before .before .pre in
+    left-first _ _ _ _ _ _ _ (pre .1) (pre .0)
 
 returns : tie.Need-returns Inv-loop μ-loop
 returns c =

@@ -10,7 +10,7 @@ use borrow.Author.Tests.{eqb-true}
 use Rattle.base.proofs.Booleans.{cond-case, both, both-true, T-true, true-T}
 use Rattle.elements.specs.rules.Class as Class
 use Rattle.elements.specs.rules.Inside.{State, go, bad, step, ended}
-use Rattle.kind.specs.Machine.{stateOf, stepOf}
+use Rattle.inside.specs.Machine.{stateOf, stepOf}
 use Rattle.document.specs.rules.Document.{Tree, Trees, holds, treeClass, Node, node, Nodes, childless, child, isNode, says, sayAll}
 use Rattle.document.specs.reference.RulesTest.{goesOn, keepsRules, keepRules}
 use Rattle.document.specs.rules.Table.{count, countAll, pool, poolAll}

@@ -10,6 +10,7 @@ use borrow.Author.Tests.{eq-eqb}
 use Rattle.base.proofs.Booleans.{both}
 use Rattle.elements.specs.rules.Class as Class
 use Rattle.base.specs.rules.Limits.{missing}
+use Rattle.document.specs.rules.Record.{recordLength}
 use Rattle.document.specs.rules.Document.{treeClass, Node}
 use Rattle.document.specs.reference.RulesTest.{keepsRules, isDocument}
 use Rattle.document.specs.rules.Table.{count, pool}
@@ -27,7 +28,7 @@ use Rattle.validate.proofs.lemmas.draft.ChildWalk.{class-word}
 pub record RootAt (words bytes : List ℕ) (e q : ℕ) : Type 0 where
   pub root : LawfulNodeAt words bytes 0 missing 0 64 e q
   pub of-kind : wordAt words 0 0 ≡ Class.document
-  pub all-words : length words ≡ 11 * e
+  pub all-words : length words ≡ recordLength * e
   pub all-bytes : length bytes ≡ q
   pub few-words : length words ≤ 45056
   pub few-bytes : length bytes ≤ 65536
@@ -56,7 +57,7 @@ draft-root {d} {words} {bytes} i =
     let stored = table-stored d words bytes (i .node-words) (i .pool-bytes) in
     let (lawful, said) = laid-out d (i .document) in
     let (class, keeps) = both (eqb (treeClass (layout d)) Class.document) (keepsRules 0 (layout d)) lawful in
-    let size : length words ≡ 11 * count d = sym (ap length (i .node-words)) ∙ table-length d in
+    let size : length words ≡ recordLength * count d = sym (ap length (i .node-words)) ∙ table-length d in
     let bytes-size : length bytes ≡ length (pool d) = sym (ap length (i .pool-bytes)) in
     record {
       root = record {

@@ -12,6 +12,7 @@ use Rattle.elements.specs.rules.Class as Class
 use Rattle.elements.specs.rules.Rules.{ruleOf}
 use Rattle.elements.specs.rules.Inside.{start}
 use Rattle.utf8.specs.reference.Sequence.{validUpTo}
+use Rattle.document.specs.rules.Record.{recordLength}
 use Rattle.document.specs.reference.RulesTest.{isText, keepsRules, keepRules}
 use Rattle.document.specs.reference.Printing.{part}
 use Rattle.document.specs.rules.Document.{text, element, Trees}
@@ -61,7 +62,7 @@ module _ (words bytes : List ℕ) (i parent p : ℕ) where
       (λ b. record { alone = a; text-at = s; valid = bytes-text _ (λ z. a .some (sym size ∙ z)) b })
       (λ b x. true≢false (sym (text-bytes _ (x .valid) .1) ∙ b)))
 
-  text-recorded : 11 * i + 11 ≤ length words → p ≤ length bytes → TextAt words bytes i parent p → RecordAt words (length bytes) i parent p
+  text-recorded : recordLength * i + recordLength ≤ length words → p ≤ length bytes → TextAt words bytes i parent p → RecordAt words (length bytes) i parent p
   unfolding offsetOf
   text-recorded whole within t =
       let a = t .alone in
@@ -132,7 +133,7 @@ module _ (words bytes : List ℕ) (i parent p : ℕ) where
           n .made ∙ rw none,
         )
 
-    pub text-decides : {left : ℕ} {b : Bool} → 11 * i + 11 ≤ length words → Decided (TextAt words bytes i parent p) b
+    pub text-decides : {left : ℕ} {b : Bool} → recordLength * i + recordLength ≤ length words → Decided (TextAt words bytes i parent p) b
         → DecidesNext (LawfulNodeAt words bytes i parent p left) b (i + 1) (p + wordAt words i 8)
     unfolding count StoredAll nodeOf pool
     text-decides {left} whole d =

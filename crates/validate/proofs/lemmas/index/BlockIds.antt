@@ -11,16 +11,17 @@ use borrow.Author.Tests.{le-leb, lt-leb, eq-eqb, ne-eqb}
 use Rattle.base.proofs.Booleans.{bool-case, and-false}
 use Rattle.elements.specs.rules.Bytes.{same}
 use Rattle.elements.specs.rules.Class.{isBlock}
+use Rattle.document.specs.rules.Record.{recordLength}
 use Rattle.document.specs.rules.Value.{nonEmpty}
 use Rattle.document.specs.reference.Check.{nowhere, at-node, Entry, hasId, isAmong, repeatedId, unknownTarget}
 use Rattle.table.specs.Stored.{wordAt}
 use Rattle.validate.specs.internal.TableWords.{keyAt, entryOfNode, entriesFrom, wanted, idsBefore, repeatsAt, danglesAt}
 
 -- The kind of node i is the first word of its record.
-pub kind-read : (words : List ℕ) (i : ℕ) → getD words (11 * i) 0 ≡ wordAt words i 0
+pub kind-read : (words : List ℕ) (i : ℕ) → getD words (recordLength * i) 0 ≡ wordAt words i 0
 unfolding wordAt
 kind-read words i =
-    let e : 11 * i ≡ 11 * i + 0 = omega arith in
+    let e : recordLength * i ≡ recordLength * i + 0 = omega arith in
     ap (λ (n : ℕ). getD words n 0) e
 
 pub and-both : (a b : Bool) → a && b ≡ true → (a ≡ true) × (b ≡ true)
@@ -73,7 +74,7 @@ module _ (words bytes : List ℕ) where
   any-block i = bool-case (isBlock (wordAt words i 0)) (λ e. rw e) (λ e. rw e)
 
   -- A node whose kind is above those of blocks has no id.
-  pub above-id : (i : ℕ) → 7 < getD words (11 * i) 0 → hasId (entryOfNode words bytes i) ≡ false
+  pub above-id : (i : ℕ) → 7 < getD words (recordLength * i) 0 → hasId (entryOfNode words bytes i) ≡ false
   above-id i l = sym (any-block i) ∙ no-block 0 i (above-blocks _ (rw kind-read at l))
 
   -- One node fewer to look at.

@@ -7,6 +7,7 @@ use native.Mathlib.Omega.{arith}
 use lib.Dec.{eqb, eqb·suc-zero}
 use lib.ListN.{length, take, drop, length-append, length-take, length-drop}
 use borrow.Author.Tests.{eqb-true}
+use Rattle.document.specs.rules.Record.{recordLength}
 use Rattle.document.specs.rules.Document.{Node, node, Nodes}
 use Rattle.document.specs.rules.Table.{countAll, pool, poolAll, offset}
 use Rattle.document.specs.reference.Printing.{part}
@@ -83,7 +84,7 @@ pub record IsNodeOf (words bytes : List ℕ) (i parent p : ℕ) (n : Node) : Typ
 pub stored-node : (n : Node) (words bytes : List ℕ) (i parent p : ℕ) → Stored words bytes i parent p n → p ≤ length bytes → IsNodeOf words bytes i parent p n
 unfolding Stored nodeOf
 stored-node (node k key type text w h ns) words bytes i parent p (e, s1, s2, s3, a) l =
-    let at : (j : ℕ) → j < 11 → _ = λ j b. recorded-word words _ i j e b in
+    let at : (j : ℕ) → j < recordLength → _ = λ j b. recorded-word words _ i j e b in
     let w4 : wordAt words i 4 ≡ length key = at 4 (omega arith) in
     let w6 : wordAt words i 6 ≡ length type = at 6 (omega arith) in
     let w8 : wordAt words i 8 ≡ length text = at 8 (omega arith) in

@@ -10,6 +10,7 @@ use borrow.Author.Tests.{eq-eqb, ne-eqb, eqb-true, eqb-false, ltb-true, ltb-fals
 use Rattle.base.proofs.Booleans.{bool-case, true-T, T-true}
 use Rattle.utf8.specs.reference.Sequence.{validUpTo}
 use Rattle.base.specs.rules.Limits.{missing}
+use Rattle.document.specs.rules.Record.{recordLength}
 use Rattle.document.specs.rules.Value.{nonEmpty}
 use Rattle.document.specs.reference.RulesTest.{isText}
 use Rattle.table.specs.Stored.{wordAt, Recorded}
@@ -20,18 +21,18 @@ use Rattle.validate.proofs.lemmas.records.Decided.{decided-by, denied, 
 -- ---- the words of a record
 
 -- A word past the table's end is 0.
-pub word-past : (words : List ℕ) (i j : ℕ) → length words ≤ 11 * i + j → wordAt words i j ≡ 0
+pub word-past : (words : List ℕ) (i j : ℕ) → length words ≤ recordLength * i + j → wordAt words i j ≡ 0
 unfolding wordAt
 word-past words i j h = List·getD-eq-default words 0 h
 
 -- A word that is not 0 is there.
-pub word-there : (words : List ℕ) (i j : ℕ) → 0 < wordAt words i j → 11 * i + j < length words
+pub word-there : (words : List ℕ) (i j : ℕ) → 0 < wordAt words i j → recordLength * i + j < length words
 word-there words i j h =
-    bool-case (ltb (11 * i + j) (length words)) (λ e. ltb-true _ _ e)
+    bool-case (ltb (recordLength * i + j) (length words)) (λ e. ltb-true _ _ e)
     (λ e. absurd (omega (arith, word-past words i j (ltb-false _ _ e))))
 
 -- The words of a record that is there whole.
-pub word-in : (words r : List ℕ) (i j : ℕ) → Recorded words i r → j < 11 → getD r j 0 ≡ wordAt words i j
+pub word-in : (words r : List ℕ) (i j : ℕ) → Recorded words i r → j < recordLength → getD r j 0 ≡ wordAt words i j
 word-in words r i j e h = sym (recorded-word words r i j e h)
 
 -- ---- the tests

@@ -12,8 +12,8 @@ use Rattle.elements.specs.rules.Class as Class
 use Rattle.elements.specs.rules.Characters.{idCharacter, uriCharacter, characterOf}
 use Rattle.elements.specs.rules.Rules.{ruleOf}
 use Rattle.elements.specs.rules.Inside.{go, bad, step, start}
-use Rattle.kind.specs.Machine.{stateOf, stepOf}
-use Rattle.kind.proofs.Steps.{start-state}
+use Rattle.inside.specs.Machine.{stateOf, stepOf}
+use Rattle.inside.proofs.Steps.{start-state}
 use Rattle.base.specs.rules.Limits.{missing}
 use Rattle.document.specs.rules.Document.{Trees, empty, holds, treeClass, Nodes, childless, child}
 use Rattle.document.specs.reference.RulesTest.{goesOn, keepsRules, keepRules}

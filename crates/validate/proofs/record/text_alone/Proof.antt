@@ -1,6 +1,7 @@
 -- `record::text_alone` meets its contract.
 use Prim.Native.Nat.{ℕ, _<_}
 use native.Mathlib.Omega.{arith}
+use Rattle.document.specs.rules.Record.{recordLength}
 use Rattle.validate.proofs.lemmas.records.RecordTests.{word-in, alone-tests}
 use borrow.Author.Needs.{needs}
 use Rattle.validate.proofs.record.text_alone.Statement.{statement}
@@ -16,7 +17,7 @@ returns : tie.Need-returns
 returns c =
     let args = c .before .before .before .before .before .before .before .before .before .args in
     λ words i e.
-    let at : (j : ℕ) → j < 11 → _ = λ j h. word-in words (args .r .now) i j e h in
+    let at : (j : ℕ) → j < recordLength → _ = λ j h. word-in words (args .r .now) i j e h in
     rw (
       at 1 (omega arith),
       at 2 (omega arith),

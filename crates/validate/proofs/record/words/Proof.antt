@@ -3,6 +3,7 @@ use Prim.Native.Nat.{_+_, _*_, _-_}
 use mathlib.Core.Path.{_≡_}
 use native.Mathlib.Omega.{arith}
 use lib.ListN.{length-take, length-drop}
+use Rattle.document.specs.rules.Record.{recordLength}
 use Rattle.table.specs.Stored.{Recorded}
 use borrow.Author.Needs.{needs}
 use Rattle.validate.proofs.record.words.Statement.{statement}
@@ -11,7 +12,7 @@ use Rattle.validate.proofs.record.words.Tie as tie
 returns : tie.Need-returns
 unfolding Recorded
 returns c =
-    let e : 11 * c .before .args .i + 11 - 11 * c .before .args .i ≡ 11 = omega arith in
+    let e : recordLength * c .before .args .i + recordLength - recordLength * c .before .args .i ≡ recordLength = omega arith in
     (rw e, simp (length-take, length-drop) (omega arith))
 
 pub words-spec : {M : Type 1} → statement M

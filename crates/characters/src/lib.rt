@@ -1,0 +1,8 @@
+// The classes of bytes and the characters of values (document 01, "Characters and brackets" and "Elements").
+pub mod class; // class.rt: the classes of bytes
+mod place; // place.rt: the bytes of a text by their places
+mod values; // values.rt: the characters of values
+
+pub use class::byte_class;
+pub use place::byte_at;
+pub use values::character;
