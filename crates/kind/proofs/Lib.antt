@@ -1,2 +1,3 @@
+-- Laws that several source files and other crates cite.
 pub mod Arms
 pub mod Chosen
