@@ -1,4 +1,3 @@
--- Laws that several source files and other crates cite: symbols, and the pieces and contents of strings.
-pub mod Symbols
+-- Laws that several source files and other crates cite: the pieces and contents of strings.
 pub mod PieceAt
 pub mod Contents

@@ -13,7 +13,7 @@ use Rattle.syntax.specs.reference.Scan.{ordinaryRun}
 use Rattle.characters.specs.Codes.{codeOf}
 use Rattle.atoms.specs.Atom.{stringAt}
 use Rattle.lexer.specs.Token.{blanks, leadClassAt, leadLength, Seen, seenEnd, seenBy, seenFirst, seen}
-use Rattle.atoms.proofs.Symbols.{run-fits, run-part}
+use Rattle.characters.proofs.Symbols.{run-fits, run-part}
 use Rattle.lexer.proofs.Blanks.{blank-stop, blanks-fit}
 use Rattle.characters.proofs.ClassNumbers.{classBy, code-class}
 

@@ -1,8 +1,8 @@
 // White space, and what is seen at a place (document 01, "Characters and brackets").
 use atoms::string_at;
-use atoms::symbol_end;
 use characters::byte_at;
 use characters::class;
+use characters::symbol_end;
 ghost use mathlib.Core.Path.{_≡_};
 ghost use lib.ListN.{drop, length};
 ghost use Prim.Native.Nat.{_+_, _<_};

@@ -16,7 +16,7 @@ pub struct LineColumn {
 
 // The leading one bits of a byte: two to four in the first byte of a multi-byte sequence, as many as
 // the sequence has bytes.
-pub fn leading_ones(b: u8) -> u32
+fn leading_ones(b: u8) -> u32
     ensures { λ r. ⌜ r ≡ leadingOnes b ⌝ }
 {
     u8::leading_zeros(!b)

@@ -16,7 +16,7 @@ use Rattle.syntax.specs.rules.Byte.{byteClass}
 use Rattle.characters.specs.Codes.{codeOf}
 use Rattle.atoms.specs.Atom.{stringAt, contentOf, pieceAt, fits}
 use Rattle.elements.proofs.Characters.{none-high}
-use Rattle.atoms.proofs.Symbols.{run-turn, run-stop}
+use Rattle.characters.proofs.Symbols.{run-turn, run-stop}
 use Rattle.characters.proofs.ClassNumbers.{ordinary-yes, ordinary-no}
 use Rattle.atoms.proofs.PieceAt.{piece-few, Told, PieceStands, stands-told, stays, moves, read-on}
 use Rattle.atoms.proofs.Contents.{isClosed, piece-closed, no-piece, closed-string, content-inner, fault-nothing}

@@ -7,7 +7,7 @@ use native.Mathlib.Omega.{arith}
 use borrow.Author.Needs.{needs}
 use lib.ListN.{length, take, drop, length-drop, drop-of-length-le}
 use Rattle.syntax.specs.reference.Scan.{ordinaryRun}
-use Rattle.atoms.proofs.Symbols.{run-fits, run-part}
+use Rattle.characters.proofs.Symbols.{run-fits, run-part}
 use Rattle.atoms.proofs.stores.put_symbol.Statement.{statement}
 use Rattle.atoms.proofs.stores.put_symbol.Tie as tie
 

@@ -13,7 +13,7 @@ use Rattle.syntax.specs.rules.Byte.{ByteClass, blank, return, quote, forbidden,
 use Rattle.syntax.specs.rules.Expression.{Expr, symbol, list, Exprs, none, and}
 use Rattle.atoms.specs.Atom.{atomValue}
 use Rattle.lexer.specs.Token.{Seen, blanks, seenEnd, seenBy, seenFirst, seen}
-use Rattle.atoms.proofs.Symbols.{run-part}
+use Rattle.characters.proofs.Symbols.{run-part}
 use Rattle.document.specs.rules.Value.{isSize, isDecimal, nonEmpty}
 use Rattle.document.specs.rules.Document.{widthOr, heightOr}
 use Rattle.document.specs.reference.RulesTest.{keepsRules}

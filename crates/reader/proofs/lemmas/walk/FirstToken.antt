@@ -18,7 +18,7 @@ use Rattle.syntax.specs.reference.Scan.{ordinaryRun}
 use Rattle.atoms.specs.Atom.{stringAt, atomValue}
 use Rattle.lexer.specs.Token.{blanks, leadClassAt, leadLength, seenBy, seenFirst, seen}
 use Rattle.syntax.proofs.ByteClasses.{ByteOf, class-byte}
-use Rattle.atoms.proofs.Symbols.{run-fits}
+use Rattle.characters.proofs.Symbols.{run-fits}
 use Rattle.lexer.proofs.Blanks.{blanks-fit}
 use Rattle.reader.specs.internal.RunStands.{Has}
 use Rattle.reader.proofs.lemmas.walk.QuotedStrings.{StringSpans, string-spans, string-value}

@@ -11,7 +11,7 @@ use Rattle.syntax.specs.reference.Scan.{Quoted, closed, unclosed, bad-escape, p
 use Rattle.atoms.specs.Atom.{StringEnd, stringEnd, stringAt, contentOf, atomValue}
 use Rattle.syntax.proofs.Strings.{piece-append}
 use Rattle.atoms.proofs.PieceAt.{piece-few}
-use Rattle.atoms.proofs.Symbols.{run-fits}
+use Rattle.characters.proofs.Symbols.{run-fits}
 use Rattle.atoms.proofs.Contents.{content-anywhere}
 
 -- ---- what a string stands for is no longer than its spelling

@@ -17,11 +17,9 @@ use Rattle.lexer.specs.Token.{a-string, a-list}
 use Rattle.document.specs.rules.Lead.{leadClass, listClass}
 use Rattle.reader.specs.internal.RunStands.{Has, Ends, at-bracket, at-end, RunStands, ended, after-blank, after-line-end}
 use Rattle.reader.proofs.lemmas.walk.QuotedStrings.{StringSpans, string-spans, string-good}
-use Rattle.atoms.proofs.Symbols.{run-fits}
+use Rattle.characters.proofs.Symbols.{run-fits}
 use Rattle.lexer.proofs.Blanks.{blanks-fit}
 use Rattle.reader.proofs.lemmas.walk.FirstToken.{solid, lead-length, run-first, run-none, has-drop, SeenAlike, passes-blank}
-use Rattle.atoms.proofs.Symbols.{run-fits}
-use Rattle.lexer.proofs.Blanks.{blanks-fit}
 use Rattle.reader.proofs.lemmas.walk.FirstToken.{passes-line-end, TokenHere, here, SymbolHere, symbol-here, StringHere, string-here}
 
 -- Where things are seen from place i on in a text of n bytes, whatever it holds.
