@@ -1,4 +1,4 @@
-/* Reads a file and prints what the reader answers. In the repository's root:
+/* Reads a file, checks what reading left, and prints what they answer. In the repository's root:
  *
  *     rt staticlib structural
  *     cc -std=c99 -Wall -Wextra -Werror -I include examples/read.c target/staticlib/libstructural.a -o target/read
@@ -24,7 +24,7 @@ static uint32_t places[STRUCTURAL_MAX_NODES];
 static uint8_t pool[STRUCTURAL_MAX_POOL];
 
 static const char *const meanings[] = {
-    [STRUCTURAL_OK] = "the text is a well-formed document",
+    [STRUCTURAL_OK] = "nothing is refused",
     [STRUCTURAL_TEXT_TOO_LONG] = "the text has more than 65,536 bytes",
     [STRUCTURAL_NOT_UTF8] = "the text is not UTF-8",
     [STRUCTURAL_FORBIDDEN_CHARACTER] = "a character that is forbidden outside strings",
@@ -79,6 +79,37 @@ static void read_text(bool imperative, size_t length, uint32_t *answer)
                                STRUCTURAL_READ_WORDS);
 }
 
+/* Line and column of a place, both from 1. A column is a code point, which has one byte outside 0x80 to 0xBF. */
+static void locate(uint32_t place, uint32_t *line, uint32_t *column)
+{
+    *line = 1;
+    *column = 1;
+    for (uint32_t i = 0; i < place; i++) {
+        if (text[i] == '\n') {
+            ++*line;
+            *column = 1;
+        } else if (text[i] < 0x80 || text[i] > 0xBF) {
+            ++*column;
+        }
+    }
+}
+
+/* Of what reading left under 0: puts a fault of rows, ids or links (15 to 18) into reading's answer, at the place of
+ * the node that has it.
+ */
+static void check_table(uint32_t *answer)
+{
+    uint32_t checked[STRUCTURAL_CHECK_WORDS];
+    uint32_t number = structural_check(nodes, sizeof nodes / sizeof *nodes, answer[STRUCTURAL_READ_NODES], pool,
+                                       sizeof pool, answer[STRUCTURAL_READ_POOL], checked, STRUCTURAL_CHECK_WORDS);
+    if (number == STRUCTURAL_OK)
+        return;
+    uint32_t place = places[checked[STRUCTURAL_CHECK_NODE]];
+    answer[STRUCTURAL_READ_NUMBER] = number;
+    answer[STRUCTURAL_READ_PLACE] = place;
+    locate(place, &answer[STRUCTURAL_READ_LINE], &answer[STRUCTURAL_READ_COLUMN]);
+}
+
 /* The exit status. */
 static int show(const char *name, const uint32_t *answer)
 {
@@ -108,5 +139,7 @@ int main(int count, char **words)
     }
     uint32_t answer[STRUCTURAL_READ_WORDS];
     read_text(option || ends_in(name, ".sdi"), length, answer);
+    if (answer[STRUCTURAL_READ_NUMBER] == STRUCTURAL_OK)
+        check_table(answer);
     return show(name, answer);
 }

@@ -1,4 +1,10 @@
-/* Structural 3.0.0: reading a document in either spelling, and printing its canonical spelling.
+/* Structural 3.0.0: reading a document in either spelling, checking it, and printing its canonical spelling.
+ *
+ * SINCE VERSION 0.2.0 READING DOES NOT ANSWER 15 TO 18. It answers 0 for every draft, that is for a document that
+ * may still have faults of rows, ids and links. A caller who only reads no longer hears of these: call
+ * structural_check on what reading left, with the counts that it answered. It says 15 to 18 with a node, and the place
+ * list has the place of that node. Reading and then, under 0, checking answer together what reading alone answered in
+ * version 0.1.0; line and column of the place are then for the caller to count.
  *
  * The functions are in target/staticlib/libstructural.a, which `rt staticlib structural` writes, for
  * x86-64 Linux. docs/LANGUAGE.md has the rules that the numbers below answer for.
@@ -9,8 +15,8 @@
  *   - that many elements can be read there and, where the pointer is not to const, written;
  *   - a slice that is written overlaps no other slice of the call, and nothing else uses it meanwhile.
  * Nothing is kept after a call and nothing is shared between calls, so several threads may call at once.
- * Nothing is allocated: a call takes its memory from the stack. Measured at 64 levels of brackets, reading took
- * 185,168 bytes of it and printing 53,920.
+ * Nothing is allocated: a call takes its memory from the stack. Measured at 64 levels of brackets, in a thread that
+ * does nothing else, reading took 156,056 bytes of it, checking 53,824 and printing 21,056.
  */
 #ifndef STRUCTURAL_H
 #define STRUCTURAL_H
@@ -32,13 +38,18 @@ extern "C" {
 
 /* ---- Numbers: what a call answers ----
  *
- * Reading answers 0 to 19. The first group that applies decides, in the order 1, 2, 3 to 6, 7, 8 to 12,
- * 19, 13, 14, 15 to 18. The place is an offset in the text; what stands there is said after "at".
- * Under 1 to 14 and 19 the lent slices keep all their values. Under 0 and 15 to 18 they are filled, and
- * what lies past the used part keeps its values.
+ * Reading answers 0 to 14 and 19. The first group that applies decides, in the order 1, 2, 3 to 6, 7, 8 to 12,
+ * 19, 13, 14. The place is an offset in the text; what stands there is said after "at". Under 0 the lent slices
+ * are filled, and what lies past the used part keeps its values. Under all others they keep all their values.
+ *
+ * The check answers 0, 15 to 18 and 20: 20 first, then 15, 16, 17 and 18, each over the whole document before the
+ * next. The node is the first one that has the fault, which is said after "at". It changes nothing that is lent but
+ * the words of its answer.
+ *
+ * Printing answers 0, 20 and 21, in the order 20, 21. It does not look for 15 to 18: drafts are printed.
  */
 
-/* the text is a well-formed document; printing: the spelling is written */
+/* nothing is refused; reading: the text is a draft; check: it is well-formed; printing: the spelling is written */
 #define STRUCTURAL_OK 0u
 /* the text has more than 65,536 bytes; at 65,536 */
 #define STRUCTURAL_TEXT_TOO_LONG 1u
@@ -68,17 +79,17 @@ extern "C" {
 #define STRUCTURAL_NODES_SHORT 13u
 /* the pool is too short; at 0, counts needed */
 #define STRUCTURAL_POOL_SHORT 14u
-/* a row has another number of cells than its table's head has names; at the first such row */
+/* a row has another number of cells than its table's head has names; check, at the first such row */
 #define STRUCTURAL_ROW_LENGTH 15u
-/* a block has the id of an earlier block; at the first such block */
+/* a block has the id of an earlier block; check, at the first such block */
 #define STRUCTURAL_REPEATED_ID 16u
-/* a link's target is the id of no block; at the first such link */
+/* a link's target is the id of no block; check, at the first such link */
 #define STRUCTURAL_UNKNOWN_TARGET 17u
-/* a footnote reference's target is the id of no footnote; at the first such reference */
+/* a footnote reference's target is the id of no footnote; check, at the first such reference */
 #define STRUCTURAL_UNKNOWN_FOOTNOTE 18u
 /* imperative: the nested form would nest more than 64 deep; at 0 */
 #define STRUCTURAL_NESTED_TOO_DEEP 19u
-/* printing: not the table of a well-formed document within the limits; also where a count is beyond what is lent */
+/* not the table of a draft within the limits; check and printing, also where a count is beyond what is lent */
 #define STRUCTURAL_NOT_A_TABLE 20u
 /* printing: the output is too short; the length is the one needed */
 #define STRUCTURAL_OUTPUT_SHORT 21u
@@ -94,8 +105,13 @@ extern "C" {
 #define STRUCTURAL_READ_PLACE 1u           /* offset in the text, 0 where the number has none */
 #define STRUCTURAL_READ_LINE 2u            /* line of the place, from 1 */
 #define STRUCTURAL_READ_COLUMN 3u          /* column of the place, from 1, in code points */
-#define STRUCTURAL_READ_NODES 4u           /* nodes used under 0 and 15 to 18, needed under 13 and 14, else 0 */
+#define STRUCTURAL_READ_NODES 4u           /* nodes used under 0, needed under 13 and 14, else 0 */
 #define STRUCTURAL_READ_POOL 5u            /* pool bytes, likewise */
+
+/* Check: two words. */
+#define STRUCTURAL_CHECK_WORDS 2u
+#define STRUCTURAL_CHECK_NUMBER 0u
+#define STRUCTURAL_CHECK_NODE 1u           /* the first node with the fault; 0 under 0 and 20 */
 
 /* Printing: two words. */
 #define STRUCTURAL_PRINT_WORDS 2u
@@ -157,7 +173,8 @@ extern "C" {
 
 /* Reads a text in the nested spelling. Fills `nodes` with STRUCTURAL_NODE_WORDS words a node, `places`
  * with one word a node, `pool` with the strings, and the first six words of `answer`; later words of it
- * are left. Returns the number. To ask what a text needs, lend lengths of 0: 13 has both counts.
+ * are left. Returns the number, 0 to 14 or 19: whether the document is well-formed, structural_check says.
+ * To ask what a text needs, lend lengths of 0: 13 has both counts.
  */
 uint32_t structural_read_nested(const uint8_t *text, size_t text_length,
                                 uint32_t *nodes, size_t nodes_length,
@@ -172,7 +189,16 @@ uint32_t structural_read_imperative(const uint8_t *text, size_t text_length,
                                     uint8_t *pool, size_t pool_length,
                                     uint32_t *answer, size_t answer_length);
 
-/* Writes the canonical spelling of the document whose table is the first `node_count` nodes and the first
+/* Checks the table that is the first `node_count` nodes and the first `pool_count` pool bytes, as reading left them
+ * with the counts that it answered; what lies past them is not looked at. Fills the first two words of `answer`; later
+ * ones are left. Returns the number, 0, 15 to 18 or 20. The place of a fault is the word of the place list that has the
+ * node's number; 20 never comes of what reading left under 0.
+ */
+uint32_t structural_check(const uint32_t *nodes, size_t nodes_length, uint32_t node_count,
+                          const uint8_t *pool, size_t pool_length, uint32_t pool_count,
+                          uint32_t *answer, size_t answer_length);
+
+/* Writes the canonical spelling of the draft whose table is the first `node_count` nodes and the first
  * `pool_count` pool bytes; what lies past them is not looked at. There is no line end at its close, and
  * what follows it in `out` keeps its values. Fills the first two words of `answer`; later ones are left.
  * Returns the number, 0, 20 or 21; under 20 and 21 `out` keeps all its values. To ask how long the

@@ -12,37 +12,27 @@ use Rattle.utf8.specs.rules.Scalar.{IsUtf8}
 use Rattle.utf8.specs.reference.Sequence.{validUpTo}
 use Rattle.utf8.proofs.Walk.{valid-within}
 use Rattle.utf8.proofs.Agree.{valid-utf8, utf8-valid, fault-place, place-fault}
-use Rattle.document.specs.rules.Document.{Node, says, Document}
+use Rattle.document.specs.rules.Document.{Node, says}
 use Rattle.base.specs.rules.Limits.{mostBytes}
 use Rattle.document.specs.rules.Spelling.{Spelling, Spells, WithinLimits, nodePlaces}
 use Rattle.document.specs.reference.Meaning.{treeOf}
 use Rattle.document.specs.rules.Table.{count, pool}
-use Rattle.document.specs.reference.Check.{Check, sound, unsound, check, Decides}
-use Rattle.document.specs.reference.Outcome.{Reading, refused, read, reading, checked, stored, afterReading, outcome}
+use Rattle.document.specs.reference.Outcome.{Reading, refused, read, reading, stored, afterReading, outcome}
 use Rattle.document.specs.rules.Memory.{Memory, Outcome, nodeRoom}
 use Rattle.document.specs.rules.Account as Account
-use Rattle.document.specs.rules.Account.{Answers, too-long, ill-formed, no-node-room, no-pool-room, has-fault, accepted}
+use Rattle.document.specs.rules.Account.{Answers, too-long, ill-formed, no-node-room, no-pool-room, accepted}
 use Rattle.document.proofs.NestedForms.{spelled-form, spelled-means}
 use Rattle.document.proofs.ReadingDecided.{ReadingHolds, found, refused-read, spelled-read}
-use Rattle.document.proofs.FirstFaults.{check-decides, well-formed-check, fault-check}
-
--- What a text spells is a document.
-document-of : {s : Spelling} {d : Node} {text : List ℕ} → Spells s d text → Document d
-document-of sp = record { tree = sp .tree; lawful = sp .lawful; said = sp .said }
 
 stored-answers : (s : Spelling) (text : List ℕ) (m : Memory) (d : Node) (sp : Spells s d text) → WithinLimits s text (sp .forest)
     → Answers s text m (stored text m (nodePlaces sp) d)
-unfolding stored checked
+unfolding stored
 stored-answers s text m d sp l =
     cond-case (Answers s text m) (ltb (nodeRoom m) (count d))
     (λ e. no-node-room sp l (ltb-true (nodeRoom m) (count d) e))
     (λ e. cond-case (Answers s text m) (ltb (length (m .pool)) (length (pool d)))
     (λ f. no-pool-room sp l (ltb-false (nodeRoom m) (count d) e) (ltb-true (length (m .pool)) (length (pool d)) f))
-    (λ f. go (ltb-false (nodeRoom m) (count d) e) (ltb-false (length (m .pool)) (length (pool d)) f) (check d) (check-decides d (document-of sp))))
-  where
-    go : count d ≤ nodeRoom m → length (pool d) ≤ length (m .pool) → (c : Check) → Decides d c → Answers s text m (checked text m (nodePlaces sp) d c)
-    go nodes bytes sound w = accepted sp l nodes bytes w
-    go nodes bytes (unsound n i) f = has-fault sp l nodes bytes f
+    (λ f. accepted sp l (ltb-false (nodeRoom m) (count d) e) (ltb-false (length (m .pool)) (length (pool d)) f)))
 
 read-answers : (s : Spelling) (text : List ℕ) (m : Memory) → length text ≤ mostBytes → IsUtf8 text → (r : Reading) → ReadingHolds s text r
     → Answers s text m (afterReading text m r)
@@ -80,7 +70,7 @@ spelled-stored s text m d sp l =
 
 -- Whatever the account tells of a text is what reading answers.
 pub answers-only : (s : Spelling) (text : List ℕ) (m : Memory) (o : Outcome) → Answers s text m o → outcome s text m ≡ o
-unfolding outcome afterReading stored checked
+unfolding outcome afterReading stored
 answers-only s text m o (too-long long) = rw (lt-ltb mostBytes (length text) long)
 answers-only s text m o (ill-formed {p = p} short f) =
     rw (le-ltb mostBytes (length text) short, place-fault text p f, lt-ltb p (length text) (f .inside))
@@ -88,9 +78,5 @@ answers-only s text m o (Account.refused short utf8 f) = within-limits s text m 
 answers-only s text m o (no-node-room {d = d} sp l none) = spelled-stored s text m d sp l ∙ rw (lt-ltb (nodeRoom m) (count d) none)
 answers-only s text m o (no-pool-room {d = d} sp l nodes none) =
     spelled-stored s text m d sp l ∙ rw (le-ltb (nodeRoom m) (count d) nodes, lt-ltb (length (m .pool)) (length (pool d)) none)
-answers-only s text m o (has-fault {d = d} {n = n} {i = i} sp l nodes bytes f) =
-    spelled-stored s text m d sp l
-    ∙ rw (le-ltb (nodeRoom m) (count d) nodes, le-ltb (length (m .pool)) (length (pool d)) bytes, fault-check d (document-of sp) n i f)
-answers-only s text m o (accepted {d = d} sp l nodes bytes w) =
-    spelled-stored s text m d sp l
-    ∙ rw (le-ltb (nodeRoom m) (count d) nodes, le-ltb (length (m .pool)) (length (pool d)) bytes, well-formed-check d (document-of sp) w)
+answers-only s text m o (accepted {d = d} sp l nodes bytes) =
+    spelled-stored s text m d sp l ∙ rw (le-ltb (nodeRoom m) (count d) nodes, le-ltb (length (m .pool)) (length (pool d)) bytes)

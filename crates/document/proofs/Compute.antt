@@ -27,6 +27,8 @@ use Rattle.document.specs.rules.Memory
 use Rattle.document.specs.reference.Outcome
 use Rattle.document.specs.rules.Canonical
 use Rattle.document.specs.reference.Printing
+use Rattle.document.specs.rules.Pair as PairRules
+use Rattle.document.specs.reference.Pair
 
 unfoldable scalar : Unit {0}
 unfolding Scalar.isScalar Scalar.encode Scalar.encodeAll Scalar.allScalar
@@ -125,7 +127,7 @@ unfolding Memory.answerAt Memory.refusal Memory.noRoom Memory.over Memory.filled
 memory = tt
 
 unfoldable outcome : Unit {0}
-unfolding Outcome.tooDeep Outcome.judged Outcome.oneExpression Outcome.afterScan Outcome.reading Outcome.checked Outcome.stored
+unfolding Outcome.tooDeep Outcome.judged Outcome.oneExpression Outcome.afterScan Outcome.reading Outcome.stored
     Outcome.afterReading Outcome.outcome
 outcome = tt
 
@@ -136,11 +138,15 @@ unfolding Canonical.valueBefore Canonical.sizeBefore Canonical.keyClass Canonica
 canonical = tt
 
 unfoldable printing : Unit {0}
-unfolding Printing.part Printing.below Printing.notBelow Printing.addRecord Printing.rebuild Printing.candidate Printing.hasDraft Printing.checkedAs Printing.checking
-    Printing.treeOfTable Printing.written Printing.printing
+unfolding Printing.part Printing.below Printing.notBelow Printing.addRecord Printing.rebuild Printing.candidate Printing.hasDraft Printing.treeOfTable Printing.isThere
+    Printing.draftOf Printing.checkedAs Printing.checkedOf Printing.checking Printing.written Printing.printedOf Printing.printing
 printing = tt
+
+unfoldable pair : Unit {0}
+unfolding PairRules.placeOf PairRules.pairAnswer Pair.checkLeft Pair.paired
+pair = tt
 
 unfoldable pub computes : Unit {0}
 unfolding leadingZeros scalar sequence position bytes class rules inside byte syntax expression scan value document rulestest
-    spelling meaning command imperative table wellformed memory outcome canonical printing
+    spelling meaning command imperative table wellformed memory outcome canonical printing pair
 computes = tt

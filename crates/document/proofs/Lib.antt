@@ -5,6 +5,7 @@ pub mod Account
 pub mod Unaltered
 pub mod ReadExactly
 pub mod SameDocument
+pub mod CheckAccount
 pub mod PrintAccount
 pub mod PrintingDecided
 pub mod RoundTrip

@@ -1,33 +1,28 @@
--- What the check of a table and printing answer: of the document whose table they are given, and 20 where they are given no document's. Document 01,
--- "Printing returns number and length."
+-- The draft whose table a caller lends is found by the test, and no other. Document 01, "Printing returns number and length."
 use Prim.Native.Nat.{ℕ, _*_, _≤_}
-use mathlib.Core.Path.{_≡_, refl, ap}
-use mathlib.Core.Bool.{Bool, true, false, _&&_}
+use mathlib.Core.Path.{_≡_, refl, sym, ap, _∙_}
+use mathlib.Core.Bool.{Bool, true, false, not, _&&_}
 use mathlib.Core.List.{List}
 use native.Mathlib.Omega.{arith}
 use lib.Dec.{T, leb, leb→le}
-use borrow.Author.Tests.{le-leb, ne-eqb}
+use borrow.Author.Tests.{le-leb}
 use lib.ListN.{length, take}
 use lib.Seq.{length-take-le}
-use Rattle.base.proofs.Booleans.{both, T-true, not-T-false, cond-case, true-T}
+use Rattle.base.proofs.Booleans.{both, T-true, false-not-T, cond-case, true-T}
 use Rattle.elements.specs.rules.Bytes.{same}
 use Rattle.elements.proofs.Same.{same-equal}
 use Rattle.document.specs.rules.Document.{Tree, Node, says, Document}
 use Rattle.document.specs.reference.RulesTest.{isDocument}
 use Rattle.document.specs.rules.Record.{recordLength}
 use Rattle.document.specs.rules.Table.{tableOf, pool, count}
-use Rattle.document.specs.reference.Check.{Check, sound, unsound, check, Decides}
-use Rattle.document.specs.rules.WellFormed.{WellFormed}
-use Rattle.document.specs.rules.Canonical.{layout, treeLevels, canonical}
-use Rattle.document.specs.reference.Printing.{hasDraft, treeOfTable, Checked, checkedAs, checking, written, printing}
-use Rattle.document.specs.rules.Draft.{IsDraft, IsTableOf}
+use Rattle.document.specs.rules.Canonical.{layout, treeLevels}
+use Rattle.document.specs.reference.Printing.{hasDraft, treeOfTable, Draft, no-draft, the-draft, isThere, draftOf}
+use Rattle.document.specs.rules.Draft.{IsDraft, Holds}
 use Rattle.document.proofs.RulesTest.{test-lawful}
 use Rattle.document.proofs.Records.{table-length}
-use Rattle.document.proofs.FirstFaults.{check-decides, well-formed-check}
 use Rattle.document.proofs.IdsAndReferences.{same-refl}
 use Rattle.document.proofs.CanonicalLayout.{laid-out}
 use Rattle.document.proofs.CanonicalLevels.{document-levels}
-use Rattle.document.proofs.RefusalNumbers.{check-number}
 use Rattle.document.proofs.Rebuild.{rebuilt}
 
 -- The table of a document passes the test.
@@ -74,11 +69,9 @@ tree-of-table n words bytes d l x =
     let e : count d ≡ n = omega (arith, table-length d, ap length (x .node-words)) in
     ap layout (rw (e, x .node-words, x .pool-bytes) at (rebuilt d))
 
--- The document that an answer of the check is about, or that there is none.
-pub data CheckedOf (words : List ℕ) (n : ℕ) (bytes : List ℕ) (m : ℕ) : Checked → Type 0 where
-  of-draft : (d : Node) → recordLength * n ≤ length words → m ≤ length bytes → IsDraft d (take (recordLength * n) words) (take m bytes)
-      → CheckedOf words n bytes m (checkedAs (check d))
-  of-none : CheckedOf words n bytes m (record { number = 20; node = 0 })
+pub no-both : (r : Bool) → not r ≡ true → r ≡ true → ⊥
+no-both true a b = absurd (false-not-T (sym a) tt)
+no-both false a b = absurd (false-not-T (sym b) tt)
 
 module _ (words : List ℕ) (n : ℕ) (bytes : List ℕ) (m : ℕ) where
   abbrev w : List ℕ
@@ -87,70 +80,60 @@ module _ (words : List ℕ) (n : ℕ) (bytes : List ℕ) (m : ℕ) where
   abbrev b : List ℕ
   b = take m bytes
 
-  tree-is : (d : Node) → recordLength * n ≤ length words → IsDraft d w b → treeOfTable n w b ≡ layout d
-  tree-is d hn x = tree-of-table n w b d (length-take-le (recordLength * n) words hn) x
-
-  -- Given the table of a document, the check answers of that document.
-  pub checks : (d : Node) → recordLength * n ≤ length words → m ≤ length bytes → IsDraft d w b → checking words n bytes m ≡ checkedAs (check d)
-  unfolding checking
-  checks d hn hm x =
+  -- Given the table of a draft, it is that draft.
+  pub held-draft : (d : Node) → Holds words n bytes m d → draftOf words n bytes m ≡ the-draft d
+  unfolding draftOf
+  held-draft d h =
+      let x = h .draft in
       let said : says (layout d) ≡ d = laid-out d (x .document) .1 in
       let tested : hasDraft (layout d) d w b ≡ true = T-true (hasDraft (layout d) d w b) (has-draft d w b x) in
-      rw (le-leb (recordLength * n) (length words) hn, le-leb m (length bytes) hm, tree-is d hn x, said, tested)
+      rw (
+        le-leb (recordLength * n) (length words) (h .words-within),
+        le-leb m (length bytes) (h .bytes-within),
+        tree-of-table n w b d (length-take-le (recordLength * n) words (h .words-within)) x,
+        said,
+        tested,
+      )
 
   tested-draft : T (leb (recordLength * n) (length words) && leb m (length bytes) && hasDraft (treeOfTable n w b) (says (treeOfTable n w b)) w b)
-      → (recordLength * n ≤ length words) × (m ≤ length bytes) × IsDraft (says (treeOfTable n w b)) w b
+      → Holds words n bytes m (says (treeOfTable n w b))
   tested-draft h =
       let t = treeOfTable n w b in
       let (h1, table) = both (leb (recordLength * n) (length words) && leb m (length bytes)) (hasDraft t (says t) w b) h in
       let (hn, hm) = both (leb (recordLength * n) (length words)) (leb m (length bytes)) h1 in
-      (leb→le _ _ hn, leb→le _ _ hm, draft-of t w b table)
+      record { words-within = leb→le _ _ hn; bytes-within = leb→le _ _ hm; draft = draft-of t w b table }
 
-  -- Given no document's, or counts beyond what is lent, it answers 20.
-  pub refused-check : (recordLength * n ≤ length words → m ≤ length bytes → (d : Node) → IsDraft d w b → ⊥)
-      → checking words n bytes m ≡ record { number = 20; node = 0 }
-  unfolding checking
-  refused-check none =
+  -- Whatever draft it is, its table is held; and where it is none, no draft's is.
+  abbrev pub DraftHeld : Draft → Type 0
+  DraftHeld no-draft = (d : Node) → Holds words n bytes m d → ⊥
+  DraftHeld (the-draft d) = Holds words n bytes m d
+
+  missing : leb (recordLength * n) (length words) && leb m (length bytes) && hasDraft (treeOfTable n w b) (says (treeOfTable n w b)) w b ≡ false
+      → (d : Node) → Holds words n bytes m d → ⊥
+  unfolding draftOf
+  missing e d h =
+      let there : no-draft ≡ the-draft d = rw e at (held-draft d h) in
+      let z : _≡_ {A = ℕ} 0 1 = cc in
+      omega arith
+
+  pub draft-held : DraftHeld (draftOf words n bytes m)
+  unfolding draftOf
+  draft-held =
       let t = treeOfTable n w b in
-      let tested : leb (recordLength * n) (length words) && leb m (length bytes) && hasDraft t (says t) w b ≡ false
-      = not-T-false _ (λ h. let (hn, hm, x) = tested-draft h in none hn hm (says t) x) in
-      rw tested
+      cond-case DraftHeld (leb (recordLength * n) (length words) && leb m (length bytes) && hasDraft t (says t) w b) (λ e. tested-draft (true-T e)) missing
 
-  -- Whatever the check answers, it is of a document with that table, or 20.
-  pub checked-of : CheckedOf words n bytes m (checking words n bytes m)
-  unfolding checking
-  checked-of =
-      let t = treeOfTable n w b in
-      cond-case (CheckedOf words n bytes m) (leb (recordLength * n) (length words) && leb m (length bytes) && hasDraft t (says t) w b)
-      (λ e. let (hn, hm, x) = tested-draft (true-T e) in of-draft (says t) hn hm x)
-      (λ e. of-none)
-
-  well : (d : Node) → Document d → checkedAs (check d) .number ≡ 0 → WellFormed d
-  unfolding checkedAs
-  well d doc = go (check d) refl (check-decides d doc)
+  pub none-held : ((d : Node) → Holds words n bytes m d → ⊥) → draftOf words n bytes m ≡ no-draft
+  none-held none = go (draftOf words n bytes m) draft-held
     where
-      go : (c : Check) → check d ≡ c → Decides d c → checkedAs c .number ≡ 0 → WellFormed d
-      go sound e a z = a
-      go (unsound i j) e a z = absurd (omega (arith, check-number d i j e))
+      go : (x : Draft) → DraftHeld x → x ≡ no-draft
+      go no-draft h = refl
+      go (the-draft d) h = absurd (none d h)
 
-  -- A check that answers 0 is of a well-formed document.
-  pub sound-table : checking words n bytes m .number ≡ 0
-      → (recordLength * n ≤ length words) × (m ≤ length bytes) × (d : Node) × IsTableOf d w b
-  sound-table z = go (checking words n bytes m) checked-of z
+  -- Where the test found one, its table is held.
+  pub is-there : (r : Bool) → r ≡ isThere (draftOf words n bytes m) → r ≡ true → (d : Node) × Holds words n bytes m d
+  unfolding isThere
+  is-there r is t = go (draftOf words n bytes m) draft-held is
     where
-      go : (c : Checked) → CheckedOf words n bytes m c → c .number ≡ 0 → (recordLength * n ≤ length words) × (m ≤ length bytes) × (d : Node) × IsTableOf d w b
-      go c (of-draft d hn hm x) z = (hn, hm, d, record { draft = x; well-formed = well d (x .document) z })
-      go c of-none z = absurd (omega arith)
-
-  module _ (out : List ℕ) where
-    -- Given the table of a well-formed document, printing writes the document's canonical spelling.
-    pub prints : (d : Node) → recordLength * n ≤ length words → m ≤ length bytes → IsTableOf d w b → printing words n bytes m out ≡ written (canonical d) out
-    unfolding printing checkedAs
-    prints d hn hm x =
-        let said : says (layout d) ≡ d = laid-out d (x .draft .document) .1 in
-        rw (checks d hn hm (x .draft), well-formed-check d (x .draft .document) (x .well-formed), tree-is d hn (x .draft), said)
-
-    -- Given no such table, it answers 20.
-    pub refuses : (checking words n bytes m .number ≡ 0 → ⊥) → printing words n bytes m out ≡ record { number = 20; size = 0; out = out }
-    unfolding printing
-    refuses none = rw (ne-eqb (checking words n bytes m .number) 0 none)
+      go : (x : Draft) → DraftHeld x → r ≡ isThere x → (d : Node) × Holds words n bytes m d
+      go no-draft h e = absurd (false-not-T (sym t ∙ e) tt)
+      go (the-draft d) h e = (d, h)

@@ -1,5 +1,5 @@
--- Demand 3: reading answers 0 exactly when the text is within the limits and spells a well-formed document that fits the room; node words, pool and counts
--- are then that document's; and no text spells two documents.
+-- Demand 3 of reading alone: it answers 0 exactly when the text is within the limits and spells a draft that fits the room; node words, pool and counts
+-- are then that draft's; and no text spells two documents.
 use Prim.Native.Nat.{ℕ, _≤_}
 use mathlib.Core.Path.{_≡_, refl, sym}
 use mathlib.Core.List.{List}
@@ -11,18 +11,18 @@ use Rattle.document.specs.rules.Table.{count, pool}
 use Rattle.document.specs.reference.Outcome.{outcome}
 use Rattle.document.specs.rules.Memory.{answerAt, Memory, Outcome, refusal, noRoom, filled, nodeRoom}
 use Rattle.document.specs.rules.Account as Account
-use Rattle.document.specs.rules.Account.{Answers, too-long, ill-formed, no-node-room, no-pool-room, has-fault, accepted}
+use Rattle.document.specs.rules.Account.{Answers, too-long, ill-formed, no-node-room, no-pool-room, accepted}
 use Rattle.document.specs.rules.Readable.{Fits, Readable, Read}
 use Rattle.document.proofs.NestedForms.{spelled-once, spelled-once-in-both}
 use Rattle.document.proofs.Account.{answers, answers-only}
-use Rattle.document.proofs.RefusalNumbers.{refused-number, fault-number}
+use Rattle.document.proofs.RefusalNumbers.{refused-number}
 
 -- How many nodes there is room for, and that a document fits, are the same.
-few : (m : Memory) (d : Node) → count d ≤ nodeRoom m → length (pool d) ≤ length (m .pool) → (count d ≤ 4096) × Fits d m
+pub few : (m : Memory) (d : Node) → count d ≤ nodeRoom m → length (pool d) ≤ length (m .pool) → (count d ≤ 4096) × Fits d m
 unfolding nodeRoom
 few m d nodes bytes = (omega arith, record { node-words = omega arith; place-list = omega arith; pool-bytes = bytes })
 
-room : (m : Memory) (d : Node) → count d ≤ 4096 → Fits d m → count d ≤ nodeRoom m
+pub room : (m : Memory) (d : Node) → count d ≤ 4096 → Fits d m → count d ≤ nodeRoom m
 unfolding nodeRoom
 room m d most f = omega (arith, f .node-words, f .place-list)
 
@@ -34,11 +34,10 @@ zero s text m o (ill-formed short f) z = absurd (omega arith)
 zero s text m o (Account.refused short utf8 f) z = absurd (omega (arith, refused-number f))
 zero s text m o (no-node-room sp l none) z = absurd (omega arith)
 zero s text m o (no-pool-room sp l nodes none) z = absurd (omega arith)
-zero s text m o (has-fault sp l nodes bytes f) z = absurd (omega (arith, fault-number f))
-zero s text m o (accepted {d = d} sp l nodes bytes w) z =
+zero s text m o (accepted {d = d} sp l nodes bytes) z =
     let (most, fits) = few m d nodes bytes in (
       d,
-      record { spells = sp; within = l; well-formed = w; few-nodes = most; fits = fits },
+      record { spells = sp; within = l; few-nodes = most; fits = fits },
       record { accepted = refl; nodes = refl; bytes = refl; node-words = refl; pool-bytes = refl },
     )
 
@@ -49,7 +48,7 @@ accepted-document s text m z = zero s text m (outcome s text m) (answers s text 
 pub document-accepted : (s : Spelling) (text : List ℕ) (m : Memory) (d : Node) → Readable s text m d → Read m (outcome s text m) d
 unfolding filled answerAt
 document-accepted s text m d r =
-    let a = accepted (r .spells) (r .within) (room m d (r .few-nodes) (r .fits)) (r .fits .pool-bytes) (r .well-formed) in
+    let a = accepted (r .spells) (r .within) (room m d (r .few-nodes) (r .fits)) (r .fits .pool-bytes) in
     rw (answers-only s text m _ a)
     (record { accepted = refl; nodes = refl; bytes = refl; node-words = refl; pool-bytes = refl })
 

@@ -1,6 +1,7 @@
 -- Which numbers a refusal can have: the scan answers 3 to 6, the walk 8 to 12, the check 15 to 18.
 use Prim.Native.Nat.{ℕ, _≤_}
-use mathlib.Core.Path.{_≡_}
+use mathlib.Core.Path.{_≡_, refl}
+use mathlib.Core.Logic.{_⊎_, inl, inr}
 use mathlib.Core.List.{List, [], _∷_}
 use native.Mathlib.Omega.{arith}
 use lib.Dec.{eqb}
@@ -18,7 +19,6 @@ use Rattle.document.specs.rules.Faults.{RootFault}
 use Rattle.document.specs.rules.Account as Account
 use Rattle.document.specs.rules.Account.{RefusedFor}
 use Rattle.document.specs.rules.WellFormed.{FirstFault, bad-row, repeated-id, unknown-link, unknown-footnote}
-use Rattle.document.specs.reference.Check.{First, nowhere, at-node, Check, sound, unsound, checkedBy, check}
 use Rattle.document.proofs.Faults.{named-fault}
 use Rattle.document.specs.rules.Spelling.{Spelling}
 use Rattle.document.specs.rules.Lead.{leadClass, exprClass}
@@ -124,28 +124,14 @@ root-fault-number e n p f =
     let h : VerdictNumber (fault n p) = rw (named-fault e n p f) at (root-number e) in
     h
 
-pub refused-number : {s : Spelling} {text : List ℕ} {n p : ℕ} → RefusedFor s text n p → (3 ≤ n) × (n ≤ 19)
-refused-number (Account.no-syntax f) = omega (arith, hit-number (f .hit))
-refused-number (Account.no-expression x) = omega arith
-refused-number (Account.second-expression e x) = omega arith
-refused-number (Account.against-rules {e = e} {n = n} {p = p} x form f) = omega (arith, root-fault-number e n p f)
-refused-number (Account.too-deep i x form w l deep) = omega arith
-
-abbrev CheckNumber : Check → Type 0
-CheckNumber sound = Unit {0}
-CheckNumber (unsound n i) = (15 ≤ n) × (n ≤ 18)
-
-by-number : (n : ℕ) (f : First) (next : Check) → (15 ≤ n) × (n ≤ 18) → CheckNumber next → CheckNumber (checkedBy n f next)
-unfolding checkedBy
-by-number n nowhere next h i = i
-by-number n (at-node j) next h i = h
-
-pub check-number : (d : Node) (n i : ℕ) → check d ≡ unsound n i → (15 ≤ n) × (n ≤ 18)
-unfolding check
-check-number d n i e =
-    let numbers : CheckNumber (check d) =
-    by-number 15 _ _ (omega arith) (by-number 16 _ _ (omega arith) (by-number 17 _ _ (omega arith) (by-number 18 _ _ (omega arith) tt))) in
-    rw e at numbers
+-- 3 to 12, or 19.
+pub refused-number : {s : Spelling} {text : List ℕ} {n p : ℕ} → RefusedFor s text n p → (3 ≤ n) × ((n ≤ 14) ⊎ (n ≡ 19))
+refused-number (Account.no-syntax f) = (omega (arith, hit-number (f .hit)), inl (omega (arith, hit-number (f .hit))))
+refused-number (Account.no-expression x) = (omega arith, inl (omega arith))
+refused-number (Account.second-expression e x) = (omega arith, inl (omega arith))
+refused-number (Account.against-rules {e = e} {n = n} {p = p} x form f) =
+    let h = root-fault-number e n p f in (omega (arith, h), inl (omega (arith, h)))
+refused-number (Account.too-deep i x form w l deep) = (omega arith, inr refl)
 
 -- The faults of a document are numbered 15 to 18.
 pub fault-number : {d : Node} {n i : ℕ} → FirstFault d n i → (15 ≤ n) × (n ≤ 18)

@@ -8,8 +8,7 @@ use lib.ListN.{length}
 use Rattle.document.specs.rules.Document.{Node}
 use Rattle.document.specs.rules.Spelling.{Spelling, Spells, WithinLimits}
 use Rattle.document.specs.rules.Table.{count, pool}
-use Rattle.document.specs.reference.Check.{Check, sound, unsound, check}
-use Rattle.document.specs.reference.Outcome.{checked, stored, outcome}
+use Rattle.document.specs.reference.Outcome.{stored, outcome}
 use Rattle.document.specs.rules.Memory.{answerAt, Memory, Outcome, noRoom, filled, nodeRoom}
 use Rattle.document.specs.rules.Readable.{Alike}
 use Rattle.document.proofs.Account.{spelled-stored}
@@ -22,18 +21,12 @@ alike : {o o′ : Outcome} → o .answer .number ≡ o′ .answer .number → o 
     → o .memory .nodes ≡ o′ .memory .nodes → o .memory .pool ≡ o′ .memory .pool → Alike o o′
 alike a b c d e = record { number = a; nodes = b; bytes = c; node-words = d; pool-bytes = e }
 
-checked-alike : (text text′ ps ps′ : List ℕ) (m : Memory) (d : Node) (c : Check) → Alike (checked text m ps d c) (checked text′ m ps′ d c)
-unfolding checked filled answerAt
-checked-alike text text′ ps ps′ m d sound = alike refl refl refl refl refl
-checked-alike text text′ ps ps′ m d (unsound n i) = alike refl refl refl refl refl
-
 -- What is stored of a document depends on the text in places alone.
 stored-alike : (text text′ ps ps′ : List ℕ) (m : Memory) (d : Node) → Alike (stored text m ps d) (stored text′ m ps′ d)
-unfolding stored noRoom answerAt
+unfolding stored noRoom filled answerAt
 stored-alike text text′ ps ps′ m d =
     either (ltb (nodeRoom m) (count d)) (alike refl refl refl refl refl)
-    (either (ltb (length (m .pool)) (length (pool d))) (alike refl refl refl refl refl)
-    (checked-alike text text′ ps ps′ m d (check d)))
+    (either (ltb (length (m .pool)) (length (pool d))) (alike refl refl refl refl refl) (alike refl refl refl refl refl))
 
 pub spelled-alike : (s s′ : Spelling) (d : Node) (text text′ : List ℕ) (m : Memory) (a : Spells s d text) (b : Spells s′ d text′)
     → WithinLimits s text (a .forest) → WithinLimits s′ text′ (b .forest) → Alike (outcome s text m) (outcome s′ text′ m)

@@ -6,4 +6,5 @@ pub mod Imperative
 pub mod Check
 pub mod Outcome
 pub mod Printing
+pub mod Pair
 pub mod Prose

@@ -27,6 +27,10 @@ fn list(text: &[u8], out: &mut [u8; BUFFER]) -> usize
     if a.number != 0 {
         return listing::put_refusal(a.number, a.line, a.column, out);
     }
+    let c = validate::check(&nodes, a.nodes, &pool, a.pool);
+    if c.number != 0 {
+        return listing::put_fault(text, &places, c.number, c.node, out);
+    }
     listing::put_document(&nodes, a.nodes, a.pool, out)
 }
 

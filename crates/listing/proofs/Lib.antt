@@ -5,3 +5,4 @@ pub mod Lines
 pub mod Lengths
 pub mod Printed
 pub mod Judged
+pub mod Faults

@@ -4,20 +4,24 @@ use mathlib.Core.List.{List}
 use Prim.Native.Nat.{ℕ, _+_, _*_, _^_, _≤_, _<_}
 use native.Mathlib.Omega.{arith}
 use lib.Dec.{ltb}
-use lib.ListN.{length, take, length-append, length-replicate}
+use lib.ListN.{length, take, getD, length-append, length-replicate}
 use lib.Seq.{take-all, length-take-le}
 use borrow.Author.Tests.{lt-ltb, le-ltb, ltb-false, eq-eqb, ne-eqb}
 use Rattle.base.proofs.Booleans.{cond-case}
+use Rattle.utf8.specs.rules.Position.{lineOf, columnOf}
 use Rattle.utf8.specs.reference.Sequence.{validUpTo}
+use Rattle.utf8.proofs.PositionBounds.{position-within}
 use Rattle.elements.specs.rules.Bytes.{codes}
 use Rattle.document.specs.rules.Document.{Node, says}
 use Rattle.document.specs.rules.Table.{count, pool}
-use Rattle.document.specs.reference.Check.{Check, sound, unsound, check}
 use Rattle.document.specs.reference.Meaning.{treeOf, places}
 use Rattle.document.specs.rules.Spelling.{Spelling}
-use Rattle.document.specs.reference.Outcome.{Reading, refused, read, checked, stored, reading, afterReading, outcome}
+use Rattle.document.specs.reference.Outcome.{Reading, refused, read, stored, reading, afterReading, outcome}
+use Rattle.document.specs.rules.Pair.{placeOf, pairAnswer}
+use Rattle.document.specs.reference.Pair.{checkLeft}
+use Rattle.document.specs.reference.Printing.{checking}
 use Rattle.document.specs.rules.Memory.{Memory, Outcome, answerAt, refusal, noRoom, filled, nodeRoom, over}
-use Rattle.listing.specs.Listing.{longestText, lentNodes, lentPool, lentMemory, tooLong, refusedLine, documentLines, partFitting, listingOf, afterRead, printedBy, printed, Lists}
+use Rattle.listing.specs.Listing.{longestText, lentNodes, lentPool, lentMemory, tooLong, refusedLine, documentLines, partFitting, faultLine, listingOf, afterRead, afterCheck, printedBy, printed, Lists}
 use Rattle.listing.proofs.Lengths.{refused-length}
 
 -- A document that is listed has no more nodes than the place list.
@@ -29,10 +33,9 @@ module _ (m : Memory) where
   unfolding refusal answerAt
   refusal-fits text n p e = omega arith
 
-  checked-fits : (text ps : List ℕ) (d : Node) (k : Check) → count d ≤ nodeRoom m → Fits (checked text m ps d k)
-  unfolding checked filled answerAt nodeRoom
-  checked-fits text ps d sound h e = omega arith
-  checked-fits text ps d (unsound n i) h e = omega arith
+  filled-fits : (text ps : List ℕ) (d : Node) → count d ≤ nodeRoom m → Fits (filled text m ps d)
+  unfolding filled answerAt nodeRoom
+  filled-fits text ps d h e = omega arith
 
   stored-fits : (text ps : List ℕ) (d : Node) → Fits (stored text m ps d)
   unfolding stored noRoom answerAt
@@ -44,7 +47,7 @@ module _ (m : Memory) where
       cond-case Fits
       (ltb (length (m .pool)) (length (pool d)))
       (λ u e. absurd (omega arith))
-      (λ u. checked-fits text ps d (check d) (ltb-false (nodeRoom m) (count d) t)))
+      (λ u. filled-fits text ps d (ltb-false (nodeRoom m) (count d) t)))
 
   reading-fits : (text : List ℕ) (r : Reading) → Fits (afterReading text m r)
   unfolding afterReading
@@ -109,23 +112,53 @@ pub lent-pool : length (lentMemory .pool) ≡ lentPool
 unfolding lentMemory
 lent-pool = length-replicate {A = ℕ} lentPool 0
 
--- The three answers of `list`, on an output that holds the longest.
+-- A fault has a line no longer than that of a refusal, whatever its place.
+fault-length : (text places : List ℕ) (number node : ℕ) → number < 2 ^ 32 → length (faultLine text places number node) ≤ 41
+unfolding faultLine
+fault-length text places number node h =
+    let p = getD places node 0 in
+    cond-case (λ (l : List ℕ). length l ≤ 41) (ltb longestText (length text)) (λ t. omega (arith, long-length))
+    (λ t.
+    let short = ltb-false longestText (length text) t in
+    refused-length number (lineOf text p) (columnOf text p) h (omega (arith, position-within text p .line-within)) (omega (arith, position-within text p .column-within)))
+
+-- The four answers of `list`, on an output that holds the longest.
 module _ (s : Spelling) (text : List ℕ) (start : List ℕ) (room : 44 * lentNodes + 33 ≤ length start) where
   pub lists-long : {r : ℕ} {out : List ℕ} → longestText < length text → Put tooLong start r out → Listed (printed s text) start r out
-  lists-long h p = answered-long listingOf s text (omega arith) h p
+  lists-long h p = answered-long (afterCheck text) s text (omega arith) h p
 
   module _ (m : Memory) (h : length text ≤ longestText) where
     pub lists-refusal : (n l c : ℕ) {r : ℕ} {out : List ℕ} → (n ≡ 0 → ⊥) → n < 2 ^ 32 → l < 2 ^ 32 → c < 2 ^ 32
         → n ≡ outcome s text m .answer .number → l ≡ outcome s text m .answer .line → c ≡ outcome s text m .answer .column → m ≡ lentMemory
         → Put (refusedLine n l c) start r out → Listed (printed s text) start r out
-    lists-refusal n l c = answered-refusal listingOf s text m h n l c (omega arith)
+    lists-refusal n l c = answered-refusal (afterCheck text) s text m h n l c (omega arith)
 
-    pub lists-document : (n nodes bytes : ℕ) (exit : Memory) {r : ℕ} {out : List ℕ} → n ≡ 0
-        → n ≡ outcome s text m .answer .number → nodes ≡ outcome s text m .answer .nodes → bytes ≡ outcome s text m .answer .pool → exit ≡ outcome s text m .memory
-        → m ≡ lentMemory
-        → Put (documentLines (exit .nodes) nodes bytes) start r out → length (documentLines (exit .nodes) nodes bytes) ≤ 44 * nodes + 33 → Listed (printed s text) start r out
-    unfolding listingOf
-    lists-document n nodes bytes exit z en eo ep left lends p most =
-        let few : nodes ≤ length (m .places) = rw eo (outcome-fits m s text (sym en ∙ z)) in
-        let places : length (m .places) ≡ lentNodes = rw lends lent-places in
-        rw (answered-document listingOf s text m h (sym en ∙ z) lends, ← eo, ← ep, ← left) (whole (documentLines (exit .nodes) nodes bytes) (omega arith) p)
+    -- After a read that answered 0, and the check of what it left.
+    module _ (n nodes bytes : ℕ) (exit : Memory) (z : n ≡ 0) (en : n ≡ outcome s text m .answer .number) (eo : nodes ≡ outcome s text m .answer .nodes)
+        (ep : bytes ≡ outcome s text m .answer .pool) (left : exit ≡ outcome s text m .memory) (k i : ℕ)
+        (ek : k ≡ checking (exit .nodes) nodes (exit .pool) bytes .number) (ei : i ≡ checking (exit .nodes) nodes (exit .pool) bytes .node) where
+      checked-as : checkLeft (outcome s text m) ≡ checking (exit .nodes) nodes (exit .pool) bytes
+      unfolding checkLeft
+      checked-as = rw (eo, ep, left)
+
+      -- The answer of the pair is the check's.
+      paired-as : pairAnswer text (outcome s text m) (checkLeft (outcome s text m)) ≡ answerAt text k (placeOf (exit .places) (record { number = k; node = i })) nodes bytes
+      unfolding pairAnswer
+      paired-as = rw (eq-eqb (outcome s text m .answer .number) 0 (sym en ∙ z), checked-as, ek, ei, eo, ep, left)
+
+      pub lists-fault : {r : ℕ} {out : List ℕ} → (k ≡ 0 → ⊥) → k < 2 ^ 32 → m ≡ lentMemory
+          → Put (faultLine text (exit .places) k i) start r out → Listed (printed s text) start r out
+      unfolding afterCheck faultLine placeOf answerAt
+      lists-fault bad few lends p =
+          rw (answered-document (afterCheck text) s text m h (sym en ∙ z) lends, paired-as, ne-eqb k 0 bad)
+          (rw (le-ltb longestText (length text) h) at (whole (faultLine text (exit .places) k i) (omega (arith, fault-length text (exit .places) k i few)) p))
+
+      pub lists-document : {r : ℕ} {out : List ℕ} → k ≡ 0 → m ≡ lentMemory
+          → Put (documentLines (exit .nodes) nodes bytes) start r out → length (documentLines (exit .nodes) nodes bytes) ≤ 44 * nodes + 33
+          → Listed (printed s text) start r out
+      unfolding afterCheck listingOf answerAt
+      lists-document good lends p most =
+          let few : nodes ≤ length (m .places) = rw eo (outcome-fits m s text (sym en ∙ z)) in
+          let places : length (m .places) ≡ lentNodes = rw lends lent-places in
+          rw (answered-document (afterCheck text) s text m h (sym en ∙ z) lends, paired-as, eq-eqb k 0 good, ← eo, ← ep, ← left)
+          (whole (documentLines (exit .nodes) nodes bytes) (omega arith) p)

@@ -8,11 +8,14 @@ use lib.ListN.{length, getD, take, replicate}
 use Rattle.elements.specs.rules.Bytes.{codes}
 use Rattle.base.specs.rules.Limits.{missing}
 use Rattle.base.specs.rules.Numbers as Number
+use Rattle.utf8.specs.rules.Position.{lineOf, columnOf}
 use Rattle.document.specs.rules.Record.{recordLength}
 use Rattle.document.specs.rules.Record as Word
 use Rattle.document.specs.rules.Canonical.{digit}
 use Rattle.document.specs.rules.Spelling.{Spelling}
 use Rattle.document.specs.reference.Outcome.{outcome}
+use Rattle.document.specs.rules.Pair.{pairAnswer}
+use Rattle.document.specs.reference.Pair.{checkLeft}
 use Rattle.document.specs.rules.Memory.{Memory, Outcome, over}
 
 -- "over 32,768 bytes prints `too long`": the longest text that is read.
@@ -58,6 +61,13 @@ unfoldable pub refusedLine : ℕ → ℕ → ℕ → List ℕ
 refusedLine number line column =
     codes "refused " ++ (numeral number ++ (space ∷ (numeral line ++ (0x3A ∷ (numeral column ++ (newline ∷ []))))))
 
+-- The line of a fault that the check found at a node of a text: "The place list turns a node into a place" (document 02, change request 1).
+-- A text that the programs do not read has no such line.
+unfoldable pub faultLine : List ℕ → List ℕ → ℕ → ℕ → List ℕ
+faultLine text places number node =
+    let p = getD places node 0 in
+    cond (ltb longestText (length text)) tooLong (refusedLine number (lineOf text p) (columnOf text p))
+
 -- "a header", with both counts
 unfoldable pub headerLine : ℕ → ℕ → List ℕ
 headerLine nodes pool = codes "nodes " ++ (numeral nodes ++ (codes " pool " ++ (numeral pool ++ (newline ∷ []))))
@@ -99,13 +109,19 @@ afterRead document o =
     cond (eqb (o .answer .number) Number.ok) (document o)
     (refusedLine (o .answer .number) (o .answer .line) (o .answer .column))
 
+-- After a read that answers 0 and the check of what it left: "the listing programs .. answer as before, by the pair" (document 02, change request 1).
+unfoldable pub afterCheck : List ℕ → Outcome → List ℕ
+afterCheck text o =
+    let a = pairAnswer text o (checkLeft o) in
+    cond (eqb (a .number) Number.ok) (listingOf o) (refusedLine (a .number) (a .line) (a .column))
+
 -- All that a program prints on a text, if it prints this of a document.
 unfoldable pub printedBy : (Outcome → List ℕ) → Spelling → List ℕ → List ℕ
 printedBy document s text = cond (ltb longestText (length text)) tooLong (afterRead document (outcome s text lentMemory))
 
 -- All that a listing program prints.
 abbrev pub printed : Spelling → List ℕ → List ℕ
-printed = printedBy listingOf
+printed s text = printedBy (afterCheck text) s text
 
 -- The lines stand whole at the output's start, and the rest of it is as it was.
 pub record Lists (lines start : List ℕ) (r : ℕ) (out : List ℕ) : Type 0 where

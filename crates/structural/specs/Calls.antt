@@ -9,9 +9,9 @@ use Rattle.base.specs.rules.Limits.{missing}
 use Rattle.document.specs.rules.Spelling.{Spelling}
 use Rattle.document.specs.rules.Memory as Reading
 use Rattle.document.specs.rules.Memory.{Memory, over}
-use Rattle.document.specs.rules.Draft.{Printed}
+use Rattle.document.specs.rules.Draft.{Checked, Printed}
 use Rattle.document.specs.reference.Outcome.{outcome}
-use Rattle.document.specs.reference.Printing.{printing}
+use Rattle.document.specs.reference.Printing.{checking, printing}
 
 -- What is returned where the list for the answer is too short.
 abbrev pub noAnswer : ℕ
@@ -36,9 +36,17 @@ answerWords a = a .number ∷ a .place ∷ a .line ∷ a .column ∷ a .nodes �
 unfoldable pub printWords : Printed → List ℕ
 printWords p = p .number ∷ p .size ∷ []
 
+-- The check returns number and node.
+unfoldable pub checkWords : Checked → List ℕ
+checkWords c = c .number ∷ c .node ∷ []
+
 -- A read of the text into the memory m.
 abbrev pub ReadCall : Spelling → List ℕ → Memory → List ℕ → ℕ → Memory → List ℕ → Type 0
 ReadCall s text m = Call (answerWords (outcome s text m .answer)) (outcome s text m .memory) m
+
+-- A check of a table: no memory is lent to it but the list for the answer.
+abbrev pub CheckCall : List ℕ → ℕ → List ℕ → ℕ → List ℕ → ℕ → List ℕ → Type 0
+CheckCall words n bytes m answer r left = Call {A = Unit {0}} (checkWords (checking words n bytes m)) tt tt answer r tt left
 
 -- A print of a table into the output.
 abbrev pub PrintCall : List ℕ → ℕ → List ℕ → ℕ → List ℕ → List ℕ → ℕ → List ℕ → List ℕ → Type 0

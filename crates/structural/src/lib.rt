@@ -1,23 +1,27 @@
-// What others call: reading in both spellings, and printing; the same for C and Rust, under plain names, each slice a pointer and a length.
+// What others call: reading in both spellings, the check of a table, and printing; the same for C and Rust, under plain names, each slice a pointer and a length.
 // What holds of calls one after the other is in proofs/.
 pub use printer::Printed;
 pub use printer::print;
 pub use reader::Answer;
 pub use reader::read_imperative;
 pub use reader::read_nested;
+pub use validate::Checked;
+pub use validate::check;
 ghost use mathlib.Core.Path.{_≡_};
 ghost use mathlib.Core.List.{[], _∷_};
 ghost use Prim.Native.Nat.{_≤_};
 ghost use lib.ListN.{length};
 ghost use Rattle.document.specs.rules.Spelling.{nested, imperative};
 ghost use Rattle.document.specs.rules.Memory.{over};
-ghost use Rattle.structural.specs.Calls.{ReadCall, PrintCall};
+ghost use Rattle.structural.specs.Calls.{ReadCall, CheckCall, PrintCall};
 
 // What is returned where the slice for the answer is too short; nothing is touched then.
 const NO_ANSWER: u32 = 4294967295;
 
-// How many words an answer of reading and of printing has.
+// How many words an answer of reading, of the check and of printing has.
 const READ_WORDS: usize = 6;
+
+const CHECK_WORDS: usize = 2;
 
 const PRINT_WORDS: usize = 2;
 
@@ -72,6 +76,26 @@ pub extern "C" fn structural_read_imperative(
     let a = read_imperative(text, nodes, places, pool);
     put_answer(a, answer);
     a.number
+}
+
+// check, with its answer in two words; returns the number.
+#[no_mangle]
+pub extern "C" fn structural_check(
+    nodes: &[u32],
+    node_count: u32,
+    pool: &[u8],
+    pool_count: u32,
+    answer: &mut [u32],
+) -> u32
+    ensures { λ r. ⌜ CheckCall (now (nodes .entry)) «node_count» (now (pool .entry)) «pool_count» (now (answer .entry)) r (now (answer .exit)) ⌝ }
+{
+    if answer.len() < CHECK_WORDS {
+        return NO_ANSWER;
+    }
+    let c = check(nodes, node_count, pool, pool_count);
+    answer[0] = c.number;
+    answer[1] = c.node;
+    c.number
 }
 
 // print, with its answer in two words; returns the number.

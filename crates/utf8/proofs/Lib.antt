@@ -9,3 +9,4 @@ pub mod Walk
 pub mod Ascii
 pub mod Column
 pub mod Decode
+pub mod PositionBounds

@@ -1,7 +1,5 @@
 -- What the functions of this crate promise, in terms of the definitions of `document`.
 -- Checks: what `check` promises; the contracts of reader and printer rest on it.
 pub mod Checks
--- CheckNumbers: the answer of the check of a table, in numbers; a contract of reader cites it.
-pub mod CheckNumbers
 -- What serves the contracts of private functions alone.
 pub mod internal

@@ -7,3 +7,4 @@ pub mod IdIndex
 pub mod DocumentTable
 -- DraftWalk: the walk that decides whether words and pool are the table of a draft (draft.rt, record.rt, values.rt).
 pub mod DraftWalk
+pub mod CheckNumbers

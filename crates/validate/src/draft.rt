@@ -254,7 +254,7 @@ fn child(
 }
 
 // Whether the words and the pool are the table of a draft.
-pub fn is_draft(nodes: &[u32], pool: &[u8]) -> bool
+pub fn is_table(nodes: &[u32], pool: &[u8]) -> bool
     ensures { λ r. ⌜ (r ≡ true → (d : Node) × IsDraft d (now (nodes .entry)) (now (pool .entry)))
         × ((d : Node) → IsDraft d (now (nodes .entry)) (now (pool .entry)) → r ≡ true) ⌝ }
 {

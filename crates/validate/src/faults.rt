@@ -30,7 +30,7 @@ ghost use Rattle.elements.specs.rules.Class as Class;
 ghost use Rattle.document.specs.rules.Document.{Node, Nodes};
 ghost use Rattle.document.specs.reference.Check.{First, Cells, cellsIn, repeatedId, unknownTarget, check};
 ghost use Rattle.document.specs.rules.Visits.{childCount};
-ghost use Rattle.validate.specs.CheckNumbers.{checkNumber, checkNode};
+ghost use Rattle.validate.specs.internal.CheckNumbers.{checkNumber, checkNode};
 ghost use Rattle.validate.specs.internal.DocumentTable.{BeginsWithTable};
 ghost use Rattle.table.specs.Stored.{wordAt};
 ghost use Rattle.validate.specs.internal.IdIndex.{Indexed};

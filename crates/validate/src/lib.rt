@@ -6,11 +6,11 @@ mod record; // record.rt: whether one record is that of a node
 mod values; // values.rt: the values of an element
 
 use base::number::NOT_A_TABLE;
-use draft::is_draft;
+use draft::is_table;
 use faults::check_table;
 use table::RECORD;
 ghost use mathlib.Core.Path.{_≡_};
-ghost use Rattle.document.specs.reference.Printing.{checking};
+ghost use Rattle.document.specs.reference.Printing.{draftOf, isThere, checking};
 ghost use Rattle.validate.specs.Checks.{Checks};
 
 // A step that finds no fault, in a byte.
@@ -22,33 +22,35 @@ pub struct Checked {
     pub node: u32,
 }
 
-// The check of a table of so many nodes and pool bytes. It looks at nothing past the counts.
-pub fn check(nodes: &[u32], node_count: u32, pool: &[u8], pool_count: u32) -> Checked
-    ensures { λ r. ⌜ Checks (checking (now (nodes .entry)) «node_count» (now (pool .entry)) «pool_count») r ⌝ }
+// Whether these are the words and the pool of a draft within the limits, and no count is beyond what is lent. It looks at nothing past the counts.
+pub fn is_draft(nodes: &[u32], node_count: u32, pool: &[u8], pool_count: u32) -> bool
+    ensures { λ r. ⌜ r ≡ isThere (draftOf (now (nodes .entry)) «node_count» (now (pool .entry)) «pool_count») ⌝ }
 {
     let bytes = pool_count as usize;
     let words = RECORD * (node_count as usize);
     if nodes.len() < words {
-        return Checked {
-            number: NOT_A_TABLE,
-            node: 0,
-        };
+        return false;
     }
     if pool.len() < bytes {
+        return false;
+    }
+    is_table(&nodes[..words], &pool[..bytes])
+}
+
+// The check of a table of so many nodes and pool bytes.
+pub fn check(nodes: &[u32], node_count: u32, pool: &[u8], pool_count: u32) -> Checked
+    ensures { λ r. ⌜ Checks (checking (now (nodes .entry)) «node_count» (now (pool .entry)) «pool_count») r ⌝ }
+{
+    if !is_draft(nodes, node_count, pool, pool_count) {
         return Checked {
             number: NOT_A_TABLE,
             node: 0,
         };
     }
-    let table = &nodes[..words];
-    let strings = &pool[..bytes];
-    if !is_draft(table, strings) {
-        return Checked {
-            number: NOT_A_TABLE,
-            node: 0,
-        };
-    }
-    let fault = check_table(table, node_count as usize, strings);
+    let count = node_count as usize;
+    let words = RECORD * count;
+    let bytes = pool_count as usize;
+    let fault = check_table(&nodes[..words], count, &pool[..bytes]);
     Checked {
         number: fault.number,
         node: fault.node as u32,

@@ -10,15 +10,18 @@ pub const SIZES: [usize; 4] = [8, 16, 32, 64];
 #[derive(Clone, Copy, PartialEq, Eq)]
 pub enum Action {
     Read,
+    Check,
     Print,
 }
 
 impl Action {
-    pub const ALL: [Action; 2] = [Action::Read, Action::Print];
+    /// In the order in which each needs what those before it left.
+    pub const ALL: [Action; 3] = [Action::Read, Action::Check, Action::Print];
 
     pub fn name(self) -> &'static str {
         match self {
             Action::Read => "read",
+            Action::Check => "check",
             Action::Print => "print",
         }
     }
@@ -56,7 +59,7 @@ impl Case {
         spell(&self.sort.manual(self.kib * 1024), self.spelling)
     }
 
-    /// Of the words `SORT SPELLING SIZE read|print`.
+    /// Of the words `SORT SPELLING SIZE read|check|print`.
     pub fn from_words(words: &[String]) -> Option<Case> {
         let [sort, spelling, kib, action] = words else { return None };
         Some(Case {

@@ -4,7 +4,7 @@ use crate::case::{Action, Case, Side, SIZES};
 use crate::sort::{Sort, SPELLINGS};
 use crate::work::Work;
 
-/// Every manual is read and printed with answer 0, and both sides get one table and one canonical spelling from its
+/// Every manual is read, checked and printed with answer 0, and both sides get one table and one canonical spelling from its
 /// two spellings.
 pub fn check() -> Result<(), String> {
     for sort in Sort::ALL {

@@ -1,4 +1,4 @@
-//! How fast the archive reads and prints, beside the second implementation: the tables of `docs/BENCHMARKS.md`.
+//! How fast the archive reads, checks and prints, beside the second implementation: the tables of `docs/BENCHMARKS.md`.
 
 mod callgrind;
 mod case;
@@ -26,8 +26,8 @@ use std::process::ExitCode;
 
 const USAGE: &str = "usage: bench
        bench write DIR
-       bench profile SORT SPELLING SIZE read|print
-       bench once SORT SPELLING SIZE read|print archive|oracle
+       bench profile SORT SPELLING SIZE read|check|print
+       bench once SORT SPELLING SIZE read|check|print archive|oracle
 SORT is prose, markup, links or lists; SPELLING is nested or imperative; SIZE is 8, 16, 32 or 64 KiB.";
 
 fn main() -> ExitCode {

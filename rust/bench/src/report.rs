@@ -23,7 +23,7 @@ pub fn report() -> Result<(), String> {
     growth()
 }
 
-/// At the largest size, archive and oracle. Printing is measured once, as both spellings give the same table.
+/// At the largest size, archive and oracle. Check and print are measured once, as both spellings give the same table.
 fn side_by_side() -> Result<(), String> {
     println!("| manual | call | bytes | archive MB/s | oracle MB/s | archive / oracle | {SIDES} | target i/B |");
     println!("|---|---|--:|--:|--:|--:|--:|--:|--:|");
@@ -31,7 +31,9 @@ fn side_by_side() -> Result<(), String> {
         for spelling in SPELLINGS {
             row(Case { sort, spelling, kib: 64, action: Action::Read })?;
         }
-        row(Case { sort, spelling: Spelling::Nested, kib: 64, action: Action::Print })?;
+        for action in [Action::Check, Action::Print] {
+            row(Case { sort, spelling: Spelling::Nested, kib: 64, action })?;
+        }
     }
     Ok(())
 }
@@ -41,7 +43,7 @@ fn row(case: Case) -> Result<(), String> {
     let [archive, oracle] = speeds(&mut work);
     let speed = format!("{archive:.1} | {oracle:.1} | {:.3}", archive / oracle);
     let [ours, theirs] = [per_byte(case, Side::Archive)?, per_byte(case, Side::Oracle)?];
-    let target = target(case.sort, case.action);
+    let target = aim(case.sort, case.action);
     println!("| {} | {} | {} | {speed} | {ours} | {theirs} | {target} |", case.sort.name(), call(case), work.bytes());
     Ok(())
 }
@@ -49,7 +51,7 @@ fn row(case: Case) -> Result<(), String> {
 fn call(case: Case) -> String {
     match case.action {
         Action::Read => format!("read {}", spelling_name(case.spelling)),
-        Action::Print => "print".into(),
+        Action::Check | Action::Print => case.action.name().into(),
     }
 }
 
@@ -68,8 +70,13 @@ fn growth() -> Result<(), String> {
 fn growth_row(sort: Sort, action: Action) -> Result<(), String> {
     let case = |kib| Case { sort, spelling: Spelling::Nested, kib, action };
     let counts: Result<Vec<String>, String> = SIZES.into_iter().map(|kib| per_byte(case(kib), Side::Archive)).collect();
-    println!("| {} | {} | {} | {} |", sort.name(), call(case(64)), counts?.join(" | "), target(sort, action));
+    println!("| {} | {} | {} | {} |", sort.name(), call(case(64)), counts?.join(" | "), aim(sort, action));
     Ok(())
+}
+
+/// The target, `-` where there is none.
+fn aim(sort: Sort, action: Action) -> String {
+    target(sort, action).map_or("-".into(), |target| target.to_string())
 }
 
 /// Instructions a byte of one call, `-` where they cannot be counted.

@@ -8,7 +8,7 @@ use structural::{lent, Spelling};
 /// Six bytes are the most that a byte of the pool is spelled in, and an element's brackets, name and quotes fit in 64.
 const OUT: usize = 6 * MOST_BYTES + 64 * MOST_NODES;
 
-/// A manual that has been read, and the memory for reading and printing it.
+/// A manual that has been read, and the memory for reading, checking and printing it.
 pub struct Work {
     text: Vec<u8>,
     spelling: Spelling,
@@ -23,7 +23,7 @@ pub struct Work {
 }
 
 impl Work {
-    /// Generates the manual, then reads and prints it; an error if either answers other than 0.
+    /// Generates the manual, then reads, checks and prints it; an error if one of these answers other than 0.
     pub fn new(case: Case, side: Side) -> Result<Work, String> {
         let mut work = Work::lend(case);
         for action in Action::ALL {
@@ -54,10 +54,11 @@ impl Work {
         }
     }
 
-    /// Bytes that the call goes over: of the text read, or of the spelling printed.
+    /// Bytes that the call goes over: of the spelling printed, or of the text read. The check goes over the table, and has
+    /// the bytes of the text that it was read from, so that a read and the check behind it can be summed.
     pub fn bytes(&self) -> usize {
         match self.action {
-            Action::Read => self.text.len(),
+            Action::Read | Action::Check => self.text.len(),
             Action::Print => self.printed,
         }
     }
@@ -77,6 +78,8 @@ impl Work {
         match (self.action, side) {
             (Action::Read, Side::Archive) => self.read_archive(),
             (Action::Read, Side::Oracle) => self.read_oracle(),
+            (Action::Check, Side::Archive) => self.check_archive(),
+            (Action::Check, Side::Oracle) => self.check_oracle(),
             (Action::Print, Side::Archive) => self.print_archive(),
             (Action::Print, Side::Oracle) => self.print_oracle(),
         }
@@ -94,6 +97,14 @@ impl Work {
         let answer = oracle::read(text, *spelling == Spelling::Imperative, nodes, places, pool);
         (self.node_count, self.pool_count) = (answer.nodes, answer.pool);
         answer.number
+    }
+
+    fn check_archive(&self) -> u32 {
+        lent::check(&self.nodes, self.node_count, &self.pool, self.pool_count).number
+    }
+
+    fn check_oracle(&self) -> u32 {
+        oracle::check(&self.nodes, self.node_count, &self.pool, self.pool_count).number
     }
 
     fn print_archive(&mut self) -> u32 {

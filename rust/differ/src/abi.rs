@@ -2,6 +2,7 @@
 //!
 //! They are called past the package `structural`, so that each pointer and each length is chosen here.
 
+use crate::check::Check;
 use crate::print::Print;
 use crate::read::Read;
 
@@ -45,6 +46,17 @@ extern "C" {
         answer_length: usize,
     ) -> u32;
 
+    fn structural_check(
+        nodes: *const u32,
+        nodes_length: usize,
+        node_count: u32,
+        pool: *const u8,
+        pool_length: usize,
+        pool_count: u32,
+        answer: *mut u32,
+        answer_length: usize,
+    ) -> u32;
+
     fn structural_print(
         nodes: *const u32,
         nodes_length: usize,
@@ -79,17 +91,36 @@ pub fn read(call: &mut Read) -> u32 {
     }
 }
 
+/// Checks with what the call lends; the value returned.
+pub fn check(call: &mut Check) -> u32 {
+    let table = &mut call.table;
+    // SAFETY: each pointer is into a buffer of its own that has the slice's elements there.
+    unsafe {
+        structural_check(
+            table.nodes.pointer(),
+            table.nodes.length(),
+            table.node_count,
+            table.pool.pointer(),
+            table.pool.length(),
+            table.pool_count,
+            call.answer.pointer(),
+            call.answer.length(),
+        )
+    }
+}
+
 /// Prints with what the call lends; the value returned.
 pub fn print(call: &mut Print) -> u32 {
+    let table = &mut call.table;
     // SAFETY: each pointer is into a buffer of its own that has the slice's elements there.
     unsafe {
         structural_print(
-            call.nodes.pointer(),
-            call.nodes.length(),
-            call.node_count,
-            call.pool.pointer(),
-            call.pool.length(),
-            call.pool_count,
+            table.nodes.pointer(),
+            table.nodes.length(),
+            table.node_count,
+            table.pool.pointer(),
+            table.pool.length(),
+            table.pool_count,
             call.out.pointer(),
             call.out.length(),
             call.answer.pointer(),

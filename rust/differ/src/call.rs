@@ -12,9 +12,6 @@ pub trait Call: Clone {
     /// What is done.
     const NAME: &'static str;
 
-    /// A random one, made from one seed.
-    fn new(seed: u64) -> Self;
-
     /// Leaves of the memory what the rules say, and returns what they say.
     fn by_rules(&mut self) -> u32;
 

@@ -6,12 +6,16 @@
 #[allow(unsafe_code)]
 mod abi;
 mod call;
+mod check;
 mod compare;
 mod lent;
+mod pair;
 mod print;
 mod read;
 mod run;
 mod sweep;
+mod table;
+mod tallies;
 mod tally;
 
 use std::ffi::OsString;

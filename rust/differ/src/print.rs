@@ -3,6 +3,7 @@
 use crate::abi;
 use crate::call::{named, put, Call, Lengths, NO_ANSWER};
 use crate::lent::Lent;
+use crate::table::LentTable;
 use oracle::random::PrintCase;
 
 /// Words of an answer: number, length.
@@ -11,10 +12,7 @@ pub const WORDS: usize = 2;
 /// A call of `structural_print`.
 #[derive(Clone)]
 pub struct Print {
-    pub nodes: Lent<u32>,
-    pub node_count: u32,
-    pub pool: Lent<u8>,
-    pub pool_count: u32,
+    pub table: LentTable,
     pub out: Lent<u8>,
     pub answer: Lent<u32>,
 }
@@ -22,30 +20,20 @@ pub struct Print {
 impl Print {
     /// Lends what the case says.
     pub fn of(case: &PrintCase, Lengths { guards, answer }: Lengths) -> Print {
-        Print {
-            nodes: Lent::holding(&case.nodes, guards),
-            node_count: case.node_count,
-            pool: Lent::holding(&case.pool, guards),
-            pool_count: case.pool_count,
-            out: Lent::blank(case.out, guards),
-            answer: Lent::blank(answer, guards),
-        }
+        let table = LentTable::of(&case.table, guards);
+        Print { table, out: Lent::blank(case.out, guards), answer: Lent::blank(answer, guards) }
     }
 }
 
 impl Call for Print {
     const NAME: &'static str = "print";
 
-    fn new(seed: u64) -> Print {
-        Print::of(&PrintCase::new(seed), Lengths::new(seed, WORDS))
-    }
-
     fn by_rules(&mut self) -> u32 {
         if self.answer.length() < WORDS {
             return NO_ANSWER;
         }
-        let (nodes, pool, out) = (self.nodes.slice(), self.pool.slice(), self.out.slice_mut());
-        let printed = oracle::print(nodes, self.node_count, pool, self.pool_count, out);
+        let LentTable { nodes, node_count, pool, pool_count } = &self.table;
+        let printed = oracle::print(nodes.slice(), *node_count, pool.slice(), *pool_count, self.out.slice_mut());
         put(&[printed.number, printed.length], &mut self.answer);
         printed.number
     }
@@ -59,16 +47,11 @@ impl Call for Print {
     }
 
     fn unlike(&self, other: &Print) -> Vec<&'static str> {
-        named([
-            ("nodes", self.nodes != other.nodes),
-            ("pool", self.pool != other.pool),
-            ("out", self.out != other.out),
-            ("answer", self.answer != other.answer),
-        ])
+        let written = named([("out", self.out != other.out), ("answer", self.answer != other.answer)]);
+        [self.table.unlike(&other.table), written].concat()
     }
 
     fn input(&self) -> String {
-        let lengths = [self.nodes.length(), self.pool.length(), self.out.length()];
-        format!("counts {} and {}, lent {lengths:?}", self.node_count, self.pool_count)
+        format!("{}, output of {}", self.table.input(), self.out.length())
     }
 }

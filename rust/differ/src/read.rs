@@ -4,6 +4,7 @@ use crate::abi;
 use crate::call::{named, put, Call, Lengths, NO_ANSWER};
 use crate::lent::Lent;
 use oracle::random::ReadCase;
+use oracle::Answer;
 
 /// Words of an answer: number, place, line, column, node count, pool count.
 pub const WORDS: usize = 6;
@@ -31,14 +32,26 @@ impl Read {
             answer: Lent::blank(answer, guards),
         }
     }
+
+    /// A random one, made from one seed.
+    pub fn new(seed: u64) -> Read {
+        Read::of(&ReadCase::new(seed), Lengths::new(seed, WORDS))
+    }
+
+    /// The answer. The slice for it is long enough.
+    pub fn words(&self) -> [u32; WORDS] {
+        self.answer.slice()[..WORDS].try_into().expect("an answer has its words")
+    }
+}
+
+/// The words of an answer.
+pub fn words(answer: Answer) -> [u32; WORDS] {
+    let Answer { number, place, line, column, nodes, pool } = answer;
+    [number, place, line, column, nodes, pool]
 }
 
 impl Call for Read {
     const NAME: &'static str = "read";
-
-    fn new(seed: u64) -> Read {
-        Read::of(&ReadCase::new(seed), Lengths::new(seed, WORDS))
-    }
 
     fn by_rules(&mut self) -> u32 {
         if self.answer.length() < WORDS {
@@ -46,9 +59,9 @@ impl Call for Read {
         }
         let (text, imperative) = (self.text.slice(), self.imperative);
         let (nodes, places, pool) = (self.nodes.slice_mut(), self.places.slice_mut(), self.pool.slice_mut());
-        let a = oracle::read(text, imperative, nodes, places, pool);
-        put(&[a.number, a.place, a.line, a.column, a.nodes, a.pool], &mut self.answer);
-        a.number
+        let answer = oracle::read(text, imperative, nodes, places, pool);
+        put(&words(answer), &mut self.answer);
+        answer.number
     }
 
     fn by_archive(&mut self) -> u32 {

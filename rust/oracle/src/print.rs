@@ -12,7 +12,7 @@ pub struct Printed {
     pub length: u32,
 }
 
-/// Spells a table canonically. Under 20 and 21 the output is left as it was; later bytes always are.
+/// Spells a table canonically, with faults 15 to 18 or without. Under 20 and 21 the output is left as it was; later bytes always are.
 pub fn print(nodes: &[u32], node_count: u32, pool: &[u8], pool_count: u32, out: &mut [u8]) -> Printed {
     let Some(table) = verify(nodes, node_count, pool, pool_count) else {
         return Printed { number: NOT_A_TABLE, length: 0 };

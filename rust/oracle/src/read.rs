@@ -1,7 +1,6 @@
-//! Reading: the groups of numbers in the order in which they are judged.
+//! Reading: the groups of numbers in the order in which they are judged, up to 14.
 
 use crate::fault::{fault, Fault};
-use crate::faults::first_fault;
 use crate::names::{
     MOST_BYTES, MOST_NODES, NESTED_LEVELS, NESTED_TOO_DEEP, NODES_SHORT, NOT_UTF8, OK, POOL_SHORT, RECORD_LENGTH,
     TEXT_TOO_LONG,
@@ -9,10 +8,9 @@ use crate::names::{
 use crate::place::line_and_column;
 use crate::scan::scan;
 use crate::sink::{gather, Count, Fill, Sink};
-use crate::table::Table;
 use crate::walk::{Walked, Walker};
 
-/// What a read returns.
+/// What a read returns, and what it returns together with the check ([`crate::pair()`]).
 #[derive(Clone, Copy, PartialEq, Eq, Debug)]
 pub struct Answer {
     pub number: u32,
@@ -23,8 +21,8 @@ pub struct Answer {
     pub pool: u32,
 }
 
-/// Reads a text into the lent memory. Under 1 to 14 and 19 the lent memory is left as it was; under 0 and 15 to 18 it
-/// is filled, and what lies past the used part keeps its values.
+/// Reads a text into the lent memory, also that of a document with faults 15 to 18. Under 0 the memory is filled, and
+/// what lies past the used part keeps its values; under all other numbers it is left as it was.
 pub fn read(text: &[u8], imperative: bool, nodes: &mut [u32], places: &mut [u32], pool: &mut [u8]) -> Answer {
     let count = match judge(text, imperative) {
         Ok(count) => count,
@@ -38,10 +36,7 @@ pub fn read(text: &[u8], imperative: bool, nodes: &mut [u32], places: &mut [u32]
     }
     let words = &mut nodes[..count.nodes as usize * RECORD_LENGTH];
     fill(text, imperative, words, places, pool);
-    match first_fault(Table { words, pool }) {
-        Some((number, node)) => answer(text, number, places[node] as usize, count),
-        None => answer(text, OK, 0, count),
-    }
+    answer(text, OK, 0, count)
 }
 
 /// Numbers 1 to 12 and 19; else the counts needed.
@@ -76,7 +71,8 @@ fn walk<S: Sink>(walker: &mut Walker<S>, imperative: bool) -> Walked {
     }
 }
 
-fn answer(text: &[u8], number: u32, place: usize, count: Count) -> Answer {
+/// An answer at a place of the text.
+pub fn answer(text: &[u8], number: u32, place: usize, count: Count) -> Answer {
     let (line, column) = line_and_column(text, place);
     Answer { number, place: place as u32, line, column, nodes: count.nodes, pool: count.pool }
 }

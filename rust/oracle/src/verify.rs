@@ -1,7 +1,6 @@
-//! Number 20: is this the node table of a well-formed document within the limits?
+//! Number 20: is this the node table of a document within the limits? Faults 15 to 18 it may have.
 
 use crate::bytes::{of_id, of_type, of_uri};
-use crate::faults::first_fault;
 use crate::kind::{Kind, Naming};
 use crate::names::{
     HEIGHT, KEY_LENGTH, KEY_OFFSET, KIND, MISSING, MOST_BYTES, MOST_NODES, NESTED_LEVELS, PARENT, RECORD_LENGTH,
@@ -16,8 +15,7 @@ pub fn verify<'t>(nodes: &'t [u32], node_count: u32, pool: &'t [u8], pool_count:
         return None;
     }
     let table = Table { words: nodes.get(..node_count * RECORD_LENGTH)?, pool: pool.get(..pool_count)? };
-    let sound = shape_is_sound(table) && strings_are_sound(table);
-    (sound && first_fault(table).is_none()).then_some(table)
+    (shape_is_sound(table) && strings_are_sound(table)).then_some(table)
 }
 
 /// A node whose children are being met. Its level is its place on the stack.

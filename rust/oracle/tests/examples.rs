@@ -2,7 +2,7 @@
 
 mod common;
 
-use common::{bytes, file, printed, read_amply};
+use common::{bytes, file, printed, read_alone, read_amply};
 
 fn text(name: &str) -> Vec<u8> {
     bytes(&format!("examples/{name}"))
@@ -12,6 +12,14 @@ fn text(name: &str) -> Vec<u8> {
 fn duplicate_id_is_refused_at_line_7() {
     let answer = read_amply(&text("duplicate-id.sd"), false).answer;
     assert_eq!((answer.number, answer.line, answer.column), (16, 7, 3));
+}
+
+#[test]
+fn duplicate_id_is_read_and_printed_as_a_draft() {
+    let draft = read_alone(&text("duplicate-id.sd"), false);
+    assert_eq!(draft.answer.number, 0);
+    let again = read_alone(&printed(&draft), false);
+    assert_eq!((again.nodes, again.pool), (draft.nodes, draft.pool));
 }
 
 #[test]

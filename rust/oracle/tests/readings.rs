@@ -1,4 +1,4 @@
-//! The example inputs of the base points B1 to B28.
+//! The example inputs of the base points B1 to B28, but for B27: since change request 1 a table with faults prints.
 
 mod common;
 
@@ -113,7 +113,7 @@ fn b24_canonical_nesting() {
 }
 
 #[test]
-fn b25_to_b27_tables() {
+fn b25_and_b26_tables() {
     let read = read_amply(b"[document [title A] [section [title B] [id x]]]", false);
     let number = |nodes: &[u32], count: u32, pool: &[u8]| print(nodes, count, pool, 3, &mut [0; 99]).number;
     let count = read.answer.nodes;
@@ -126,12 +126,6 @@ fn b25_to_b27_tables() {
     let mut offset = read.nodes.clone();
     offset[5] = 5;
     assert_eq!(number(&offset, count, &read.pool), 20);
-    for text in ["[document [title A] [id x] [section [title B] [id x]]]", &in_paragraph("[link [target x]]").0] {
-        let faulty = read_amply(text.as_bytes(), false);
-        assert!(faulty.answer.number >= 16);
-        let (nodes, pool) = (faulty.answer.nodes, faulty.answer.pool);
-        assert_eq!(print(&faulty.nodes, nodes, &faulty.pool, pool, &mut [0; 99]).number, 20);
-    }
 }
 
 #[test]

@@ -1,14 +1,15 @@
-//! Printing against another way to the same answer: a table is that of a well-formed document within the limits just
+//! Printing and checking against another way to the same answer: a table is that of a document within the limits just
 //! if the text spelled from it, by the plainest printer there is, reads back as the very same words and bytes.
 
 mod common;
 
-use common::{cases, read_amply};
+use common::plain::plain_check;
+use common::{cases, read_alone};
 use oracle::names::{
     END, HEIGHT, KEY_OFFSET, KIND, MISSING, MOST_BYTES, RECORD_LENGTH, TEXT_OFFSET, TYPE_OFFSET, WIDTH,
 };
-use oracle::random::{Element, PrintCase};
-use oracle::Kind;
+use oracle::random::{Element, PrintCase, TableCase};
+use oracle::{Checked, Kind};
 
 /// The tree that kinds, ends and strings speak of, if they speak of one.
 fn rebuild(nodes: &[u32], pool: &[u8], node: usize) -> Option<Element> {
@@ -74,39 +75,43 @@ fn spelled(element: &Element) -> String {
     format!("[{}]", pieces.join(" "))
 }
 
-/// The canonical spelling, if the case has a table to print and its text is not too long to be read.
-fn plain_print(case: &PrintCase) -> Option<String> {
+/// The document and its canonical spelling, if the case has a table and its text is not too long to be read.
+fn plain_print(case: &TableCase) -> Option<(Element, String)> {
     let nodes = case.nodes.get(..(case.node_count as usize).checked_mul(RECORD_LENGTH)?)?;
     let pool = case.pool.get(..case.pool_count as usize)?;
     if nodes.is_empty() {
         return None;
     }
-    let text = spelled(&rebuild(nodes, pool, 0)?);
-    let read = read_amply(text.as_bytes(), false);
-    (read.answer.number == 0 && read.nodes == nodes && read.pool == pool).then_some(text)
+    let document = rebuild(nodes, pool, 0)?;
+    let text = spelled(&document);
+    let read = read_alone(text.as_bytes(), false);
+    (read.answer.number == 0 && read.nodes == nodes && read.pool == pool).then_some((document, text))
 }
 
 #[test]
-fn the_printer_answers_as_the_plain_way_does() {
-    let (mut fine, mut refused) = (0, 0);
+fn printer_and_check_answer_as_the_plain_way_does() {
+    let (mut fine, mut faulty, mut refused) = (0, 0, 0);
     for seed in 0..cases() {
-        let mut case = PrintCase::new(seed);
-        case.out = 1 << 20;
-        let outcome = case.run();
+        let case = PrintCase { out: 1 << 20, ..PrintCase::new(seed) };
+        let (outcome, checked) = (case.run(), case.table.check());
         let out = &outcome.out[..outcome.printed.length as usize];
         if out.len() > MOST_BYTES {
             continue;
         }
-        match plain_print(&case) {
-            Some(text) => {
+        match plain_print(&case.table) {
+            Some((document, text)) => {
                 assert_eq!((outcome.printed.number, out), (0, text.as_bytes()), "seed {seed}");
-                fine += 1;
+                assert_eq!(checked, plain_check(&document), "seed {seed}");
+                fine += u64::from(checked.number == 0);
+                faulty += u64::from(checked.number != 0);
             }
             None => {
                 assert_eq!((outcome.printed.number, out), (20, &[][..]), "seed {seed}");
+                assert_eq!(checked, Checked { number: 20, node: 0 }, "seed {seed}");
                 refused += 1;
             }
         }
     }
-    assert!(fine * 5 > cases() && refused * 5 > cases(), "{fine} printed, {refused} refused");
+    let enough = [fine, faulty, refused].into_iter().all(|count| count * 6 > cases());
+    assert!(enough, "{fine} well-formed, {faulty} with a fault, {refused} refused");
 }

@@ -16,11 +16,19 @@ fn refused_in_both(text: &str, line: &str) {
     refused(text, text, line);
 }
 
-/// A document of one section of one paragraph that holds the content.
-fn in_paragraph(content: &str, line: &str) {
+/// A draft in both spellings: the line that the listing programs print on it, and what it is tidied to.
+fn draft(nested: &str, imperative: &str, line: &str, spelling: &str) {
+    assert_eq!(list_nested(nested), line, "{nested}");
+    assert_eq!(list_imperative(imperative), line, "{imperative}");
+    assert_eq!(print_canonical(nested), format!("{spelling}\n"), "{nested}");
+}
+
+/// A draft of one section of one paragraph that holds the content.
+fn draft_in_paragraph(content: &str, line: &str, spelling: &str) {
     let nested = format!("[document [title A] [id x] [section [title B] [paragraph\n{content}]]]");
     let imperative = format!("[document [title A] [id x]] [section [title B]] [paragraph]\n{content}");
-    refused(&nested, &imperative, line);
+    let start = "[document [title \"A\"] [id x] [section [title \"B\"] [paragraph";
+    draft(&nested, &imperative, line, &format!("{start} {spelling}]]]"));
 }
 
 #[test]
@@ -45,18 +53,23 @@ fn ill_formed_bytes() {
     }
 }
 
-/// They fill the table, and are refusals all the same.
+/// They are found in the table that reading filled: the listing programs refuse it, and it is tidied all the same.
 #[test]
 fn faults_of_the_table() {
     let head = "[table [summary] [head [name] [name]] [body\n[row [cell] [cell]]";
-    in_paragraph(&format!("{head}\n  [row [cell]]]]"), "refused 15 4:3\n");
-    in_paragraph("é [link [target y]]", "refused 17 2:3\n");
-    in_paragraph("[footnote-ref [target x]]", "refused 18 2:1\n");
+    draft_in_paragraph(
+        &format!("{head}\n  [row [cell]]]]"),
+        "refused 15 4:3\n",
+        "[table [summary] [head [name] [name]] [body [row [cell] [cell]] [row [cell]]]]",
+    );
+    draft_in_paragraph("é [link [target y]]", "refused 17 2:3\n", "\"é\" [link [target \"y\"]]");
+    draft_in_paragraph("[footnote-ref [target x]]", "refused 18 2:1\n", "[footnote-ref [target \"x\"]]");
     let repeated = "[section [title B] [id x]]";
-    refused(
+    draft(
         &format!("[document [title A] [id x]\n{repeated}]"),
         &format!("[document [title A] [id x]]\n{repeated}"),
         "refused 16 2:1\n",
+        "[document [title \"A\"] [id x] [section [title \"B\"] [id x]]]",
     );
 }
 

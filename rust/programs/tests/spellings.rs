@@ -43,9 +43,12 @@ fn longest_spelling() {
     assert_same(&print_canonical(full("\\")), &spelling);
 }
 
-/// What is printed is printed again as it is.
+/// What is printed is printed again as it is, of a manual and of one with an id that is there twice.
 #[test]
-fn manual() {
-    let spelling = print_canonical(bytes("examples/crew-manual.sd"));
-    assert_same(&print_canonical(&spelling), &spelling);
+fn manuals() {
+    for manual in ["examples/crew-manual.sd", "examples/duplicate-id.sd"] {
+        let spelling = print_canonical(bytes(manual));
+        assert!(spelling.starts_with("[document [title \""), "{spelling}");
+        assert_same(&print_canonical(&spelling), &spelling);
+    }
 }

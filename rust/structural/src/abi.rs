@@ -1,4 +1,4 @@
-//! The three functions of libstructural.a, as `include/structural.h` declares them. All `unsafe` is here.
+//! The four functions of libstructural.a, as `include/structural.h` declares them. All `unsafe` is here.
 //!
 //! What they ask of a caller, Rust's slices give: a pointer that is aligned and not null, as many elements
 //! as the length says, and no overlap between one that is written and any other.
@@ -7,6 +7,9 @@ use crate::Spelling;
 
 /// Words of an answer to reading: number, place, line, column, node count, pool count.
 pub const READ_WORDS: usize = 6;
+
+/// Words of an answer to the check: number, node.
+pub const CHECK_WORDS: usize = 2;
 
 /// Words of an answer to printing: number, length.
 pub const PRINT_WORDS: usize = 2;
@@ -47,6 +50,17 @@ extern "C" {
         places_length: usize,
         pool: *mut u8,
         pool_length: usize,
+        answer: *mut u32,
+        answer_length: usize,
+    ) -> u32;
+
+    fn structural_check(
+        nodes: *const u32,
+        nodes_length: usize,
+        node_count: u32,
+        pool: *const u8,
+        pool_length: usize,
+        pool_count: u32,
         answer: *mut u32,
         answer_length: usize,
     ) -> u32;
@@ -98,6 +112,23 @@ pub fn read(
     }
 }
 
+/// Checks what is lent; returns the number, and the answer's words in `answer`.
+pub fn check(nodes: &[u32], node_count: u32, pool: &[u8], pool_count: u32, answer: &mut [u32]) -> u32 {
+    // SAFETY: each pointer and length are those of a slice, and the borrows keep the slices apart.
+    unsafe {
+        structural_check(
+            nodes.as_ptr(),
+            nodes.len(),
+            node_count,
+            pool.as_ptr(),
+            pool.len(),
+            pool_count,
+            answer.as_mut_ptr(),
+            answer.len(),
+        )
+    }
+}
+
 /// Prints into what is lent; returns the number, and the answer's words in `answer`.
 pub fn print(nodes: &[u32], node_count: u32, pool: &[u8], pool_count: u32, out: &mut [u8], answer: &mut [u32]) -> u32 {
     // SAFETY: each pointer and length are those of a slice, and the borrows keep the slices apart.
@@ -140,6 +171,16 @@ mod tests {
     }
 
     #[test]
+    fn check_answer_too_short_touches_nothing() {
+        for length in 0..CHECK_WORDS {
+            let (nodes, pool) = (nodes().concat(), b"A".to_vec());
+            let mut answer = vec![MARK; length];
+            assert_eq!(check(&nodes, 3, &pool, 1, &mut answer), number::NO_ANSWER);
+            assert!(nodes == self::nodes().concat() && pool == b"A" && answer == vec![MARK; length]);
+        }
+    }
+
+    #[test]
     fn print_answer_too_short_touches_nothing() {
         for length in 0..PRINT_WORDS {
             let mut out = [0xA5; 64];
@@ -166,18 +207,31 @@ mod tests {
     }
 
     /// The words of the same table: kind, parent, end, three strings, size.
-    #[test]
-    fn print_answers_that_are_long_enough_keep_their_later_words() {
+    fn nodes() -> [[u32; 11]; 3] {
         let none = u32::MAX;
-        let nodes = [
+        [
             [1, none, 3, 0, 0, 0, 0, 0, 0, none, none],
             [8, 0, 3, 0, 0, 0, 0, 0, 0, none, none],
             [9, 1, 3, 0, 0, 0, 0, 0, 1, none, none],
-        ];
+        ]
+    }
+
+    /// The table is well-formed; two nodes of it are no table, since the root ends at 3.
+    #[test]
+    fn check_answers_that_are_long_enough_keep_their_later_words() {
+        for (length, (count, wanted)) in [2, 3, 4].into_iter().flat_map(|n| [(3, 0), (2, 20)].map(|case| (n, case))) {
+            let mut answer = vec![MARK; length];
+            assert_eq!(check(&nodes().concat(), count, b"A", 1, &mut answer), wanted);
+            assert_eq!((&answer[..2], &answer[2..]), (&[wanted, 0][..], &vec![MARK; length - 2][..]));
+        }
+    }
+
+    #[test]
+    fn print_answers_that_are_long_enough_keep_their_later_words() {
         for length in [2, 3, 4] {
             let mut out = [0xA5; 22];
             let mut answer = vec![MARK; length];
-            assert_eq!(print(&nodes.concat(), 3, b"A", 1, &mut out, &mut answer), number::OK);
+            assert_eq!(print(&nodes().concat(), 3, b"A", 1, &mut out, &mut answer), number::OK);
             assert_eq!((&answer[..2], &out), (&[0, 22][..], b"[document [title \"A\"]]"));
             assert_eq!(answer[2..], vec![MARK; length - 2]);
         }

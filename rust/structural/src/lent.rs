@@ -1,6 +1,7 @@
-//! Reading and printing over memory that the caller lends, with no allocation.
+//! Reading, checking and printing over memory that the caller lends, with no allocation.
 //!
-//! Each slice may have any length, also 0. `docs/LANGUAGE.md` says what each number leaves in them.
+//! Each slice may have any length, also 0. `docs/LANGUAGE.md` says what each number leaves in them. [`read`] answers
+//! no fault of rows, ids or links (15 to 18): whoever wants these calls [`check`] on what it left.
 
 use crate::{abi, Spelling};
 
@@ -20,7 +21,7 @@ pub const MAX_NODES: usize = 4_096;
 /// What reading answers.
 #[derive(Clone, Copy, Debug, PartialEq, Eq, Hash)]
 pub struct Answer {
-    /// One of [`crate::number`], 0 to 19.
+    /// One of [`crate::number`], 0 to 14 or 19; in a [`crate::Refusal`] also 15 to 18.
     pub number: u32,
     /// Offset in the text; 0 where the number has no place.
     pub place: u32,
@@ -28,10 +29,19 @@ pub struct Answer {
     pub line: u32,
     /// Column of the place, from 1, in code points.
     pub column: u32,
-    /// Nodes used under 0 and 15 to 18, needed under 13 and 14, else 0.
+    /// Nodes used under 0 and, in a refusal, 15 to 18; needed under 13 and 14; else 0.
     pub nodes: u32,
     /// Pool bytes, likewise.
     pub pool: u32,
+}
+
+/// What the check answers.
+#[derive(Clone, Copy, Debug, PartialEq, Eq, Hash)]
+pub struct Checked {
+    /// 0, 15 to 18 or 20.
+    pub number: u32,
+    /// The number of the first node that has the fault; 0 under 0 and 20.
+    pub node: u32,
 }
 
 /// What printing answers.
@@ -64,7 +74,30 @@ pub fn read(text: &[u8], spelling: Spelling, nodes: &mut [u32], places: &mut [u3
     Answer { number, place, line, column, nodes, pool }
 }
 
-/// Writes the canonical spelling of the document whose table is the first `node_count` nodes and the first
+/// Checks the first `node_count` nodes and the first `pool_count` pool bytes: 20 where no draft within the limits has
+/// this table, or a count is beyond what is lent; then 15, 16, 17 and 18, each over the whole document before the
+/// next, with the first node that has the fault; 0 where the document is well-formed.
+///
+/// ```
+/// use structural::{lent, number, Spelling};
+///
+/// let text = b"[document [title A] [id x] [section [title B] [id x]]]";
+/// let (mut nodes, mut places, mut pool) = ([0; 66], [0; 6], [0; 4]);
+/// let answer = lent::read(text, Spelling::Nested, &mut nodes, &mut places, &mut pool);
+/// assert_eq!((answer.number, answer.nodes, answer.pool), (number::OK, 6, 4));
+///
+/// let checked = lent::check(&nodes, answer.nodes, &pool, answer.pool);
+/// assert_eq!((checked.number, checked.node), (number::REPEATED_ID, 3));
+/// assert_eq!(places[checked.node as usize], 27);
+/// ```
+pub fn check(nodes: &[u32], node_count: u32, pool: &[u8], pool_count: u32) -> Checked {
+    let mut words = [0; abi::CHECK_WORDS];
+    abi::check(nodes, node_count, pool, pool_count, &mut words);
+    let [number, node] = words;
+    Checked { number, node }
+}
+
+/// Writes the canonical spelling of the draft whose table is the first `node_count` nodes and the first
 /// `pool_count` pool bytes. With an output of no bytes it answers the length needed, under 21.
 pub fn print(nodes: &[u32], node_count: u32, pool: &[u8], pool_count: u32, out: &mut [u8]) -> Printed {
     let mut words = [0; abi::PRINT_WORDS];

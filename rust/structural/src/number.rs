@@ -1,6 +1,9 @@
-//! The numbers that reading and printing answer, and what each means.
+//! The numbers that reading, the check and printing answer, and what each means.
+//!
+//! Reading answers 0 to 14 and 19, the check 0, 15 to 18 and 20, printing 0, 20 and 21.
 
-/// The text is a well-formed document; of printing: the spelling is written.
+/// Nothing is refused. Reading: the text is a draft; the check: its document is well-formed; printing: the spelling
+/// is written.
 pub const OK: u32 = 0;
 /// The text has more than 65,536 bytes.
 pub const TEXT_TOO_LONG: u32 = 1;
@@ -40,7 +43,7 @@ pub const UNKNOWN_TARGET: u32 = 17;
 pub const UNKNOWN_FOOTNOTE: u32 = 18;
 /// Imperative: the nested form would nest more than 64 deep.
 pub const NESTED_TOO_DEEP: u32 = 19;
-/// Printing: not the table of a well-formed document within the limits.
+/// Not the table of a draft within the limits, or a count is beyond what is lent.
 pub const NOT_A_TABLE: u32 = 20;
 /// Printing: the output is too short.
 pub const OUTPUT_SHORT: u32 = 21;
@@ -50,7 +53,7 @@ pub const OUTPUT_SHORT: u32 = 21;
 pub const NO_ANSWER: u32 = 4_294_967_295;
 
 const MEANINGS: [&str; 22] = [
-    "the text is a well-formed document",
+    "nothing is refused",
     "the text has more than 65,536 bytes",
     "the text is not UTF-8",
     "a character that is forbidden outside strings",
@@ -70,7 +73,7 @@ const MEANINGS: [&str; 22] = [
     "a link's target is the id of no block",
     "a footnote reference's target is the id of no footnote",
     "imperative: the nested form would nest more than 64 deep",
-    "printing: not the table of a well-formed document within the limits",
+    "not the table of a draft within the limits",
     "printing: the output is too short",
 ];
 
@@ -84,7 +87,7 @@ pub fn meaning(number: u32) -> &'static str {
     MEANINGS.get(number as usize).copied().unwrap_or("no number of an answer")
 }
 
-/// Whether reading fills the table under this number: 0 and 15 to 18.
+/// Whether there is a filled table under this number: 0, and 15 to 18, which the check answers of one.
 pub fn fills(number: u32) -> bool {
     number == OK || (ROW_LENGTH..=UNKNOWN_FOOTNOTE).contains(&number)
 }

@@ -1,7 +1,8 @@
 use crate::lent::{self, Answer, MAX_NODES, NODE_WORDS};
-use crate::{number, Document, Refusal, Spelling, Table};
+use crate::{number, Document, Draft, Refusal, Spelling, Table};
 
-/// Reads a text: its document, or where and why it is none.
+/// Reads a text: its document, or where and why it is none. A draft that is not well-formed is refused too;
+/// [`read_draft`] takes it.
 ///
 /// ```
 /// use structural::{read, Spelling};
@@ -12,25 +13,39 @@ use crate::{number, Document, Refusal, Spelling, Table};
 /// # Ok::<(), structural::Refusal>(())
 /// ```
 pub fn read(text: impl AsRef<[u8]>, spelling: Spelling) -> Result<Document, Refusal> {
+    read_draft(text, spelling)?.into_document()
+}
+
+/// Reads a text without a look at its rows, ids and links: its draft, or where and why it is none. The number of the
+/// refusal is none of 15 to 18.
+///
+/// ```
+/// use structural::{read, read_draft, Spelling};
+///
+/// let text = "[document [title A] [section [title B] [paragraph [link [target later]]]]]";
+/// let draft = read_draft(text, Spelling::Nested)?;
+/// assert_eq!((draft.count(), draft.faults().len()), (8, 1));
+/// assert_eq!(read(text, Spelling::Nested).unwrap_err().number(), 17);
+/// # Ok::<(), structural::Refusal>(())
+/// ```
+pub fn read_draft(text: impl AsRef<[u8]>, spelling: Spelling) -> Result<Draft, Refusal> {
     let text = text.as_ref();
     let asked = lent::read(text, spelling, &mut [], &mut [], &mut []);
     if asked.number != number::NODES_SHORT || asked.nodes as usize > MAX_NODES {
-        return Err(Refusal::new(asked, None));
+        return Err(Refusal::of_text(asked));
     }
-    let (answer, table) = fill(text, spelling, asked);
-    match answer.number {
-        number::OK => Ok(Document::new(table)),
-        filled if number::fills(filled) => Err(Refusal::new(answer, Some(table))),
-        _ => Err(Refusal::new(answer, None)),
-    }
+    fill(text, spelling, asked)
 }
 
 /// Reads again, into memory of the counts that were asked for.
-fn fill(text: &[u8], spelling: Spelling, asked: Answer) -> (Answer, Table) {
+fn fill(text: &[u8], spelling: Spelling, asked: Answer) -> Result<Draft, Refusal> {
     let mut words = vec![0; asked.nodes as usize * NODE_WORDS];
     let mut places = vec![0; asked.nodes as usize];
     let mut pool = vec![0; asked.pool as usize];
     let answer = lent::read(text, spelling, &mut words, &mut places, &mut pool);
+    if answer.number != number::OK {
+        return Err(Refusal::of_text(answer));
+    }
     let pool = String::from_utf8(pool).expect("a pool holds the strings of a text that is UTF-8");
-    (answer, Table::new(words, places, pool))
+    Ok(Draft::new(Table::new(text, words, places, pool)))
 }

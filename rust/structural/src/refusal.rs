@@ -1,5 +1,5 @@
 use crate::lent::Answer;
-use crate::{number, Kind, Node, Table};
+use crate::{number, Draft, Fault, Node, Position, Table};
 use std::fmt;
 use std::path::{Path, PathBuf};
 
@@ -9,12 +9,23 @@ use std::path::{Path, PathBuf};
 #[derive(Clone, Debug, PartialEq, Eq)]
 pub struct Refusal {
     answer: Answer,
-    table: Option<Table>,
+    draft: Option<Draft>,
 }
 
 impl Refusal {
-    pub(crate) fn new(answer: Answer, table: Option<Table>) -> Refusal {
-        Refusal { answer, table }
+    /// Of a text that is no draft.
+    pub(crate) fn of_text(answer: Answer) -> Refusal {
+        Refusal { answer, draft: None }
+    }
+
+    /// Of a draft that is not well-formed, at the place of the node that has the fault.
+    pub(crate) fn of_draft(draft: Draft, fault: Fault) -> Refusal {
+        let node = draft.node(fault.node).expect("a fault is of a node of its draft");
+        // Reading counted all of these in 32 bits.
+        let (place, nodes, pool) = (node.place() as u32, draft.count() as u32, draft.pool().len() as u32);
+        let Position { line, column } = node.position();
+        let answer = Answer { number: fault.number, place, line, column, nodes, pool };
+        Refusal { answer, draft: Some(draft) }
     }
 
     /// One of [`number`], 1 to 19.
@@ -47,9 +58,19 @@ impl Refusal {
         self.answer
     }
 
-    /// The nodes of the text, where the fault is one of rows, ids or links (15 to 18): then all else is in order.
+    /// The draft, where the fault is one of rows, ids or links (15 to 18): then all else is in order.
+    pub fn draft(&self) -> Option<&Draft> {
+        self.draft.as_ref()
+    }
+
+    /// The same, to keep it.
+    pub fn into_draft(self) -> Option<Draft> {
+        self.draft
+    }
+
+    /// The nodes of that draft.
     pub fn table(&self) -> Option<&Table> {
-        self.table.as_ref()
+        self.draft.as_deref()
     }
 
     /// The node that has the fault, where there is a table.
@@ -83,13 +104,7 @@ impl Refusal {
 
     /// Under 15, how many cells the row has and how many names the head of its table.
     pub fn row_length(&self) -> Option<(usize, usize)> {
-        if self.number() != number::ROW_LENGTH {
-            return None;
-        }
-        let row = self.node()?;
-        let table = row.parent()?.parent()?;
-        let head = table.children().find(|child| child.kind() == Kind::Head)?;
-        Some((row.children().count(), head.children().count()))
+        self.node().filter(|_| self.number() == number::ROW_LENGTH)?.row_length()
     }
 
     /// The refusal of a file, displayed as `file:line:column: number: what it means`.

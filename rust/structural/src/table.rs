@@ -1,8 +1,9 @@
-use crate::lent::{self, NODE_WORDS, NONE};
-use crate::{number, Kind};
+use crate::lent::{NODE_WORDS, NONE};
+use crate::position::positions;
+use crate::{Kind, Position};
 use std::fmt;
 use std::iter::FusedIterator;
-use std::ops::{Deref, Range};
+use std::ops::Range;
 
 // Where a node's words stand in its record.
 const KIND: usize = 0;
@@ -16,19 +17,23 @@ const HEIGHT: usize = 10;
 
 /// The nodes of a text, in document order, with the strings that they have.
 ///
-/// A [`Document`] has a table, and so has a [`crate::Refusal`] for rows, ids or links (15 to 18). Two are
-/// equal where their nodes and strings are: where these stand in the text does not count.
+/// A [`crate::Draft`] has a table, and so have a [`crate::Document`] and a [`crate::Refusal`] for rows, ids or links
+/// (15 to 18). Two are equal where their nodes and strings are: where these stand in the text does not count.
 #[derive(Clone)]
 pub struct Table {
     words: Vec<u32>,
     places: Vec<u32>,
+    /// Line and column of each place, since the text is not kept.
+    positions: Vec<Position>,
     pool: String,
 }
 
 impl Table {
-    /// Of what reading has filled.
-    pub(crate) fn new(words: Vec<u32>, places: Vec<u32>, pool: String) -> Table {
-        Table { words, places, pool }
+    /// Of what reading this text has filled.
+    pub(crate) fn new(text: &[u8], words: Vec<u32>, places: Vec<u32>, pool: String) -> Table {
+        // Nodes stand in the text in their own order.
+        let positions = positions(text, &places);
+        Table { words, places, positions, pool }
     }
 
     /// How many nodes there are.
@@ -90,49 +95,6 @@ impl Eq for Table {}
 impl fmt::Debug for Table {
     fn fmt(&self, f: &mut fmt::Formatter<'_>) -> fmt::Result {
         f.debug_list().entries(self.nodes()).finish()
-    }
-}
-
-/// A well-formed document: all that [`Table`] has, and a canonical spelling.
-#[derive(Clone, Debug, PartialEq, Eq)]
-pub struct Document {
-    table: Table,
-}
-
-impl Document {
-    /// Of a table that was filled under 0.
-    pub(crate) fn new(table: Table) -> Document {
-        Document { table }
-    }
-
-    /// The canonical spelling: nested, in square brackets, one space between elements, and no line end at
-    /// its close. Reading it gives an equal document, where it is no longer than a text may be.
-    ///
-    /// ```
-    /// use structural::{read, Spelling};
-    /// let document = read("(document(title A)(type t)(id x))", Spelling::Nested)?;
-    /// assert_eq!(document.print(), r#"[document [title "A"] [id x] [type t]]"#);
-    /// # Ok::<(), structural::Refusal>(())
-    /// ```
-    pub fn print(&self) -> String {
-        let mut out = vec![0; self.print_into(&mut []).length as usize];
-        let printed = self.print_into(&mut out);
-        assert_eq!(printed.number, number::OK, "the table of a document that was read can be printed");
-        String::from_utf8(out).expect("the canonical spelling is UTF-8")
-    }
-
-    fn print_into(&self, out: &mut [u8]) -> lent::Printed {
-        let Table { words, places, pool } = &self.table;
-        // Reading counted both in 32 bits.
-        lent::print(words, places.len() as u32, pool.as_bytes(), pool.len() as u32, out)
-    }
-}
-
-impl Deref for Document {
-    type Target = Table;
-
-    fn deref(&self) -> &Table {
-        &self.table
     }
 }
 
@@ -216,6 +178,18 @@ impl<'a> Node<'a> {
     /// The offset in the text of its first byte.
     pub fn place(self) -> usize {
         self.table.places[self.number] as usize
+    }
+
+    /// Line and column of that place.
+    pub fn position(self) -> Position {
+        self.table.positions[self.number]
+    }
+
+    /// Of a row in a table with a head: how many cells the row has, and how many names the head.
+    pub fn row_length(self) -> Option<(usize, usize)> {
+        let table = self.parent().filter(|_| self.kind() == Kind::Row)?.parent()?;
+        let head = table.children().find(|child| child.kind() == Kind::Head)?;
+        Some((self.children().count(), head.children().count()))
     }
 
     /// Its children, in order.

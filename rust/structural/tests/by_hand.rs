@@ -11,9 +11,9 @@ const BARE: [u32; 8] = [0, 0, 0, 0, 0, 0, NONE, NONE];
 
 const SPELLINGS: [Spelling; 2] = [Spelling::Nested, Spelling::Imperative];
 
-/// Reads into so many node words, places and pool bytes. That nothing else is written, [`Room::read`] checks.
+/// Reads into so many node words, places and pool bytes, and checks. That nothing else is written, [`Room::pair`] sees.
 fn read_into(text: &str, spelling: Spelling, [nodes, places, pool]: [usize; 3]) -> Answer {
-    Room::new(nodes, places, pool).read(text.as_bytes(), spelling)
+    Room::new(nodes, places, pool).pair(text.as_bytes(), spelling)
 }
 
 /// An answer without a place: place 0 is line 1, column 1.

@@ -6,7 +6,7 @@ use common::{file, PAIRS};
 use std::fs::{self, File};
 use std::path::{Path, PathBuf};
 use std::process::{Command, Output};
-use structural::{read, Spelling};
+use structural::{read_draft, Spelling};
 
 fn archive() -> PathBuf {
     let folder = std::env::var_os("STRUCTURAL_LIB_DIR").map_or(file("target/staticlib"), PathBuf::from);
@@ -60,6 +60,8 @@ fn example_compiles_and_answers() {
     assert_eq!(answered(&program, &["--imperative", "-"], &file("examples/crew-manual.sdi")), manual);
     let twice = "examples/duplicate-id.sd:7:3: 16: a block has the id of an earlier block\n";
     assert_eq!(answers(&["examples/duplicate-id.sd"]), (twice.to_string(), 1));
+    let missing = "examples/draft-manual.sd:19:7: 17: a link's target is the id of no block\n";
+    assert_eq!(answers(&["examples/draft-manual.sd"]), (missing.to_string(), 1));
     let nested = "examples/anchoring.sd:4:3: 8: an expression that is not allowed here\n";
     assert_eq!(answers(&["--imperative", "examples/anchoring.sd"]), (nested.to_string(), 1));
     let empty = "-:1:1: 7: no expression, or in a nested text a second one\n";
@@ -76,10 +78,28 @@ fn example_compiles_and_answers() {
 #[test]
 fn printing_from_c_is_printing_from_here() {
     let program = compiled("rust/structural/tests/print.c", "print");
-    for example in PAIRS {
+    for example in PAIRS.into_iter().chain(["duplicate-id", "draft-manual"]) {
         let name = file(&format!("examples/{example}.sd"));
-        let document = read(fs::read(&name).unwrap(), Spelling::Nested).unwrap();
-        assert_eq!(answered(&program, &[], &name), (document.print(), 0), "{example}");
+        let draft = read_draft(fs::read(&name).unwrap(), Spelling::Nested).unwrap();
+        assert_eq!(answered(&program, &[], &name), (draft.print(), 0), "{example}");
     }
-    assert_eq!(answered(&program, &[], &file("examples/duplicate-id.sd")), (String::new(), 16));
+    assert_eq!(answered(&program, &[], &file("examples/anchoring.sdi")), (String::new(), 7));
+}
+
+/// In duplicate-id.sd each of the first two sections has a title, its text, a paragraph and its text, so that the
+/// second section is node 8. In draft-manual.sd 43 nodes are before the link: document, title, text, section, title,
+/// text, paragraph, text, reference, text; of the table itself, summary and text, head with three names and texts,
+/// body, and three rows of three cells and texts, 1 + 2 + 7 + 1 + 21; text.
+#[test]
+fn checking_from_c() {
+    let program = compiled("rust/structural/tests/check.c", "check");
+    for (example, answers) in [
+        ("crew-manual.sd", "0 595 11675\n0 0\n"),
+        ("duplicate-id.sd", "0 21 277\n16 8\n"),
+        ("draft-manual.sd", "0 56 617\n17 43\n"),
+        ("anchoring.sdi", "7 0 0\n"),
+    ] {
+        let name = file(&format!("examples/{example}"));
+        assert_eq!(answered(&program, &[], &name), (answers.to_string(), 0), "{example}");
+    }
 }

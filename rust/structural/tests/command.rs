@@ -89,14 +89,35 @@ examples/duplicate-id.sd:3:3: note: the first block with the id wave-limit
     |   ^
 ";
 
+const MISSING: &str = "\
+examples/draft-manual.sd:19:7: 17: a link's target is the id of no block
+  19 |       [link [target heavy-weather] \"Heavy weather\"]
+     |       ^
+  target: heavy-weather
+";
+
+/// A message as `--draft` has it: the number of a fault stands behind the word.
+fn warned(message: &str) -> String {
+    [": 15: ", ": 16: ", ": 17: ", ": 18: "]
+        .into_iter()
+        .fold(message.to_string(), |message, number| message.replace(number, &format!(": warning{number}")))
+}
+
 #[test]
 fn check_of_a_folder() {
-    let run = run(&["check", "examples"]);
-    assert_eq!((run.err.as_str(), run.status), (REPEATED, 1));
-    let lines: Vec<&str> = run.out.lines().collect();
+    let refused = run(&["check", "examples"]);
+    assert_eq!((refused.err, refused.status), (format!("{MISSING}{REPEATED}"), 1));
+    let lines: Vec<&str> = refused.out.lines().collect();
     assert_eq!(lines[0], "examples/anchoring.sd: ok: 66 nodes, 630 pool bytes");
     assert_eq!(lines[1], "examples/anchoring.sdi: ok: 66 nodes, 630 pool bytes");
-    assert_eq!(lines.last(), Some(&"9 files: 8 well-formed, 1 refused"));
+    assert_eq!((lines.len(), lines.last()), (9, Some(&"10 files: 8 well-formed, 2 refused")));
+
+    let taken = run(&["check", "--draft", "examples"]);
+    assert_eq!((taken.err, taken.status), (warned(&format!("{MISSING}{REPEATED}")), 0));
+    let lines: Vec<&str> = taken.out.lines().collect();
+    assert_eq!(lines[4], "examples/draft-manual.sd: draft: 56 nodes, 617 pool bytes, 1 fault");
+    assert_eq!(lines[5], "examples/duplicate-id.sd: draft: 21 nodes, 277 pool bytes, 1 fault");
+    assert_eq!((lines.len(), lines.last()), (11, Some(&"10 files: 8 well-formed, 2 drafts with faults, 0 refused")));
 }
 
 #[test]
@@ -204,9 +225,129 @@ fn fmt_is_the_canonical_spelling() {
 
 #[test]
 fn refusals_of_list_and_fmt() {
+    let expected = "\
+-:1:19: 5: a closing bracket without its partner, or a list that is not closed
+  1 | [document [title A)]
+    |                   ^
+";
     for task in ["list", "fmt"] {
-        assert_eq!(run(&[task, "examples/duplicate-id.sd"]), refused(REPEATED));
+        assert_eq!(run_on(&[task, "-"], "[document [title A)]"), refused(expected));
     }
+}
+
+/// Seven faults, in the order of their nodes: 17, 18 (of a section), 15 twice, 16, 17 and 16. The last reference is to
+/// the footnote, whose id is the document's too.
+const SEVERAL: &str = "\
+[document [title A] [id a]]
+[section [title B] [id b]]
+[paragraph] [link [target x]] [footnote-ref [target b]]
+[table [summary] [head [name]]
+  [body [row] [row [cell]] [row [cell] [cell]]]]
+[footnote [id a]]
+[paragraph [id c]] [link [target c]]
+[footnote-ref [target a]] [link [target y]]
+[section [title C] [id b]]
+";
+
+const FAULTS: &str = "\
+-:3:13: 17: a link's target is the id of no block
+  3 | [paragraph] [link [target x]] [footnote-ref [target b]]
+    |             ^
+  target: x
+-:3:31: 18: a footnote reference's target is the id of no footnote
+  3 | [paragraph] [link [target x]] [footnote-ref [target b]]
+    |                               ^
+  target: b
+-:2:1: note: a section has that id, and is no footnote
+  2 | [section [title B] [id b]]
+    | ^
+-:5:9: 15: a row has another number of cells than its table's head has names
+  5 |   [body [row] [row [cell]] [row [cell] [cell]]]]
+    |         ^
+  cells in the row: 0; names in the head: 1
+-:5:28: 15: a row has another number of cells than its table's head has names
+  5 |   [body [row] [row [cell]] [row [cell] [cell]]]]
+    |                            ^
+  cells in the row: 2; names in the head: 1
+-:6:1: 16: a block has the id of an earlier block
+  6 | [footnote [id a]]
+    | ^
+-:1:1: note: the first block with the id a
+  1 | [document [title A] [id a]]
+    | ^
+-:8:27: 17: a link's target is the id of no block
+  8 | [footnote-ref [target a]] [link [target y]]
+    |                           ^
+  target: y
+-:9:1: 16: a block has the id of an earlier block
+  9 | [section [title C] [id b]]
+    | ^
+-:2:1: note: the first block with the id b
+  2 | [section [title B] [id b]]
+    | ^
+";
+
+#[test]
+fn every_fault_is_shown() {
+    assert_eq!(run_on(&["check", "--imperative", "-"], SEVERAL), refused(FAULTS));
+    // As warnings with --draft, whatever the order of the options.
+    let out = "-: draft: 28 nodes, 13 pool bytes, 7 faults\n";
+    for words in [["check", "--draft", "--imperative", "-"], ["--imperative", "check", "-", "--draft"]] {
+        assert_eq!(run_on(&words, SEVERAL), Run { out: out.to_string(), err: warned(FAULTS), status: 0 });
+    }
+}
+
+/// What is no draft is refused with --draft as without, by one number and with status 1; a well-formed file is fine.
+#[test]
+fn drafts_are_not_all_texts() {
+    for text in
+        ["", "[document [title A] [section [title B] [paragraph [link [target x]]]]", "[document [title A) [id x]]"]
+    {
+        let plain = run_on(&["check", "-"], text);
+        assert_eq!((plain.status, plain.out.as_str(), plain.err.lines().count()), (1, "", 3), "{plain:?}");
+        assert_eq!(run_on(&["check", "--draft", "-"], text), plain);
+    }
+    assert_eq!(run_on(&["check", "--draft", "-"], NESTED), accepted("-: ok: 6 nodes, 2 pool bytes\n"));
+}
+
+#[test]
+fn sums_of_drafts() {
+    let fault = NESTED.replace("B]", "B] [paragraph [link [target x]]]");
+    let files = [("a.sd", NESTED), ("b.sd", fault.as_str()), ("c.sd", "[document]")];
+    let folder = folder("drafts", &files);
+    let last = |words: &[&str]| {
+        let run = run_in(folder.clone(), words, b"");
+        (run.out.lines().last().unwrap().to_string(), run.status)
+    };
+    let sum = |line: &str, status| (line.to_string(), status);
+    assert_eq!(last(&["check", "a.sd", "b.sd"]), sum("2 files: 1 well-formed, 1 refused", 1));
+    assert_eq!(
+        last(&["check", "--draft", "a.sd", "b.sd"]),
+        sum("2 files: 1 well-formed, 1 draft with faults, 0 refused", 0)
+    );
+    assert_eq!(last(&["check", "--draft", "."]), sum("3 files: 1 well-formed, 1 draft with faults, 1 refused", 1));
+    assert_eq!(last(&["check", "--draft", "a.sd", "a.sd"]), sum("2 files: 2 well-formed, 0 refused", 0));
+}
+
+#[test]
+fn list_and_fmt_of_a_draft() {
+    let text = "[document [title A] [id x]] [section [title B] [id x]] [paragraph] [link [target y]]";
+    let listing = "\
+nodes 8 pool 5
+0 1 - 8 document id x
+1 8 0 3 title
+2 9 1 3 text \"A\"
+3 3 0 8 section id x
+4 8 3 6 title
+5 9 4 6 text \"B\"
+6 5 3 8 paragraph
+7 13 6 8 link target \"y\"
+";
+    assert_eq!(run_on(&["list", "--imperative", "-"], text), accepted(listing));
+    let canonical =
+        "[document [title \"A\"] [id x] [section [title \"B\"] [id x] [paragraph [link [target \"y\"]]]]]\n";
+    assert_eq!(run_on(&["fmt", "--imperative", "-"], text), accepted(canonical));
+    assert_eq!(run_on(&["fmt", "-"], canonical), accepted(canonical));
 }
 
 #[test]
@@ -300,6 +441,7 @@ fn wrong_calls() {
         &["check", "-", "-"],
         &["tidy", "a"],
         &["check", "--nested", "a"],
+        &["fmt", "--draft", "a"],
     ] {
         let run = run(words);
         assert_eq!((run.out.as_str(), run.status), ("", 2), "{words:?}");
@@ -312,9 +454,9 @@ fn help_and_version() {
     for words in [&["--help"] as &[&str], &["-h"], &["help"], &["check", "--help"]] {
         let run = run(words);
         assert_eq!((run.err.as_str(), run.status), ("", 0));
-        assert!(run.out.contains("structural check FILE.."));
+        assert!(run.out.contains("structural check FILE..") && run.out.contains("--draft"));
     }
-    assert_eq!(run(&["--version"]), accepted("structural 0.1.0 (language 3.0.0)\n"));
+    assert_eq!(run(&["--version"]), accepted("structural 0.2.0 (language 3.0.0)\n"));
 }
 
 #[test]

@@ -1,4 +1,4 @@
-//! Judged texts with their whole answers.
+//! Judged texts with their whole answers: those of the pair, reading and the check of what it left.
 //!
 //! | test | cases |
 //! |---|---|
@@ -83,13 +83,23 @@ fn examples_of_the_definitions() {
     assert!(examples.len() > 100, "{}", examples.len());
     for (spelling, text, wanted) in examples {
         let mut room = Room::new(704, 64, 64);
-        assert_eq!(room.read(text.as_bytes(), spelling), wanted, "{text}");
+        assert_eq!(room.pair(text.as_bytes(), spelling), wanted, "{text}");
         judged_alike(&text, spelling, wanted);
+        read_alone(&text, spelling, wanted);
     }
     let lent: Vec<_> = short.lines().filter_map(room_and_example).collect();
     assert!(lent.len() > 5);
     for (mut room, (spelling, text, wanted)) in lent {
-        assert_eq!(room.read(text.as_bytes(), spelling), wanted, "{text}");
+        assert_eq!(room.pair(text.as_bytes(), spelling), wanted, "{text}");
+    }
+}
+
+/// Reading alone answers the same, but 0 at place 0 for a fault 15 to 18, with the same counts.
+fn read_alone(text: &str, spelling: Spelling, wanted: Answer) {
+    let answer = Room::new(704, 64, 64).read(text.as_bytes(), spelling);
+    match wanted.number {
+        15..=18 => assert_eq!(answer, Answer { number: 0, place: 0, line: 1, column: 1, ..wanted }, "{text}"),
+        _ => assert_eq!(answer, wanted, "{text}"),
     }
 }
 

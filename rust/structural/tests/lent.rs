@@ -1,10 +1,10 @@
-//! Lent memory: rooms of all sizes with guards around them, outputs, and damaged tables.
+//! Lent memory: rooms of all sizes with guards around them, outputs, and damaged tables. Drafts are in `drafts.rs`.
 
 mod common;
 
-use common::{print_into, spellings, Room, PAIRS};
+use common::{check_of, print_into, spellings, Room, PAIRS};
 use structural::lent::{NODE_WORDS, NONE};
-use structural::{number, read, Document, Spelling};
+use structural::{number, read, read_draft, Document, Spelling};
 
 #[test]
 fn rooms() {
@@ -33,28 +33,8 @@ fn rooms() {
     }
 }
 
-#[test]
-fn refusals_that_fill() {
-    for (text, wanted) in [
-        ("[document [title A] [section [title B] [paragraph [table [summary] [head [name]] [body [row]]]]]]", 15),
-        ("[document [title A] [id x] [section [title B] [id x]]]", 16),
-        ("[document [title A] [section [title B] [paragraph [link [target x]]]]]", 17),
-        ("[document [title A] [id x] [section [title B] [paragraph [footnote-ref [target x]]]]]", 18),
-    ] {
-        let mut room = Room::ample(text.as_bytes(), Spelling::Nested);
-        let answer = room.read(text.as_bytes(), Spelling::Nested);
-        let refusal = read(text, Spelling::Nested).unwrap_err();
-        assert_eq!((answer.number, answer), (wanted, refusal.answer()));
-        let table = refusal.table().unwrap();
-        assert_eq!(room.filled(answer), (table.words(), table.places(), table.pool().as_bytes()));
-        // Such a table is of no well-formed document.
-        let (printed, _) = print_into(table.words(), answer.nodes, table.pool().as_bytes(), answer.pool, 500);
-        assert_eq!((printed.number, printed.length), (number::NOT_A_TABLE, 0));
-    }
-}
-
-/// Every text that lacks one byte of an example, or has another in its place, is answered, and what is
-/// accepted comes back from its canonical spelling.
+/// Every text that lacks one byte of an example, or has another in its place, is answered by the pair as by `read`, and
+/// each draft comes back from its canonical spelling.
 #[test]
 fn damaged_texts() {
     let mut numbers = [0; 20];
@@ -76,11 +56,16 @@ fn damaged_texts() {
 
 fn one_text(text: &[u8], spelling: Spelling) -> u32 {
     let mut room = Room::ample(text, spelling);
-    let answer = room.read(text, spelling);
+    let answer = room.pair(text, spelling);
     match read(text, spelling) {
-        Ok(document) => {
-            assert_eq!(answer.number, number::OK);
-            assert_eq!(read(document.print(), Spelling::Nested).as_ref(), Ok(&document));
+        Ok(_) => assert_eq!(answer.number, number::OK),
+        Err(refusal) => assert_eq!(refusal.answer(), answer),
+    }
+    match read_draft(text, spelling) {
+        Ok(draft) => {
+            assert!(number::fills(answer.number));
+            assert_eq!(draft.faults().iter().min().map_or(0, |fault| fault.number), answer.number);
+            assert_eq!(read_draft(draft.print(), Spelling::Nested).as_ref(), Ok(&draft));
         }
         Err(refusal) => assert_eq!(refusal.answer(), answer),
     }
@@ -116,10 +101,12 @@ fn counts_beyond_what_is_lent() {
     for (nodes, bytes) in [(0, 2), (2, 2), (4, 2), (3, 1), (3, 3), (NONE, 2), (3, NONE), (390_451_573, 2), (0, 0)] {
         let (printed, _) = print_into(words, nodes, pool, bytes, 100);
         assert_eq!((printed.number, printed.length), (number::NOT_A_TABLE, 0), "{nodes} {bytes}");
+        assert_eq!(check_of(words, nodes, pool, bytes), (number::NOT_A_TABLE, 0), "{nodes} {bytes}");
     }
     // What lies past the counts is not looked at.
     let longer: Vec<u32> = words.iter().copied().chain([7; 20]).collect();
     assert_eq!(print_into(&longer, 3, b"xA\xFF\xFF", 2, 100).0.number, number::OK);
+    assert_eq!(check_of(&longer, 3, b"xA\xFF\xFF", 2), (number::OK, 0));
 }
 
 /// A text that uses every word of a record.
@@ -128,18 +115,22 @@ const ALL_WORDS: &str = "[document [title A] [type t] [id d] [section [title S] 
     [list-ordered [item é] [item]]
     [table [summary] [head [name N]] [body [row [cell 1]]]]] [footnote [id f] [verbatim [type v] \"\\n\"]]]]";
 
-/// Whatever words and pool: they are refused with 20, or they are the table of the document that their
-/// spelling reads as.
+/// Whatever words and pool: printing and the check refuse them with 20, or they are the table of the draft that their
+/// spelling reads as, and the check answers the first of its faults. The number is the check's.
 fn damaged(words: &[u32], pool: &[u8]) -> u32 {
-    let nodes = (words.len() / NODE_WORDS) as u32;
-    let (printed, written) = print_into(words, nodes, pool, pool.len() as u32, 2000);
+    let (nodes, bytes) = ((words.len() / NODE_WORDS) as u32, pool.len() as u32);
+    let (printed, written) = print_into(words, nodes, pool, bytes, 2000);
+    let (number, node) = check_of(words, nodes, pool, bytes);
     if printed.number == number::OK {
-        let document = read(&written, Spelling::Nested).expect("what is printed can be read");
-        assert_eq!((document.words(), document.pool().as_bytes()), (words, pool));
+        let draft = read_draft(&written, Spelling::Nested).expect("what is printed can be read");
+        assert_eq!((draft.words(), draft.pool().as_bytes()), (words, pool));
+        let first = draft.faults().into_iter().min().map_or((number::OK, 0), |fault| (fault.number, fault.node as u32));
+        assert_eq!((number, node), first);
     } else {
         assert_eq!((printed.number, printed.length), (number::NOT_A_TABLE, 0));
+        assert_eq!((number, node), (number::NOT_A_TABLE, 0));
     }
-    printed.number
+    number
 }
 
 #[test]
@@ -160,14 +151,19 @@ fn damaged_words() {
     assert!(refused > 3000, "{refused}");
 }
 
+/// An id or a target may become that of another node, or of none: 16, 17 and 18 come up. No row changes.
 #[test]
 fn damaged_pools() {
     let document = read(ALL_WORDS, Spelling::Nested).unwrap();
+    let mut numbers = [0; 21];
     for index in 0..document.pool().len() {
         for other in [0, b' ', b'"', b'-', b'/', b'a', b's', b'\\', 0x80, 0xC3, 0xFF] {
             let mut pool = document.pool().as_bytes().to_vec();
             pool[index] = other;
-            damaged(document.words(), &pool);
+            numbers[damaged(document.words(), &pool) as usize] += 1;
         }
+    }
+    for number in [0, 16, 17, 18, 20] {
+        assert_ne!(numbers[number], 0, "number {number} did not come up");
     }
 }

@@ -72,7 +72,7 @@ fn limits_in_header() -> Names {
 }
 
 /// Where the words of an answer stand. No definition has a number for them: there, an answer has fields.
-const ANSWER: [(&str, u32); 10] = [
+const ANSWER: [(&str, u32); 13] = [
     ("READ_WORDS", 6),
     ("READ_NUMBER", 0),
     ("READ_PLACE", 1),
@@ -80,6 +80,9 @@ const ANSWER: [(&str, u32); 10] = [
     ("READ_COLUMN", 3),
     ("READ_NODES", 4),
     ("READ_POOL", 5),
+    ("CHECK_WORDS", 2),
+    ("CHECK_NUMBER", 0),
+    ("CHECK_NODE", 1),
     ("PRINT_WORDS", 2),
     ("PRINT_NUMBER", 0),
     ("PRINT_LENGTH", 1),

@@ -5,6 +5,7 @@ use mathlib.Core.List.{List, [], _∷_, _++_}
 use lib.ListN.{length}
 use Rattle.document.specs.rules.Spelling.{Spelling}
 use Rattle.document.specs.reference.Outcome.{outcome}
+use Rattle.document.specs.reference.Pair.{paired}
 use Rattle.document.specs.rules.Memory.{Memory, Outcome}
 
 -- n numbers from m on. No two words of lent memory are alike, so that one that moved would show.
@@ -65,15 +66,22 @@ leaves t places =
       pool = t .pool ++ numbers (100 + length (t .pool)) (24 - length (t .pool));
     }
 
--- A text and the whole outcome of reading it.
+-- What the pair answers of a text, and what its read leaves.
+unfoldable pub pairOutcome : Spelling → List ℕ → Memory → Outcome
+pairOutcome s text m = record { answer = paired s text m; memory = outcome s text m .memory }
+
+-- A text and the whole outcome of the pair on it.
 pub record Whole : Type 0 where
   pub spelling : Spelling
   pub text : List ℕ
   pub expected : Outcome
 
--- What reading the text into the lent memory leaves.
+-- What the pair answers of the text and leaves in the lent memory; and what reading alone does.
 unfoldable pub left : Whole → Outcome
-left w = outcome (w .spelling) (w .text) lentMemory
+left w = pairOutcome (w .spelling) (w .text) lentMemory
+
+unfoldable pub leftByRead : Whole → Outcome
+leftByRead w = outcome (w .spelling) (w .text) lentMemory
 
 -- A text with its number, place, line and column that leaves the lent memory as it was: "Answers 1 to 12 and 19: counts 0."
 abbrev pub refusedAs : Spelling → List ℕ → ℕ → ℕ → ℕ → ℕ → Whole

@@ -1,4 +1,4 @@
--- The judged examples of document 01 that are marked * and its printed listing, each with the whole outcome of the read;
+-- The judged examples of document 01 that are marked * and its printed listing, each with the whole outcome of the pair of reading and the check;
 -- and with their answers alone its settlements, the open points of docs/decisions/readings.md, and texts for the numbers 2 to 18, each as one list.
 -- That each text has what is beside it is proved in `proofs/Judged.antt`.
 use Prim.Native.Nat.{ℕ}
@@ -7,11 +7,12 @@ use mathlib.Core.List.{List, [], _∷_, _++_}
 use lib.ListN.{length, replicate}
 use Rattle.document.specs.rules.Spelling.{Spelling, nested, imperative}
 use Rattle.document.specs.reference.Outcome.{outcome}
+use Rattle.document.specs.reference.Pair.{paired}
 use Rattle.document.specs.rules.Memory.{Answer, Memory, Outcome, over}
 use Rattle.document.specs.reference.Printing.{printing}
 use Rattle.document.specs.rules.Draft.{Printed}
 use Rattle.utf8.specs.examples.Quoted.{utf8Of}
-use Rattle.document.specs.examples.Expected.{no-parent, bare, keyed, texts, Table, Whole, refusedAs, fills}
+use Rattle.document.specs.examples.Expected.{no-parent, bare, keyed, texts, Table, Whole, pairOutcome, refusedAs, fills}
 
 -- The table of a document whose title is A, however it is spelled.
 unfoldable pub titled-A : Table
@@ -82,7 +83,7 @@ examples =
     ∷ fills imperative (utf8Of "[document [title A]] [section [title B]] [paragraph] hi") 0 0 1 1 8 4 listed (0 ∷ 10 ∷ 17 ∷ 21 ∷ 30 ∷ 37 ∷ 41 ∷ 53 ∷ [])
     ∷ []
 
--- A text and what reading it answers.
+-- A text and what the pair answers of it.
 pub record Example : Type 0 where
   pub spelling : Spelling
   pub text : List ℕ
@@ -102,7 +103,7 @@ unfoldable pub room : Memory
 room = record { nodes = replicate 704 7; places = replicate 64 7; pool = replicate 64 7 }
 
 unfoldable pub answered : Example → Answer
-answered e = outcome (e .spelling) (e .text) room .answer
+answered e = paired (e .spelling) (e .text) room
 
 -- "Its settlements": each text would be answered otherwise under the source's reading.
 unfoldable pub settlements : List Example
@@ -192,7 +193,7 @@ unfoldable pub memoryOf : Lent → Memory
 memoryOf l = record { nodes = replicate (l .nodes) 7; places = replicate (l .places) 7; pool = replicate (l .pool) 7 }
 
 unfoldable pub readInto : Lent → Outcome
-readInto l = outcome (l .example .spelling) (l .example .text) (memoryOf l)
+readInto l = pairOutcome (l .example .spelling) (l .example .text) (memoryOf l)
 
 -- 13 and 14 have the counts needed. 13 goes by whole records of eleven words and by the place list, ahead of 14 and of 16, behind 12.
 unfoldable pub short-of-room : List Lent

@@ -1,9 +1,10 @@
--- Texts beyond the judged ones with the whole outcome of the read, as one list: between them every kind of element, every sort of string, both spellings,
+-- Texts beyond the judged ones with the whole outcome of the pair of reading and the check, as one list: between them every kind of element, every sort of string, both spellings,
 -- 15 to 18 with the table filled, and the refusals that the judged ones have not. That each text has its outcome is proved in `proofs/Judged.antt`.
 use mathlib.Core.List.{List, [], _∷_, _++_}
 use lib.ListN.{replicate}
 use Rattle.document.specs.rules.Spelling.{nested, imperative}
 use Rattle.utf8.specs.examples.Quoted.{utf8Of}
+use Rattle.document.specs.examples.Judged.{same-id-twice}
 use Rattle.document.specs.examples.Expected.{no-parent, no-width, no-height, row, bare, keyed, typed, texts, Table, Whole, refusedAs, fills}
 
 -- The id x-1 stands before the type t in the pool, and both before the texts, though the text has the type before the id and both behind the title.
@@ -228,4 +229,15 @@ outcomes =
     ∷ refusedAs imperative (replicate 60 0x5B) 6 59 1 60
     ∷ refusedAs nested (utf8Of "[document [title A] [type \"t\"]]") 10 20 1 21
     ∷ refusedAs imperative (utf8Of "[document [title A]] (include \"x\")") 12 21 1 22
+    ∷ []
+
+-- The texts with the faults 15 to 18, read alone: 0 at place 0, with the same counts, table and places.
+unfoldable pub drafts : List Whole
+drafts =
+    fills nested (utf8Of "[document [title] [section [title] [paragraph [table [summary] [head [name]] [body [row]]]]]]") 0 0 1 1 11 0 row-too-short
+    (0 ∷ 10 ∷ 18 ∷ 27 ∷ 35 ∷ 46 ∷ 53 ∷ 63 ∷ 69 ∷ 77 ∷ 83 ∷ [])
+    ∷ fills nested (utf8Of "[document [title A] [id x] [section [title B] [id x]]]") 0 0 1 1 6 4 same-id-twice (0 ∷ 10 ∷ 17 ∷ 27 ∷ 36 ∷ 43 ∷ [])
+    ∷ fills imperative (utf8Of "[document [title]] [section [title] [id x]] [paragraph [id x]] hi") 0 0 1 1 6 4 id-again (0 ∷ 10 ∷ 19 ∷ 28 ∷ 44 ∷ 63 ∷ [])
+    ∷ fills nested (utf8Of "[document\r\n[title é]\n\t[section [title] [paragraph é [link [target x]]]]]") 0 0 1 1 8 5 link-on-line-3 (0 ∷ 11 ∷ 18 ∷ 23 ∷ 32 ∷ 40 ∷ 51 ∷ 54 ∷ [])
+    ∷ fills nested (utf8Of "[document [title A] [section [title B] [id s] [paragraph [footnote-ref [target s]]]]]") 0 0 1 1 8 4 reference-to-a-section (0 ∷ 10 ∷ 17 ∷ 20 ∷ 29 ∷ 36 ∷ 46 ∷ 57 ∷ [])
     ∷ []

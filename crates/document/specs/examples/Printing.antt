@@ -152,9 +152,10 @@ prints =
     ∷ noTitle (bare 1 no-parent 3) (row 8 0 3 0 0 0 0 0 0 7 8) (texts 1 3 0 1)
     -- A text that is not UTF-8.
     ∷ noTable (joined (titled-A .rows)) 3 (0x80 ∷ []) 1
-    -- Tables as reading leaves them under 15 to 18.
-    ∷ noTableOf row-too-short
-    ∷ noTableOf same-id-twice
-    ∷ noTableOf link-to-nowhere
-    ∷ noTableOf reference-to-a-section
+    -- Drafts: tables with the faults 15 to 18 are printed like others.
+    ∷ spells row-too-short 93 93 "[document [title] [section [title] [paragraph [table [summary] [head [name]] [body [row]]]]]]"
+    ∷ spells same-id-twice 60 58 "[document [title \"A\"] [id x] [section [title \"B\"] [id x]]]"
+    ∷ needs link-to-nowhere 75 76
+    ∷ spells link-to-nowhere 80 76 "[document [title \"A\"] [section [title \"B\"] [paragraph [link [target \"x\"]]]]]"
+    ∷ spells reference-to-a-section 100 91 "[document [title \"A\"] [section [title \"B\"] [id s] [paragraph [footnote-ref [target \"s\"]]]]]"
     ∷ []

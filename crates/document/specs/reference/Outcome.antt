@@ -3,7 +3,7 @@ use Prim.Native.Nat.{ℕ}
 use mathlib.Core.Bool.{Bool, false, cond}
 use mathlib.Core.List.{List}
 use lib.Dec.{ltb}
-use lib.ListN.{length, getD}
+use lib.ListN.{length}
 use Rattle.base.specs.rules.Limits.{mostBytes, nestedLevels}
 use Rattle.base.specs.rules.Numbers as Number
 use Rattle.utf8.specs.reference.Sequence.{validUpTo}
@@ -15,7 +15,6 @@ use Rattle.document.specs.rules.Spelling.{Spelling, nested, imperative, 
 use Rattle.document.specs.reference.Meaning.{Verdict, fine, fault, judgeRoot, treeOf, places}
 use Rattle.document.specs.reference.Imperative.{regroup}
 use Rattle.document.specs.rules.Table.{count, pool}
-use Rattle.document.specs.reference.Check.{Check, sound, unsound, check}
 use Rattle.document.specs.rules.Memory.{Memory, Outcome, filled, noRoom, nodeRoom, refusal}
 
 -- A text that is UTF-8 and not too long: refused by 3 to 12 or 19, or the nested expression of a document.
@@ -48,17 +47,12 @@ afterScan s n (Scan.scanned f) = oneExpression s n (locate 0 f)
 unfoldable pub reading : Spelling → List ℕ → Reading
 reading s text = afterScan s (length text) (scan (mostLevels s) text)
 
--- 15 to 18 at the place of their node, or 0 at place 0.
-unfoldable pub checked : List ℕ → Memory → List ℕ → Node → Check → Outcome
-checked text m ps d sound = filled text m Number.ok 0 ps d
-checked text m ps d (unsound n i) = filled text m n (getD ps i 0) ps d
-
--- 13, 14, then 15 to 18.
+-- 13, then 14. "reading stops after 14" (document 02, change request 1).
 unfoldable pub stored : List ℕ → Memory → List ℕ → Node → Outcome
 stored text m ps d =
     cond (ltb (nodeRoom m) (count d)) (noRoom text m Number.nodes-short d)
     (cond (ltb (length (m .pool)) (length (pool d))) (noRoom text m Number.pool-short d)
-    (checked text m ps d (check d)))
+    (filled text m ps d))
 
 unfoldable pub afterReading : List ℕ → Memory → Reading → Outcome
 afterReading text m (refused n p) = refusal text m n p

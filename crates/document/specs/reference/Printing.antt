@@ -1,8 +1,9 @@
--- What printing answers and leaves in the output, for any words, pool, counts and output. Document 01, "Printing returns number and length."
+-- The draft whose table a caller lends, and what the check and printing answer of it, for any words, pool, counts and output.
+-- Document 01, "Printing returns number and length."
 use Prim.Native.Nat.{ℕ, zero, suc, _*_, _+_}
-use mathlib.Core.Bool.{Bool, cond, _&&_}
+use mathlib.Core.Bool.{Bool, true, false, cond, _&&_}
 use mathlib.Core.List.{List, [], _∷_}
-use lib.Dec.{eqb, leb, ltb}
+use lib.Dec.{leb, ltb}
 use lib.ListN.{length, getD, take, drop}
 use Rattle.base.specs.rules.Limits.{mostBytes, mostNodes, nestedLevels, missing}
 use Rattle.base.specs.rules.Numbers as Number
@@ -15,7 +16,7 @@ use Rattle.document.specs.rules.Table.{tableOf, pool, count}
 use Rattle.document.specs.reference.Check.{Check, sound, unsound, check}
 use Rattle.document.specs.rules.Memory.{over}
 use Rattle.document.specs.rules.Canonical.{layout, treeLevels, canonical}
-use Rattle.document.specs.rules.Draft.{Printed}
+use Rattle.document.specs.rules.Draft.{Checked, Printed}
 
 -- The test for it looks for the one document that could have this table: each record becomes a node with the strings that its offsets and lengths name,
 -- and takes as children the nodes after it whose numbers are below its end. Whether that document has this table is then tested.
@@ -74,30 +75,40 @@ written s out =
     cond (ltb (length out) (length s)) (record { number = Number.output-short; size = length s; out = out })
     (record { number = Number.ok; size = length s; out = over s out })
 
--- The answer of the check of a table: 20, or 15 to 18 with the number of the first node that has the fault, or 0 at node 0.
-pub record Checked : Type 0 where
-  pub number : ℕ
-  pub node : ℕ
+-- The draft within the limits whose table a caller lends, if there is one.
+pub data Draft : Type 0 where
+  no-draft : Draft
+  the-draft : Node → Draft
+
+unfoldable pub isThere : Draft → Bool
+isThere no-draft = false
+isThere (the-draft d) = true
+
+-- The first n records and m bytes are looked at; there is no draft where a count is beyond what is lent.
+unfoldable pub draftOf : List ℕ → ℕ → List ℕ → ℕ → Draft
+draftOf words n bytes m =
+    let w = take (recordLength * n) words in
+    let b = take m bytes in
+    let t = treeOfTable n w b in
+    cond (leb (recordLength * n) (length words) && leb m (length bytes) && hasDraft t (says t) w b) (the-draft (says t)) no-draft
 
 unfoldable pub checkedAs : Check → Checked
 checkedAs sound = record { number = Number.ok; node = 0 }
 checkedAs (unsound n i) = record { number = n; node = i }
 
--- 20: "not the node table of a ... document within the limits ..., or a count beyond what is lent". Then 15 to 18.
-unfoldable pub checking : List ℕ → ℕ → List ℕ → ℕ → Checked
-checking words n bytes m =
-    let w = take (recordLength * n) words in
-    let b = take m bytes in
-    let t = treeOfTable n w b in
-    cond
-    (leb (recordLength * n) (length words) && leb m (length bytes) && hasDraft t (says t) w b)
-    (checkedAs (check (says t)))
-    (record { number = Number.not-a-table; node = 0 })
+unfoldable pub checkedOf : Draft → Checked
+checkedOf no-draft = record { number = Number.not-a-table; node = 0 }
+checkedOf (the-draft d) = checkedAs (check d)
 
--- 20 where the check of the table refuses: "not the node table of a well-formed document within the limits"; "length 0".
+-- "the check first answers 20 for a table that no draft within the printer's limits has, or a count beyond what is lent" (document 02, change request 1).
+-- Then 15 to 18 with the number of the first node that has the fault, or 0 at node 0.
+unfoldable pub checking : List ℕ → ℕ → List ℕ → ℕ → Checked
+checking words n bytes m = checkedOf (draftOf words n bytes m)
+
+unfoldable pub printedOf : List ℕ → Draft → Printed
+printedOf out no-draft = record { number = Number.not-a-table; size = 0; out = out }
+printedOf out (the-draft d) = written (canonical d) out
+
+-- 20 where there is no draft: "The printer prints drafts, so its 20 no longer looks at rows, ids and links" (document 02, change request 1).
 unfoldable pub printing : List ℕ → ℕ → List ℕ → ℕ → List ℕ → Printed
-printing words n bytes m out =
-    let t = treeOfTable n (take (recordLength * n) words) (take m bytes) in
-    let spelled = written (canonical (says t)) out in
-    let refused : Printed = record { number = Number.not-a-table; size = 0; out = out } in
-    cond (eqb (checking words n bytes m .number) Number.ok) spelled refused
+printing words n bytes m out = printedOf out (draftOf words n bytes m)

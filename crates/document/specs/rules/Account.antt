@@ -1,11 +1,9 @@
--- What a read answers and leaves in the lent memory, told by the rules alone: one case for each number of document 01, "Numbers answered".
+-- What a read answers and leaves in the lent memory, told by the rules alone: one case for each number of document 01, "Numbers answered", up to 14, and 19.
 -- No scan, no judge, no stack of blocks and no search is in these cases. That reading answers so, and in no other way, is proved in `proofs/Account.antt`.
 use Prim.Native.Nat.{ℕ, _≤_, _<_}
 use mathlib.Core.Path.{_≡_}
 use mathlib.Core.List.{List}
-use mathlib.Core.Bool.{Bool, _&&_, _||_}
-use lib.Dec.{eqb, leb}
-use lib.ListN.{length, getD}
+use lib.ListN.{length}
 use Rattle.base.specs.rules.Limits.{mostBytes, nestedLevels}
 use Rattle.base.specs.rules.Numbers as Number
 use Rattle.elements.specs.rules.Class as Class
@@ -19,7 +17,6 @@ use Rattle.document.specs.rules.Command.{block}
 use Rattle.document.specs.rules.Takes.{Takes}
 use Rattle.document.specs.rules.Faults.{RootFault}
 use Rattle.document.specs.rules.Table.{count, pool}
-use Rattle.document.specs.rules.WellFormed.{FirstFault, WellFormed}
 use Rattle.document.specs.rules.Memory.{Memory, Outcome, refusal, noRoom, filled, nodeRoom}
 
 -- The text is concrete syntax, nested within the limit, with these expressions.
@@ -49,10 +46,6 @@ pub data RefusedFor (s : Spelling) (text : List ℕ) : ℕ → ℕ → Type 0 wh
   too-deep : {es : Exprs} {e : Expr} {t : Tree} → s ≡ imperative → Scans s text es → NestedForm s es e → Writes t e → Lawful t → nestedLevels < depth e
       → RefusedFor s text Number.nested-too-deep 0
 
--- "1 to 14 and 19 keep all lent memory unaltered."
-unfoldable pub keepsMemory : ℕ → Bool
-keepsMemory n = (leb Number.text-too-long n && leb n Number.pool-short) || eqb n Number.nested-too-deep
-
 -- The outcome of reading the text into the lent memory m.
 pub data Answers (s : Spelling) (text : List ℕ) (m : Memory) : Outcome → Type 0 where
   -- 1
@@ -66,9 +59,6 @@ pub data Answers (s : Spelling) (text : List ℕ) (m : Memory) : Outcome → Typ
   -- 14
   no-pool-room : {d : Node} (spells : Spells s d text) → WithinLimits s text (spells .forest) → count d ≤ nodeRoom m → length (m .pool) < length (pool d)
       → Answers s text m (noRoom text m Number.pool-short d)
-  -- 15 to 18: at the place of the node that has the fault
-  has-fault : {d : Node} {n i : ℕ} (spells : Spells s d text) → WithinLimits s text (spells .forest) → count d ≤ nodeRoom m → length (pool d) ≤ length (m .pool)
-      → FirstFault d n i → Answers s text m (filled text m n (getD (nodePlaces spells) i 0) (nodePlaces spells) d)
-  -- 0
+  -- 0: rows, ids and links are not looked at.
   accepted : {d : Node} (spells : Spells s d text) → WithinLimits s text (spells .forest) → count d ≤ nodeRoom m → length (pool d) ≤ length (m .pool)
-      → WellFormed d → Answers s text m (filled text m 0 0 (nodePlaces spells) d)
+      → Answers s text m (filled text m (nodePlaces spells) d)

@@ -3,6 +3,7 @@ use Prim.Native.Nat.{ℕ, _/_, min}
 use mathlib.Core.List.{List, _++_}
 use lib.ListN.{length, drop}
 use Rattle.base.specs.rules.Limits.{mostNodes}
+use Rattle.base.specs.rules.Numbers as Number
 use Rattle.utf8.specs.rules.Position.{lineOf, columnOf}
 use Rattle.document.specs.rules.Document.{Node}
 use Rattle.document.specs.rules.Record.{recordLength}
@@ -43,11 +44,11 @@ noRoom text m n d = record { answer = answerAt text n 0 (count d) (length (pool 
 unfoldable pub over : List ℕ → List ℕ → List ℕ
 over new old = new ++ drop (length new) old
 
--- "0 and 15 to 18: table, pool and places filled, counts used."
-unfoldable pub filled : List ℕ → Memory → ℕ → ℕ → List ℕ → Node → Outcome
-filled text m n p ps d =
+-- 0: "table, pool and places filled, counts used", at place 0.
+unfoldable pub filled : List ℕ → Memory → List ℕ → Node → Outcome
+filled text m ps d =
     record {
-      answer = answerAt text n p (count d) (length (pool d));
+      answer = answerAt text Number.ok 0 (count d) (length (pool d));
       memory = record { nodes = over (tableOf d) (m .nodes); places = over ps (m .places); pool = over (pool d) (m .pool) };
     }
 

@@ -1,4 +1,5 @@
 -- Demand 3, as a statement about the rules alone: which texts are read, and what is then in the lent memory. No reader is in it.
+-- "demand 3 reads 'well-formed but for rows, ids and links' for reading alone" (document 02, change request 1).
 use Prim.Native.Nat.{ℕ, _*_, _≤_}
 use mathlib.Core.Path.{_≡_}
 use mathlib.Core.List.{List}
@@ -9,7 +10,6 @@ use Rattle.document.specs.rules.Document.{Node}
 use Rattle.document.specs.rules.Spelling.{Spelling, Spells, WithinLimits}
 use Rattle.document.specs.rules.Record.{recordLength}
 use Rattle.document.specs.rules.Table.{count, pool, tableOf}
-use Rattle.document.specs.rules.WellFormed.{WellFormed}
 use Rattle.document.specs.rules.Memory.{Memory, Outcome, over}
 
 -- "Room is enough if the lent node words, place list and pool can hold the document."
@@ -18,11 +18,10 @@ pub record Fits (d : Node) (m : Memory) : Type 0 where
   pub place-list : count d ≤ length (m .places)
   pub pool-bytes : length (pool d) ≤ length (m .pool)
 
--- The text is within the limits and spells the well-formed document d, for which the room is enough.
+-- The text is within the limits and spells the draft d, for which the room is enough: a document that is "well-formed but for rows, ids and links".
 pub record Readable (s : Spelling) (text : List ℕ) (m : Memory) (d : Node) : Type 0 where
   pub spells : Spells s d text
   pub within : WithinLimits s text (spells .forest)
-  pub well-formed : WellFormed d
   pub few-nodes : count d ≤ mostNodes
   pub fits : Fits d m
 

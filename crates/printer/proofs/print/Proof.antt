@@ -1,6 +1,7 @@
 -- `printer::print` meets its contract.
 use mathlib.Core.Path.{sym}
 use denote.Ref.{now}
+use borrow.Author.Tests.{not-false}
 use lib.Seq.{length-take-le}
 use Rattle.printer.proofs.Answers.{refused, words-within, bytes-within, short, whole}
 use borrow.Author.Needs.{needs}
@@ -8,30 +9,25 @@ use Rattle.printer.proofs.print.Statement.{statement}
 use Rattle.printer.proofs.print.Tie as tie
 
 returns : tie.Need-returns
-returns c = refused _ _ _ _ _ _ (c .before .before .check .ensures) (c .if1 .taken)
+returns c = refused _ _ _ _ _ _ (c .before .is-draft .ensures) (c .if1 .taken)
 
 slice-aggregate-table : tie.Need-slice-aggregate-table
 slice-aggregate-table c =
     sym (length-take-le _ _
-    (words-within _ _ _ _ (now (c .before .before .before .before .before .before .before .args .out)) _ (c .before .before .before .check .ensures)
-    (c .before .if1 .left)))
+    (words-within _ _ _ _ (now (c .before .before .before .before .before .before .args .out)) _ (c .before .before .is-draft .ensures) (not-false _ (c .before .if1 .left))))
 
 slice-aggregate-strings : tie.Need-slice-aggregate-strings
 slice-aggregate-strings c =
     sym (length-take-le _ _
-    (bytes-within _ _ _ _ (now (c .before .before .before .before .before .before .before .before .args .out)) _
-    (c .before .before .before .before .check .ensures) (c .before .before .if1 .left)))
+    (bytes-within _ _ _ _ (now (c .before .before .before .before .before .before .before .args .out)) _ (c .before .before .before .is-draft .ensures) (not-false _ (c .before .before .if1 .left))))
 
 returns-2 : tie.Need-returns-2
 returns-2 c =
-    short _ _ _ _ _ _ (c .before .before .before .before .before .before .before .before .check .ensures)
-    (c .before .before .before .before .before .before .if1 .left) _ _ _ (c .before .before .spelled .ensures) (c .if2 .taken)
+    short _ _ _ _ _ _ (c .before .before .before .before .before .before .before .is-draft .ensures) (not-false _ (c .before .before .before .before .before .before .if1 .left)) _ _ _ (c .before .before .spelled .ensures) (c .if2 .taken)
 
 returns-3 : tie.Need-returns-3
 returns-3 c =
-    whole _ _ _ _ _ _ (c .before .before .before .before .before .before .before .before .before .before .before .before .check .ensures)
-    (c .before .before .before .before .before .before .before .before .before .before .if1 .left) _ _ _
-    (c .before .before .before .before .before .before .spelled .ensures) (c .before .before .before .before .if2 .left) _ _
+    whole _ _ _ _ _ _ (c .before .before .before .before .before .before .before .before .before .before .before .is-draft .ensures) (not-false _ (c .before .before .before .before .before .before .before .before .before .before .if1 .left)) _ _ _ (c .before .before .before .before .before .before .spelled .ensures) (c .before .before .before .before .if2 .left) _ _
     (c .before .before .spelled2 .ensures)
 
 pub print-spec : {M : Type 1} → statement M

@@ -3,7 +3,7 @@ use mathlib.Core.Path.{sym, _∙_}
 use native.Mathlib.Omega.{arith}
 use denote.Ref.{now}
 use Rattle.document.specs.rules.Memory.{Memory}
-use Rattle.reader.proofs.lemmas.read.Promises.{room-fits, group-fits, group-short, group-reads, walk-fits, walk-reads, full-reads, check-fits, filled-reads}
+use Rattle.reader.proofs.lemmas.read.Promises.{room-fits, group-fits, group-short, group-reads, walk-fits, walk-reads, full-reads, filled-reads}
 use borrow.Author.Needs.{needs}
 use Rattle.reader.proofs.read.Statement.{statement}
 use Rattle.reader.proofs.read.Tie as tie
@@ -51,49 +51,26 @@ fill-requires c κs =
     (sym (c .before .before .before .before .before .room .ensures) ∙ c .before .before .before .before .if3 .left) in
     (group-short _ _ _ _ (c₁ .before .before .before .before .first-groups .ensures) (c₁ .before .before .if1 .left), few, words, places)
 
-checked-requires : tie.Need-checked-requires
-checked-requires c κs =
-    let c₁ = c .before .before .before .before .before .before .before .before in
-    let c₂ = c₁ .before .before .before .before .before .before .before .before in
-    let (p, n, b) = walk-fits _ _ _ _ (c₂ .before .before .before .before .before .before .first-groups .ensures)
-    (c₂ .before .before .before .before .if1 .left) _ (c₂ .before .before .judge .ensures .0) in (n, b)
-
 answer-at-requires-4 : tie.Need-answer-at-requires-4
 answer-at-requires-4 c κs =
     let c₁ = c .before .before .before .before .before .before .before .before in
     let c₂ = c₁ .before .before .before .before .before .before .before .before in
-    let c₃ = c₂ .before .before .before .before .before .before .before .before in
-    let args = c₃ .before .before .before .before .args in
-    let filled = c₁ .before .before .fill in
-    let m : Memory = record { nodes = now (args .nodes); places = now (args .places); pool = now (args .pool) } in
-    let exit : Memory = record { nodes = filled .last .1 .1 .1 .0; places = filled .last .1 .1 .1 .1 .0; pool = filled .last .1 .1 .1 .1 .1 .0 } in
-    let (p, n, b) = walk-fits _ _ _ _ (c₂ .before .before .before .before .before .before .before .first-groups .ensures)
-    (c₂ .before .before .before .before .before .if1 .left)
-    _ (c₂ .before .before .before .judge .ensures .0) in (
-      check-fits _ _ m _ _ (c₂ .before .before .before .before .before .before .before .first-groups .ensures)
-          (c₂ .before .before .before .before .before .if1 .left)
-          _ (c₂ .before .before .before .judge .ensures .0)
-          (c₂ .before .if2 .left) _ (c₂ .room .ensures) (c₁ .before .before .before .before .before .before .before .if3 .left) exit _
-          (c₂ .before .before .before .judge .ensures .1) (filled .ensures) _ _ (c .checked .ensures),
-      n,
-      b,
-    )
+    let (p, n, b) = walk-fits _ _ _ _ (c₂ .before .before .before .first-groups .ensures) (c₂ .before .if1 .left) _
+    (c₁ .before .before .before .before .before .before .before .judge .ensures .0) in
+    (omega arith, n, b)
 
 returns-4 : tie.Need-returns-4
 returns-4 c =
     let c₁ = c .before .before .before .before .before .before .before .before in
     let c₂ = c₁ .before .before .before .before .before .before .before .before in
-    let c₃ = c₂ .before .before .before .before .before .before .before .before in
+    let c₃ = c₂ .before .before .before .before in
     let args = c₃ .before .before .before .before .before .args in
-    let filled = c₁ .before .before .before .fill in
+    let filled = c .before .before .before .before .before .before .before .fill in
     let m : Memory = record { nodes = now (args .nodes); places = now (args .places); pool = now (args .pool) } in
     let exit : Memory = record { nodes = filled .last .1 .1 .1 .0; places = filled .last .1 .1 .1 .1 .0; pool = filled .last .1 .1 .1 .1 .1 .0 } in
-    filled-reads _ _ m _ _ (c₃ .first-groups .ensures) (c₂ .before .before .before .before .before .before .if1 .left)
-    _ (c₂ .before .before .before .before .judge .ensures .0)
-    (c₂ .before .before .if2 .left) _ (c₂ .before .room .ensures) (c₂ .if3 .left) exit _
-    (c₂ .before .before .before .before .judge .ensures .1) (filled .ensures) _ _
-    (c .before .checked .ensures)
-    _ (c .answer-at4 .ensures)
+    filled-reads _ _ m _ _ (c₃ .first-groups .ensures) (c₂ .before .before .if1 .left) _ (c₂ .judge .ensures .0)
+    (c₁ .before .before .before .before .before .before .if2 .left) _ (c₁ .before .before .before .before .before .room .ensures)
+    (c₁ .before .before .before .before .if3 .left) exit _ (c₂ .judge .ensures .1) (filled .ensures) _ (c .answer-at4 .ensures)
 
 pub read-spec : {M : Type 1} → statement M
 read-spec =
@@ -109,7 +86,6 @@ read-spec =
     answer-at-requires-3
     returns-3
     fill-requires
-    checked-requires
     answer-at-requires-4
     (λ c. search needs)
     (λ c. search needs)

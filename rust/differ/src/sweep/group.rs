@@ -1,16 +1,17 @@
 //! A group of cases and what came of them.
 
 use super::must::Must;
-use crate::call::Call;
-use crate::print::Print;
-use crate::read::Read;
-use crate::tally::Tally;
+use crate::tallies::Tallies;
 use std::fmt::Write;
 
-/// Whether the cases of a group are reads or prints. Reads are followed by prints of the tables that they fill.
+/// What the cases of a group are, and of which calls it states what they must meet.
 #[derive(Clone, Copy, Debug, PartialEq, Eq)]
 pub enum Cases {
+    /// Texts: of the read with the check of what it left. What it left is also printed.
     Reads,
+    /// Tables: of the check. Each is also printed.
+    Tables,
+    /// Tables and outputs: of the print.
     Prints,
 }
 
@@ -19,43 +20,40 @@ pub struct Group {
     name: String,
     cases: Cases,
     must: Must,
-    pub reads: Tally,
-    pub prints: Tally,
+    pub tallies: Tallies,
 }
 
 impl Group {
     pub fn new(name: &str, cases: Cases, must: Must) -> Group {
-        Group { name: name.to_string(), cases, must, reads: Tally::default(), prints: Tally::default() }
+        Group { name: name.to_string(), cases, must, tallies: Tallies::default() }
     }
 
     /// Takes in what another thread made of the same group.
     pub fn merge(self, other: Group) -> Group {
         assert_eq!(self.name, other.name, "threads go through the same groups");
-        let (reads, prints) = (self.reads.merge(other.reads), self.prints.merge(other.prints));
-        Group { reads, prints, ..self }
+        Group { tallies: self.tallies.merge(other.tallies), ..self }
     }
 
     /// How many calls differ.
     pub fn differ(&self) -> u64 {
-        self.reads.differ() + self.prints.differ()
+        self.tallies.differ()
     }
 
     /// The first differences, a line each.
     pub fn differences(&self, lines: &mut String) {
-        for (name, tally) in [(Read::NAME, &self.reads), (Print::NAME, &self.prints)] {
-            for (case, difference) in tally.first() {
-                let _ = writeln!(lines, "sweep, {}, {name}, case {case}: {difference}", self.name);
-            }
+        for (name, case, difference) in self.tallies.differences() {
+            let _ = writeln!(lines, "sweep, {}, {name}, case {case}: {difference}", self.name);
         }
     }
 
-    /// A line if the cases are not those that had to come up.
+    /// A line if the cases are not those that had to come up, and one if a read has a number that it cannot have.
     pub fn missed(&self, lines: &mut String) {
         let stated = match self.cases {
-            Cases::Reads => &self.reads,
-            Cases::Prints => &self.prints,
+            Cases::Reads => &self.tallies.pairs,
+            Cases::Tables => &self.tallies.checks,
+            Cases::Prints => &self.tallies.prints,
         };
-        if let Some(missed) = self.must.missed(stated) {
+        for missed in [self.must.missed(stated), self.tallies.faulty_reads()].into_iter().flatten() {
             let _ = writeln!(lines, "sweep, {}: {missed}", self.name);
         }
     }

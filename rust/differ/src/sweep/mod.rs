@@ -5,14 +5,14 @@
 //! is plain from document 01 alone, the case states it too.
 
 mod group;
+mod judging;
 mod manual;
 mod must;
-mod printing;
-mod prints;
 mod reading;
 mod reads;
 mod report;
 mod sweeper;
+mod tables;
 
 pub use report::Report;
 
@@ -32,6 +32,6 @@ pub fn run() -> Report {
 fn part(own: u64) -> Report {
     let mut sweeper = Sweeper::new(own, THREADS as u64);
     reads::sweep(&mut sweeper);
-    prints::sweep(&mut sweeper);
+    tables::sweep(&mut sweeper);
     Report { groups: sweeper.groups }
 }

@@ -1,13 +1,13 @@
 //! The reads of a group.
 
 use super::group::Group;
-use super::must::goes_well;
-use super::printing;
+use super::judging;
 use super::sweeper::{slowly, stated, Sweeper};
 use crate::call::Lengths;
 use crate::compare::compare;
+use crate::pair;
 use crate::read::{Read, WORDS};
-use oracle::names::RECORD_LENGTH;
+use oracle::names::{OK, RECORD_LENGTH};
 use oracle::random::ReadCase;
 
 /// Takes the texts of a group.
@@ -30,7 +30,7 @@ impl<'s> Reads<'s> {
         self.with_room(None, imperative, text);
     }
 
-    /// Reads a text that has to be answered by that number.
+    /// Reads a text that has to be answered by that number: 15 to 18 by the check of what is left.
     pub fn expect(&mut self, number: u32, imperative: bool, text: &[u8]) {
         self.with_room(Some(number), imperative, text);
     }
@@ -49,13 +49,15 @@ impl<'s> Reads<'s> {
         }
     }
 
-    /// Makes the read, and prints what it fills.
+    /// Makes the read, and checks and prints what it fills.
     fn make(&mut self, turn: u64, number: Option<u32>, read: &Read) {
         let (compared, left) = compare(read);
-        if goes_well(compared.number) {
-            self.group.prints.take(turn, printing::filled(turn, compared.number, &left));
+        let tallies = &mut self.group.tallies;
+        if compared.number == OK {
+            tallies.prints.take(turn, judging::filled(turn, &left));
         }
-        self.group.reads.take(turn, stated(number, compared, read));
+        tallies.pairs.take(turn, stated(number, pair::after(compared.number, &left, turn), read));
+        tallies.reads.take(turn, compared);
     }
 }
 

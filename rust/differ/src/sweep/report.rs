@@ -1,6 +1,8 @@
 //! What came of the sweep.
 
 use super::group::Group;
+use crate::tallies::Tallies;
+use oracle::names::OK;
 use std::fmt;
 
 #[derive(Debug, Default, PartialEq, Eq)]
@@ -38,9 +40,12 @@ impl Report {
 
 impl fmt::Display for Report {
     fn fmt(&self, f: &mut fmt::Formatter<'_>) -> fmt::Result {
-        let reads: u64 = self.groups.iter().map(|group| group.reads.calls()).sum();
-        let prints: u64 = self.groups.iter().map(|group| group.prints.calls()).sum();
+        let sum = |of: fn(&Tallies) -> u64| self.groups.iter().map(|group| of(&group.tallies)).sum::<u64>();
+        let reads = sum(|tallies| tallies.reads.calls());
+        // What a read left is checked just where it answered 0.
+        let checks = sum(|tallies| tallies.checks.calls() + tallies.reads.times(|number| number == OK));
+        let prints = sum(|tallies| tallies.prints.calls());
         let (groups, differ) = (self.groups.len(), self.differ());
-        writeln!(f, "sweep of {reads} reads and {prints} prints in {groups} groups: {differ} differ")
+        writeln!(f, "sweep of {reads} reads, {checks} checks and {prints} prints in {groups} groups: {differ} differ")
     }
 }

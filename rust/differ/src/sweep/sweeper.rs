@@ -1,8 +1,8 @@
 //! Goes through the cases, group by group, and makes the calls that are one thread's.
 
 use super::group::{Cases, Group};
+use super::judging::Tables;
 use super::must::Must;
-use super::printing::Prints;
 use super::reading::Reads;
 use crate::call::Call;
 use crate::compare::Compared;
@@ -28,11 +28,20 @@ impl Sweeper {
         self.groups.push(group);
     }
 
-    /// A group of prints.
-    pub fn prints(&mut self, name: &str, must: Must, make: impl FnOnce(&mut Prints)) {
-        let mut prints = Prints::new(self, Group::new(name, Cases::Prints, must));
-        make(&mut prints);
-        let group = prints.end();
+    /// A group of tables, which states what the check of them meets.
+    pub fn tables(&mut self, name: &str, must: Must, make: impl FnOnce(&mut Tables)) {
+        self.judged(Group::new(name, Cases::Tables, must), make);
+    }
+
+    /// A group of tables and outputs, which states what printing meets.
+    pub fn prints(&mut self, name: &str, must: Must, make: impl FnOnce(&mut Tables)) {
+        self.judged(Group::new(name, Cases::Prints, must), make);
+    }
+
+    fn judged(&mut self, group: Group, make: impl FnOnce(&mut Tables)) {
+        let mut tables = Tables::new(self, group);
+        make(&mut tables);
+        let group = tables.end();
         self.groups.push(group);
     }
 
@@ -64,15 +73,20 @@ pub fn stated<C: Call>(number: Option<u32>, compared: Compared, call: &C) -> Com
 #[cfg(test)]
 mod tests {
     use super::*;
-    use oracle::random::PrintCase;
+    use oracle::random::TableCase;
 
-    const TEXTS: [(&str, u32); 4] =
-        [("[document [title A]]", 0), ("", 7), ("[document]", 9), ("[document [title \"\"]]", 4)];
+    const TEXTS: [(&str, u32); 5] = [
+        ("[document [title A]]", 0),
+        ("", 7),
+        ("[document]", 9),
+        ("[document [title \"\"]]", 4),
+        ("[document [title A] [id x] [section [title B] [id x]]]", 16),
+    ];
 
     /// One group, as one of so many threads makes it; each text states that number, or its own.
     fn group(own: u64, threads: u64, stated: Option<u32>) -> Group {
         let mut sweeper = Sweeper::new(own, threads);
-        sweeper.reads("some", Must::meet(40, 10, &[0, 4, 7, 9]), |reads| {
+        sweeper.reads("some", Must::meet(50, 20, &[0, 4, 7, 9, 16]).sound(10), |reads| {
             for (text, number) in TEXTS.repeat(10) {
                 reads.expect(stated.unwrap_or(number), false, text.as_bytes());
             }
@@ -83,7 +97,8 @@ mod tests {
     #[test]
     fn threads_make_each_call_once() {
         let whole = group(0, 1, None);
-        assert_eq!((whole.reads.calls(), whole.prints.calls(), whole.differ()), (40, 10, 0));
+        assert_eq!(whole.tallies.named().map(|(_, tally)| tally.calls()), [50, 50, 0, 20]);
+        assert_eq!(whole.differ(), 0);
         assert_eq!(group(0, 3, None).merge(group(1, 3, None)).merge(group(2, 3, None)), whole);
         let (mut all, mut part) = (String::new(), String::new());
         whole.missed(&mut all);
@@ -94,20 +109,23 @@ mod tests {
     #[test]
     fn another_number_than_stated_differs() {
         let odd = group(0, 1, Some(9));
-        assert_eq!(odd.differ(), 30);
+        assert_eq!(odd.differ(), 40);
         let mut lines = String::new();
         odd.differences(&mut lines);
-        assert!(lines.starts_with("sweep, some, read, case 0: 0, and the sweep states 9; nested"), "{lines}");
+        assert!(lines.starts_with("sweep, some, pair, case 0: 0, and the sweep states 9; nested"), "{lines}");
     }
 
     #[test]
-    fn prints_state_numbers_too() {
+    fn tables_state_numbers_and_nodes_too() {
         let mut sweeper = Sweeper::new(0, 1);
-        sweeper.prints("none", Must::meet(2, 0, &[20]), |prints| {
-            let empty = PrintCase { nodes: vec![], node_count: 0, pool: vec![], pool_count: 0, out: 0 };
-            prints.expect(20, &empty);
-            prints.expect(0, &empty);
+        sweeper.tables("none", Must::meet(4, 0, &[20]), |tables| {
+            let empty = TableCase { nodes: vec![], node_count: 0, pool: vec![], pool_count: 0 };
+            tables.expect(20, &empty);
+            tables.expect(0, &empty);
+            tables.expect_at(20, 0, &empty);
+            tables.expect_at(20, 1, &empty);
         });
-        assert_eq!(sweeper.groups[0].differ(), 1);
+        let group = &sweeper.groups[0];
+        assert_eq!((group.tallies.checks.differ(), group.tallies.prints.differ()), (2, 0));
     }
 }

@@ -1,27 +1,35 @@
 //! How often each number comes up.
 
-use super::case::{PrintCase, ReadCase};
-use crate::names::{NOT_A_TABLE, OUTPUT_SHORT};
+use super::print_case::PrintCase;
+use super::read_case::ReadCase;
+use super::table_case::TableCase;
+use std::collections::BTreeMap;
 
-/// Counts by number: 0 to 19 of reads, and 0, 20, 21 of prints.
+/// How often each number was answered.
+pub type Counts = BTreeMap<u32, u64>;
+
+/// Of reads, of the same reads with the check behind them, of checks, and of prints.
 #[derive(Clone, Debug, Default, PartialEq, Eq)]
 pub struct Tally {
-    pub read: [u64; 20],
-    pub printed: u64,
-    pub no_table: u64,
-    pub output_short: u64,
+    pub read: Counts,
+    pub paired: Counts,
+    pub checked: Counts,
+    pub printed: Counts,
 }
 
-/// Counts the numbers of that many random reads and as many random prints, from `seed` on.
+/// Counts the numbers of that many random reads and as many random checks and prints, from `seed` on.
 pub fn tally(seed: u64, cases: u64) -> Tally {
     let mut tally = Tally::default();
     for seed in seed..seed + cases {
-        tally.read[ReadCase::new(seed).run().answer.number as usize] += 1;
-        match PrintCase::new(seed).run().printed.number {
-            NOT_A_TABLE => tally.no_table += 1,
-            OUTPUT_SHORT => tally.output_short += 1,
-            _ => tally.printed += 1,
-        }
+        let read = ReadCase::new(seed);
+        count(&mut tally.read, read.run().answer.number);
+        count(&mut tally.paired, read.run_with(crate::pair).answer.number);
+        count(&mut tally.checked, TableCase::new(seed).check().number);
+        count(&mut tally.printed, PrintCase::new(seed).run().printed.number);
     }
     tally
+}
+
+fn count(counts: &mut Counts, number: u32) {
+    *counts.entry(number).or_default() += 1;
 }

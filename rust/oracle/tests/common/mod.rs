@@ -3,13 +3,14 @@
 
 #[path = "../../../structural/tests/common/definitions.rs"]
 pub mod definitions;
+pub mod plain;
 #[path = "../../../structural/tests/common/repository.rs"]
 mod repository;
 
 pub use repository::{bytes, file};
 
 use oracle::names::{END, KIND, MOST_BYTES, MOST_NODES, PARENT, RECORD_LENGTH};
-use oracle::{print, read, Answer};
+use oracle::{pair, print, read, Answer};
 
 /// An answer with the used part of the lent memory.
 #[derive(Debug, PartialEq, Eq)]
@@ -25,11 +26,23 @@ pub fn cases() -> u64 {
     std::env::var("ORACLE_CASES").ok().and_then(|count| count.parse().ok()).unwrap_or(4_000)
 }
 
-/// Reads with room for every document there is.
+/// [`read`] and [`pair`].
+type Reader = fn(&[u8], bool, &mut [u32], &mut [u32], &mut [u8]) -> Answer;
+
+/// Reads and checks, with room for every document there is.
 pub fn read_amply(text: &[u8], imperative: bool) -> Read {
+    amply(pair, text, imperative)
+}
+
+/// Reads alone, with the same room.
+pub fn read_alone(text: &[u8], imperative: bool) -> Read {
+    amply(read, text, imperative)
+}
+
+fn amply(reader: Reader, text: &[u8], imperative: bool) -> Read {
     let (mut nodes, mut places, mut pool) =
         (vec![0; MOST_NODES * RECORD_LENGTH], vec![0; MOST_NODES], vec![0; MOST_BYTES]);
-    let answer = read(text, imperative, &mut nodes, &mut places, &mut pool);
+    let answer = reader(text, imperative, &mut nodes, &mut places, &mut pool);
     let filled = matches!(answer.number, 0 | 15..=18);
     let (count, length) = if filled { (answer.nodes as usize, answer.pool as usize) } else { (0, 0) };
     nodes.truncate(count * RECORD_LENGTH);
@@ -80,7 +93,7 @@ pub fn listing(text: &[u8], imperative: bool) -> String {
         return "too long\n".into();
     }
     let (mut nodes, mut places, mut pool) = (vec![0; 1_024 * RECORD_LENGTH], vec![0; 1_024], vec![0; 32_768]);
-    let answer = read(text, imperative, &mut nodes, &mut places, &mut pool);
+    let answer = pair(text, imperative, &mut nodes, &mut places, &mut pool);
     if answer.number != 0 {
         return format!("refused {} {}:{}\n", answer.number, answer.line, answer.column);
     }

@@ -7,8 +7,8 @@ pub mod written;
 
 pub use repository::{bytes, file, string};
 
-use structural::lent::{self, Answer, Printed, NODE_WORDS};
-use structural::{position, Spelling};
+use structural::lent::{self, Answer, Checked, Printed, NODE_WORDS};
+use structural::{number, position, Spelling};
 
 /// The examples that have both spellings, `.sd` and `.sdi`.
 pub const PAIRS: [&str; 4] = ["anchoring", "crew-manual", "man-overboard", "wave-limits"];
@@ -31,7 +31,7 @@ pub fn padded(text: &str, length: usize) -> Vec<u8> {
 const GUARD: usize = 64;
 
 /// Memory to lend, full of marks, with as many marks on either side that nothing may touch.
-#[derive(Clone)]
+#[derive(Clone, PartialEq)]
 pub struct Guarded<T> {
     memory: Vec<T>,
     mark: T,
@@ -47,6 +47,11 @@ impl<T: Copy + PartialEq + std::fmt::Debug> Guarded<T> {
         &mut self.memory[GUARD..end]
     }
 
+    /// What was lent, to be looked at.
+    pub fn lent(&self) -> &[T] {
+        &self.memory[GUARD..self.memory.len() - GUARD]
+    }
+
     /// The first `used` elements, once it is seen that all others are marks still.
     pub fn used(&self, used: usize) -> &[T] {
         let (before, rest) = self.memory.split_at(GUARD);
@@ -60,7 +65,7 @@ impl<T: Copy + PartialEq + std::fmt::Debug> Guarded<T> {
 }
 
 /// Node words, place list and pool, guarded.
-#[derive(Clone)]
+#[derive(Clone, PartialEq)]
 pub struct Room {
     pub nodes: Guarded<u32>,
     pub places: Guarded<u32>,
@@ -88,17 +93,46 @@ impl Room {
         let answer = lent::read(text, spelling, self.nodes.lend(), self.places.lend(), self.pool.lend());
         let at = position(text, answer.place as usize);
         assert_eq!((answer.line, answer.column), (at.line, at.column));
-        assert!(answer.number <= 19);
+        assert!(answer.number <= 14 || answer.number == 19);
         self.filled(answer);
         answer
     }
 
+    /// Checks so many nodes and pool bytes of it. All has to stay as it is, and the guards around it.
+    pub fn check(&self, node_count: u32, pool_count: u32) -> Checked {
+        let before = self.clone();
+        let checked = lent::check(self.nodes.lent(), node_count, self.pool.lent(), pool_count);
+        assert!(*self == before, "the check changed what is lent");
+        checked
+    }
+
+    /// The pair: reads and, where that answers 0, checks what it left. A fault is at the place of its node.
+    pub fn pair(&mut self, text: &[u8], spelling: Spelling) -> Answer {
+        let answer = self.read(text, spelling);
+        if answer.number != number::OK {
+            return answer;
+        }
+        let Checked { number, node } = self.check(answer.nodes, answer.pool);
+        let place = if number == number::OK { 0 } else { self.places.lent()[node as usize] };
+        let at = position(text, place as usize);
+        Answer { number, place, line: at.line, column: at.column, ..answer }
+    }
+
     /// The words, places and pool that an answer says are used, once all the rest is seen to be untouched.
     pub fn filled(&self, answer: Answer) -> (&[u32], &[u32], &[u8]) {
-        let fills = structural::number::fills(answer.number);
+        let fills = number::fills(answer.number);
         let (nodes, pool) = if fills { (answer.nodes as usize, answer.pool as usize) } else { (0, 0) };
         (self.nodes.used(nodes * NODE_WORDS), self.places.used(nodes), self.pool.used(pool))
     }
+}
+
+/// Checks words and a pool in guarded memory: number and node.
+pub fn check_of(words: &[u32], node_count: u32, pool: &[u8], pool_count: u32) -> (u32, u32) {
+    let mut room = Room::new(words.len(), 0, pool.len());
+    room.nodes.lend().copy_from_slice(words);
+    room.pool.lend().copy_from_slice(pool);
+    let Checked { number, node } = room.check(node_count, pool_count);
+    (number, node)
 }
 
 /// Prints into guarded memory of some length: the answer, and what was written.

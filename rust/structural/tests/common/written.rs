@@ -29,13 +29,13 @@ pub fn answer(words: &[u32]) -> Answer {
 /// Node words, places and pool that a read has to leave.
 pub type Table<'a> = (&'a [u32], &'a [u32], &'a [u8]);
 
-/// Reads into marked memory. What is wanted is nine numbers, those of the answer and the lent node words, places and
-/// pool bytes, and what is filled; everything else has to be marks still.
+/// Reads into marked memory, and checks. What is wanted is nine numbers, those of the answer of the pair and the lent
+/// node words, places and pool bytes, and what is filled; everything else has to be marks still.
 pub fn judge(name: &str, text: &[u8], spelling: Spelling, wanted: &str, table: Table) {
     let wanted = list(wanted);
     assert_eq!(wanted.len(), 9, "{name}");
     let mut room = Room::new(wanted[6] as usize, wanted[7] as usize, wanted[8] as usize);
-    let answered = room.read(text, spelling);
+    let answered = room.pair(text, spelling);
     assert_eq!(answered, answer(&wanted), "{name}");
     assert_eq!(room.filled(answered), table, "{name}");
 }

@@ -1,10 +1,10 @@
 //! One document with one word, one pool byte or one count changed: refused, but where what is left is the table of
-//! another document.
+//! another draft.
 //!
 //! | test | cases |
 //! |---|---|
 //! | [`words_changed`], with [`changes`], [`still`] | 532 |
-//! | [`pool_bytes_refused`], [`pool_bytes_kept`] | 14 and 5 |
+//! | [`pool_bytes_refused`], [`pool_bytes_at_fault`], [`pool_bytes_kept`] | 12, 2 and 5 |
 //! | [`counts_changed`] | 14 |
 
 use crate::memory::{Room, Table};
@@ -44,13 +44,14 @@ fn changes(word: u32) -> Vec<u32> {
     changes
 }
 
-/// The document's table with word `i` changed: refused, or printed, and read again as the same table.
+/// The document's table with word `i` changed: refused, or well-formed, printed, and read again as the same table.
 fn changed(table: &Table, i: usize, value: u32) {
     eprintln!("word {i} as {value}");
     let mut table = table.clone();
     table.words[i] = value;
     if still(i, value) {
         table.comes_back();
+        table.checks(number::OK, 0);
     } else {
         table.refuses();
     }
@@ -77,8 +78,8 @@ fn poked(i: usize, byte: u8) -> Table {
     table
 }
 
-/// Bytes that no id, type, target or text has there, an id that another block has, and a target that no block has.
-const REFUSED: [(usize, u8); 14] = [
+/// Bytes that no id, type, target or text has there.
+const REFUSED: [(usize, u8); 12] = [
     (0, b' '),
     (0, b'/'),
     (0, 255),
@@ -86,8 +87,6 @@ const REFUSED: [(usize, u8); 14] = [
     (1, b'.'),
     (3, 255),
     (4, 195),
-    (5, b'd'),
-    (6, b'q'),
     (7, 195),
     (8, b' '),
     (8, 127),
@@ -98,6 +97,39 @@ const REFUSED: [(usize, u8); 14] = [
 #[test]
 fn pool_bytes_refused() {
     REFUSED.iter().for_each(|(i, byte)| poked(*i, *byte).refuses());
+}
+
+/// A byte of the pool with its new value, the spelling that is then wanted, and number and node of the check.
+type AtFault = (usize, u8, &'static [u8], u32, u32);
+
+/// Bytes with which it is a draft that is not well-formed: node 5 has an id that the document has, and node 6 a target
+/// that no block has.
+const AT_FAULT: [AtFault; 2] = [
+    (
+        5,
+        b'd',
+        b"[document [title \"Top\"] [id d] [type t] [section [title] [paragraph [id d] [link [target \"p\"] \"x\"] \
+          [image [target \"u\"] [size 7 8] [type w] \"y\"] [list-ordered [item \"end\"]]]]]",
+        number::REPEATED_ID,
+        5,
+    ),
+    (
+        6,
+        b'q',
+        b"[document [title \"Top\"] [id d] [type t] [section [title] [paragraph [id p] [link [target \"q\"] \"x\"] \
+          [image [target \"u\"] [size 7 8] [type w] \"y\"] [list-ordered [item \"end\"]]]]]",
+        number::UNKNOWN_TARGET,
+        6,
+    ),
+];
+
+#[test]
+fn pool_bytes_at_fault() {
+    for (i, byte, want, number, node) in AT_FAULT {
+        let table = poked(i, byte);
+        table.spells(want);
+        table.checks(number, node);
+    }
 }
 
 /// Bytes with which it is another document, and its spelling.
@@ -136,7 +168,7 @@ const KEPT: [(usize, u8, &[u8]); 5] = [
 
 #[test]
 fn pool_bytes_kept() {
-    KEPT.iter().for_each(|(i, byte, want)| poked(*i, *byte).spells(want));
+    KEPT.iter().for_each(|(i, byte, want)| poked(*i, *byte).answers(want));
 }
 
 /// Lent node words, nodes, lent pool bytes, pool bytes: 7 cases with other nodes, 7 with another pool. 11 times

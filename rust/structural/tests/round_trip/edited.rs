@@ -1,11 +1,11 @@
-//! Documents with one word of their table changed: other documents, or none.
+//! Documents with one word of their table changed: other drafts, or none.
 //!
 //! | test | cases |
 //! |---|---|
 //! | [`sizes`] | 7 |
 //! | [`blocks`] | 7 |
 //! | [`inline`] | 4 |
-//! | [`targets`] | 5 |
+//! | [`targets`], [`unknown_targets`] | 3 and 2 |
 
 use crate::memory::{Room, Table};
 use structural::lent::NONE;
@@ -15,13 +15,16 @@ use structural::{number, Spelling};
 /// where the table has to be refused.
 type Edit = (&'static [u8], usize, u32, &'static [u8]);
 
+/// The table of a text with one word changed.
+fn table(text: &[u8], i: usize, value: u32) -> Table {
+    eprintln!("word {i} as {value}: {}", String::from_utf8_lossy(text));
+    let mut table = Table::read(text, Spelling::Nested, number::OK, Room::new(154, 16, 20));
+    table.words[i] = value;
+    table
+}
+
 fn edited(edits: &[Edit]) {
-    for (text, i, value, want) in edits {
-        eprintln!("word {i} as {value}: {}", String::from_utf8_lossy(text));
-        let mut table = Table::read(text, Spelling::Nested, number::OK, Room::new(154, 16, 20));
-        table.words[*i] = *value;
-        table.answers(want);
-    }
+    edits.iter().for_each(|(text, i, value, want)| table(text, *i, *value).answers(want));
 }
 
 /// An image with a size of which one number is changed.
@@ -88,14 +91,13 @@ const INLINE: [Edit; 4] = [
 ];
 
 /// An element with a target as another: node 5, so word 55.
-const TARGETS: [Edit; 5] = [
+const TARGETS: [Edit; 3] = [
     (
         b"[document [title] [section [title] [paragraph [id a] [link-ext [target a] x]]]]",
         55,
         13,
         b"[document [title] [section [title] [paragraph [id a] [link [target \"a\"] \"x\"]]]]",
     ),
-    (b"[document [title] [section [title] [paragraph [link-ext [target a] x]]]]", 55, 13, b""),
     (
         b"[document [title] [section [title] [paragraph [id a] [link [target a] x]]]]",
         55,
@@ -108,7 +110,28 @@ const TARGETS: [Edit; 5] = [
         15,
         b"[document [title] [section [title] [footnote [id a] [footnote-ref [target \"a\"]]]]]",
     ),
-    (b"[document [title] [section [title] [paragraph [id a] [link [target a]]]]]", 55, 15, b""),
+];
+
+/// The same where no block, or no footnote, has the target: drafts with a fault at node 5.
+const UNKNOWN_TARGETS: [(u32, Edit); 2] = [
+    (
+        number::UNKNOWN_TARGET,
+        (
+            b"[document [title] [section [title] [paragraph [link-ext [target a] x]]]]",
+            55,
+            13,
+            b"[document [title] [section [title] [paragraph [link [target \"a\"] \"x\"]]]]",
+        ),
+    ),
+    (
+        number::UNKNOWN_FOOTNOTE,
+        (
+            b"[document [title] [section [title] [paragraph [id a] [link [target a]]]]]",
+            55,
+            15,
+            b"[document [title] [section [title] [paragraph [id a] [footnote-ref [target \"a\"]]]]]",
+        ),
+    ),
 ];
 
 #[test]
@@ -129,4 +152,13 @@ fn inline() {
 #[test]
 fn targets() {
     edited(&TARGETS);
+}
+
+#[test]
+fn unknown_targets() {
+    for (number, (text, i, value, want)) in UNKNOWN_TARGETS {
+        let table = table(text, i, value);
+        table.spells(want);
+        table.checks(number, 5);
+    }
 }

@@ -17,7 +17,7 @@ mod common;
 mod damage; // one document with one word, byte or count changed
 mod edited; // documents that are other documents with one word changed
 mod escapes; // every escape
-mod faults; // documents that are not well-formed
+mod faults; // drafts that are not well-formed
 mod forms; // every form
 mod limits; // the limits of what is printed
 mod many; // documents that are built

@@ -28,7 +28,7 @@ impl Room {
 }
 
 /// All node words and pool bytes that were lent, and how many of them are said to be used.
-#[derive(Clone)]
+#[derive(Clone, PartialEq)]
 pub struct Table {
     pub words: Vec<u32>,
     pub nodes: u32,
@@ -62,18 +62,29 @@ impl Table {
         self.prints(want.len() + 16, number::OK, want.len(), want);
     }
 
-    /// The print refuses the table: 20, length 0, and nothing written, also where nothing is lent.
+    /// The check answers this number and this node, and changes nothing.
+    pub fn checks(&self, number: u32, node: u32) {
+        let before = self.clone();
+        let checked = lent::check(&self.words, self.nodes, &self.bytes, self.pool);
+        assert_eq!((checked.number, checked.node), (number, node));
+        assert!(*self == before, "the check changed the table");
+    }
+
+    /// It is no draft's table. The print says so with 20, length 0, and nothing written, also where nothing is lent;
+    /// the check with 20 at node 0.
     pub fn refuses(&self) {
         self.prints(0, number::NOT_A_TABLE, 0, b"");
         self.prints(400, number::NOT_A_TABLE, 0, b"");
+        self.checks(number::NOT_A_TABLE, 0);
     }
 
-    /// The table is spelled so; it is to be refused where no spelling is wanted.
+    /// The table is that of a well-formed document and is spelled so; it is to be refused where no spelling is wanted.
     pub fn answers(&self, want: &[u8]) {
         if want.is_empty() {
             self.refuses();
         } else {
             self.spells(want);
+            self.checks(number::OK, 0);
         }
     }
 

@@ -1,14 +1,13 @@
--- Places and counts of an answer, and the line and column, are within the text.
-use Prim.Native.Nat.{ℕ, zero, suc, _+_, _-_, _≤_}
+-- Places and counts of an answer are within the text.
+use Prim.Native.Nat.{ℕ, suc, _+_, _-_, _≤_}
 use mathlib.Core.Path.{_≡_, refl, ap}
 use mathlib.Core.List.{List, [], _∷_, _++_}
 use native.Mathlib.Omega.{arith}
 use borrow.Author.Tests.{ltb-false, ltb-true}
-use lib.Dec.{ltb, eqb}
-use lib.ListN.{length, take, getD, length-append, length-take}
+use lib.Dec.{ltb}
+use lib.ListN.{length, length-append}
 use Rattle.base.proofs.Booleans.{cond-case}
 use Rattle.utf8.specs.reference.Sequence.{validUpTo}
-use Rattle.utf8.specs.rules.Position.{lineFeed, lineFeeds, lineOf, hasLineFeed, lastLine, isContinuation, characters, columnOf}
 use Rattle.syntax.specs.rules.Byte.{openByte}
 use Rattle.syntax.specs.rules.Syntax.{piecesBefore, bytesBefore}
 use Rattle.syntax.specs.rules.Expression.{Expr, symbol, quoted, list, Exprs, none, and, place}
@@ -19,10 +18,8 @@ use Rattle.syntax.specs.rules.Fault.{Opened, openedBefore, size, Hit, control, 
 use Rattle.syntax.proofs.Strings.{pieces-append}
 use Rattle.syntax.proofs.BeforeFault.{opened-length}
 use Rattle.syntax.proofs.SyntaxOrFault.{refused-fault}
-use Rattle.elements.specs.rules.Class as Class
 use Rattle.document.specs.rules.Spelling.{Spelling, nested, imperative}
-use Rattle.document.specs.rules.Lead.{leadClass}
-use Rattle.document.specs.reference.Meaning.{Verdict, fine, fault, judgeRoot, places, listPlaces, allPlaces}
+use Rattle.document.specs.reference.Meaning.{Verdict, fine, fault, judgeRoot}
 use Rattle.document.specs.reference.Imperative.{regroup}
 use Rattle.document.specs.rules.Command.{notAllowed}
 use Rattle.document.specs.reference.Outcome.{Reading, refused, read, tooDeep, judged, oneExpression}
@@ -33,39 +30,6 @@ use Rattle.reader.specs.internal.WalkAnswer.{readWalked}
 use Rattle.reader.specs.internal.FirstGroups.{groupPlace}
 use Rattle.reader.proofs.lemmas.walk.Counts.{weight, weightAll, weighed, stands-weight}
 use Rattle.reader.proofs.lemmas.read.FaultPlaces.{Placed, AllPlaced, placed, VerdictIn, root-within}
-
--- ---- line and column
-
-feeds-within : (s : List ℕ) → lineFeeds s ≤ length s
-unfolding lineFeeds
-feeds-within [] = omega arith
-feeds-within (b ∷ s) =
-    let h : lineFeeds s ≤ length s = feeds-within s in
-    cond-case (λ (n : ℕ). n ≤ suc (length s)) (eqb b lineFeed) (λ e. omega arith) (λ e. omega arith)
-
-characters-within : (s : List ℕ) → characters s ≤ length s
-unfolding characters
-characters-within [] = omega arith
-characters-within (b ∷ s) =
-    let h : characters s ≤ length s = characters-within s in
-    cond-case (λ (n : ℕ). n ≤ suc (length s)) (isContinuation b) (λ e. omega arith) (λ e. omega arith)
-
-last-within : (s : List ℕ) → length (lastLine s) ≤ length s
-unfolding lastLine
-last-within [] = omega arith
-last-within (b ∷ s) =
-    let h : length (lastLine s) ≤ length s = last-within s in
-    cond-case (λ (l : List ℕ). length l ≤ suc (length s)) (hasLineFeed s) (λ e. omega arith)
-    (λ e. cond-case (λ (l : List ℕ). length l ≤ suc (length s)) (eqb b lineFeed) (λ f. omega arith) (λ f. omega arith))
-
--- Neither line nor column passes the place by more than one.
-pub position-within : (text : List ℕ) (p : ℕ) → (lineOf text p ≤ p + 1) × (columnOf text p ≤ p + 1)
-unfolding lineOf columnOf
-position-within text p =
-    let t : length (take p text) ≤ p = omega (arith, length-take p text) in (
-      omega (arith, feeds-within (take p text)),
-      omega (arith, characters-within (lastLine (take p text)), last-within (take p text)),
-    )
 
 -- ---- the place of a fault of the groups 1 to 6
 
@@ -131,38 +95,6 @@ regrouped-placed : (most : ℕ) (e : Expr) (es : Exprs) → AllPlaced most (and 
 regrouped-placed most e es t =
     regrouped-all (λ (n : ℕ) (e : Expr). Placed most e) (λ (n : ℕ) (es : Exprs). AllPlaced most es) (places-laws most) 0 e es t
 
--- The place list has no place past the text.
-le-append : (most : ℕ) (xs ys : List ℕ) → ((i : ℕ) → getD xs i 0 ≤ most) → ((i : ℕ) → getD ys i 0 ≤ most) → (i : ℕ) → getD (xs ++ ys) i 0 ≤ most
-le-append most [] ys h g i = g i
-le-append most (x ∷ xs) ys h g zero = h 0
-le-append most (x ∷ xs) ys h g (suc i) = le-append most xs ys (λ j. h (suc j)) g i
-
-le-cons : (most x : ℕ) (xs : List ℕ) → x ≤ most → ((i : ℕ) → getD xs i 0 ≤ most) → (i : ℕ) → getD (x ∷ xs) i 0 ≤ most
-le-cons most x xs h g zero = h
-le-cons most x xs h g (suc i) = g i
-
-le-nil : (most i : ℕ) → getD {A = ℕ} [] i 0 ≤ most
-le-nil most i = omega arith
-
-module _ (most : ℕ) where
-  mutual
-    unfolding places Placed
-
-    pub place-list-within : (e : Expr) → Placed most e → (i : ℕ) → getD (places e) i 0 ≤ most
-    place-list-within (symbol at s) h = le-cons most at [] h (le-nil most)
-    place-list-within (quoted at s) h = le-cons most at [] h (le-nil most)
-    place-list-within (list at es) h = list-places-within at es (h .0) (h .1)
-
-    list-places-within : (at : ℕ) (es : Exprs) → at ≤ most → AllPlaced most es → (i : ℕ) → getD (listPlaces at es) i 0 ≤ most
-    list-places-within at none h u = le-nil most
-    list-places-within at (and e es) h u =
-        cond-case (λ (ps : List ℕ). (i : ℕ) → getD ps i 0 ≤ most) (Class.isElement (leadClass e))
-        (λ _. le-cons most at (allPlaces es) h (all-places-within es (u .1))) (λ _. le-nil most)
-
-    all-places-within : (es : Exprs) → AllPlaced most es → (i : ℕ) → getD (allPlaces es) i 0 ≤ most
-    all-places-within none u = le-nil most
-    all-places-within (and e es) u = le-append most (places e) (allPlaces es) (place-list-within e (u .0)) (all-places-within es (u .1))
-
 -- ---- how much expressions hold
 
 weight-laws : Laws (λ (n : ℕ) (e : Expr). weight e ≤ n) (λ (n : ℕ) (es : Exprs). weightAll es ≤ n)
@@ -187,31 +119,27 @@ weight-laws =
 
 abbrev ReadingIn : ℕ → Reading → Type 0
 ReadingIn n (refused m p) = p ≤ n
-ReadingIn n (read e) = Placed n e × (weight e ≤ n)
+ReadingIn n (read e) = weight e ≤ n
 
-judged-within : (s : Spelling) (n : ℕ) (e : Expr) (v : Verdict) → VerdictIn n v → Placed n e → weight e ≤ n → ReadingIn n (judged s e v)
+judged-within : (s : Spelling) (n : ℕ) (e : Expr) (v : Verdict) → VerdictIn n v → weight e ≤ n → ReadingIn n (judged s e v)
 unfolding judged
-judged-within s n e (fault m p) h u t = h
-judged-within s n e fine h u t = cond-case (ReadingIn n) (tooDeep s e) (λ _. omega arith) (λ _. (u, t))
+judged-within s n e (fault m p) h t = h
+judged-within s n e fine h t = cond-case (ReadingIn n) (tooDeep s e) (λ _. omega arith) (λ _. t)
 
 one-within : (s : Spelling) (n : ℕ) (es : Exprs) → AllPlaced n es → weightAll es ≤ n → ReadingIn n (oneExpression s n es)
 unfolding oneExpression Placed weight
 one-within nested n none u t = omega arith
-one-within nested n (and e none) u t = judged-within nested n e (judgeRoot e) (root-within n e (u .0)) (u .0) (omega arith)
+one-within nested n (and e none) u t = judged-within nested n e (judgeRoot e) (root-within n e (u .0)) (omega arith)
 one-within nested n (and e (and e′ es)) u t = placed n e′ (u .1 .0)
 one-within imperative n none u t = omega arith
 one-within imperative n (and e es) u t =
     let r : Placed n (regroup e es) = regrouped-placed n e es u in
-    judged-within imperative n (regroup e es) (judgeRoot (regroup e es)) (root-within n (regroup e es) r) r
+    judged-within imperative n (regroup e es) (judgeRoot (regroup e es)) (root-within n (regroup e es) r)
     (regrouped-all (λ (n : ℕ) (e : Expr). weight e ≤ n) (λ (n : ℕ) (es : Exprs). weightAll es ≤ n) weight-laws n e es t)
 
 module _ (s : Spelling) (text : List ℕ) (es : Exprs) (st : RunStands text 0 es (length text)) where
   reading-within : ReadingIn (length text) (oneExpression s (length text) es)
   reading-within = one-within s (length text) es (stands-placed st) (omega (arith, stands-weight st))
-
-  -- The expression that is read has its places in the text.
-  pub read-placed : (e : Expr) → oneExpression s (length text) es ≡ read e → Placed (length text) e
-  read-placed e o = (rw o at reading-within) .0
 
   -- The place and both counts are within the text.
   pub walk-within : (w : Walked) → w ≡ readWalked (oneExpression s (length text) es)
@@ -222,4 +150,4 @@ module _ (s : Spelling) (text : List ℕ) (es : Exprs) (st : RunStands text 0 es
       go : (r : Reading) → ReadingIn (length text) r
           → (readWalked r .place ≤ length text) × (readWalked r .nodes ≤ length text) × (readWalked r .pool ≤ length text)
       go (refused n p) h = (h, omega arith, omega arith)
-      go (read e) h = let (n, b) = weighed e in (omega arith, omega (arith, h .1), omega (arith, h .1))
+      go (read e) h = let (n, b) = weighed e in (omega arith, omega (arith, h), omega (arith, h))

@@ -19,12 +19,10 @@ use Rattle.lexer.specs.Token.{scanNumber, scanPlace}
 use Rattle.syntax.proofs.SyntaxOrFault.{accepts, refused-fault}
 use Rattle.syntax.proofs.LocatedDepth.{located-depth}
 use Rattle.elements.specs.rules.Class as Class
-use Rattle.document.specs.rules.Document.{says, Document, isNode}
+use Rattle.document.specs.rules.Document.{says, isNode}
 use Rattle.document.specs.reference.Meaning.{Verdict, fine, fault, judgeRoot, treeOf, places}
 use Rattle.document.specs.reference.Imperative.{regroup}
 use Rattle.document.specs.rules.Table.{count, pool}
-use Rattle.document.specs.rules.Canonical.{layout, treeLevels}
-use Rattle.document.proofs.CanonicalLevels.{spelled-levels}
 use Rattle.document.proofs.ReadingDecided.{ReadingHolds, found, regrouped-form}
 use Rattle.document.proofs.PlaceCounts.{root-places, element-node}
 use Rattle.document.proofs.BlockExpressions.{root-document}
@@ -53,11 +51,8 @@ pub record PassedGroups (s : Spelling) (text : List ℕ) (m : Memory) : Type 0 w
 -- The expression of a document that was read, and what is known of it.
 pub record DocumentRead (s : Spelling) (text : List ℕ) (m : Memory) (x : PassedGroups s text m) (w : Walked) : Type 0 where
   pub expr : Expr
-  pub reads : oneExpression s (length text) (x .es) ≡ read expr
   pub form : NestedForm s (x .es) expr
   pub fine-root : judgeRoot expr ≡ fine
-  pub document : Document (says (treeOf expr))
-  pub levels : treeLevels (layout (says (treeOf expr))) ≤ 64
   pub nodes-are : w .nodes ≡ count (says (treeOf expr))
   pub bytes-are : w .pool ≡ length (pool (says (treeOf expr)))
   pub goes-on : outcome s text m ≡ stored text m (places expr) (says (treeOf expr))
@@ -156,14 +151,10 @@ module _ (s : Spelling) (text : List ℕ) (m : Memory) where
         go (refused n p) o e = absurd (no-zero s text (x .utf8) (x .es) n p (x .found-as) o (sym (ap (λ (v : Walked). v .number) e) ∙ z))
         go (read e′) o e =
             let (form, ok) = one-read s (length text) (x .es) e′ o in
-            let (sp, within, same) = rw (x .found-as ∙ o) at (found s text (x .utf8)) in
             record {
               expr = e′;
-              reads = o;
               form = form;
               fine-root = ok;
-              document = record { tree = sp .tree; lawful = sp .lawful; said = sp .said };
-              levels = spelled-levels s (says (treeOf e′)) text sp (record { short = x .short; nests = within });
               nodes-are = ap (λ (v : Walked). v .nodes) e ∙ sym (nodes-places e′) ∙ root-places e′ ok;
               bytes-are = ap (λ (v : Walked). v .pool) e ∙ sym (bytes-pool e′ (root-node e′ ok));
               goes-on = x .goes-on ∙ rw o;

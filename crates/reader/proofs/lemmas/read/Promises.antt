@@ -5,37 +5,25 @@ use mathlib.Core.Bool.{Bool, true, false, cond}
 use mathlib.Core.List.{List, []}
 use native.Mathlib.Nat.{zero-add}
 use native.Mathlib.Omega.{arith}
-use borrow.Author.Tests.{lt-ltb, le-ltb, ltb-false, le-leb}
-use Rattle.base.proofs.Booleans.{true-T}
+use borrow.Author.Tests.{lt-ltb, le-ltb, ltb-false}
 use lib.Dec.{ltb}
-use lib.ListN.{length, length-append, take, drop, getD, replicate, length-replicate, List·getD-append, List·getD-eq-default}
-use lib.Seq.{sets, sets-eq, take-at}
+use lib.ListN.{length, replicate, length-replicate}
+use lib.Seq.{sets, sets-eq}
 use Rattle.base.specs.rules.Limits.{mostNodes}
 use Rattle.syntax.specs.rules.Expression.{Expr, none, and}
-use Rattle.document.specs.rules.Document.{Node, says, Document}
+use Rattle.document.specs.rules.Document.{Node, says}
 use Rattle.document.specs.rules.Spelling.{Spelling, mostLevels}
 use Rattle.document.specs.reference.Meaning.{fine, judgeRoot, treeOf, places}
 use Rattle.document.specs.rules.Record.{recordLength}
 use Rattle.document.specs.rules.Table.{count, pool, tableOf}
-use Rattle.document.specs.reference.Check.{Check, sound, unsound, check}
 use Rattle.document.specs.rules.Memory as Defined
-use Rattle.document.specs.reference.Outcome.{oneExpression, checked, stored, outcome}
+use Rattle.document.specs.reference.Outcome.{oneExpression, stored, outcome}
 use Rattle.document.specs.rules.Memory.{Memory, answerAt, refusal, noRoom, over, filled, nodeRoom}
 use Rattle.document.proofs.PlaceCounts.{root-places}
 use Rattle.document.proofs.Records.{table-length}
-use Rattle.document.proofs.RefusalNumbers.{check-number}
-use Rattle.document.proofs.CheckedNode.{unsound-below}
-use Rattle.document.specs.rules.Canonical.{layout, treeLevels}
-use Rattle.document.specs.reference.Printing.{checkedAs, checking}
-use Rattle.document.proofs.PrintingDecided.{checks}
-use Rattle.validate.specs.CheckNumbers.{checkNumber, checkNode}
-use Rattle.validate.specs.Checks.{Checks}
-use Rattle.validate.specs.declared.Checked.{Checked}
 use Rattle.reader.specs.declared.Answer.{Answer}
 use Rattle.reader.specs.declared.walk.Walked.{Walked}
 use Rattle.reader.specs.internal.WalkAnswer.{readWalked}
-use Rattle.document.specs.rules.Draft.{Holds}
-use Rattle.reader.specs.internal.TableCheck.{checkPlace}
 use Rattle.reader.specs.internal.JudgedText.{JudgesText, TapeOfText}
 use Rattle.reader.specs.internal.FirstGroups.{groupNumber, groupPlace, roomNumber}
 use Rattle.reader.specs.Read.{SameAnswer, Reads}
@@ -43,8 +31,7 @@ use Rattle.reader.specs.internal.Counts.{nodeCount}
 use Rattle.reader.specs.internal.Tape.{taped, Located}
 use Rattle.reader.proofs.lemmas.walk.Counts.{nodes-places}
 use Rattle.reader.proofs.lemmas.read.Located.{form-located}
-use Rattle.reader.proofs.lemmas.read.FaultPlaces.{Placed}
-use Rattle.reader.proofs.lemmas.read.AnswerBounds.{group-place, place-list-within, read-placed, walk-within}
+use Rattle.reader.proofs.lemmas.read.AnswerBounds.{group-place, walk-within}
 use Rattle.reader.proofs.lemmas.read.AnswerGroups.{PassedGroups, DocumentRead, group-refused, group-passed, judged-refused, judged-read}
 
 -- ---- the ways through `room`: one of the tests that the nodes fit fails, or none does
@@ -72,40 +59,6 @@ module _ (words places bytes n p : ℕ) where
       go true e z = absurd (omega arith)
       go false e z = let h = ltb-false (min 4096 (min (words / recordLength) places)) n e in (omega (arith, h), omega (arith, h), omega (arith, h))
 
--- ---- the ways through `checked`
-
--- The check of a table that holds a document answers of that document.
-pub document-checked : (words : List ℕ) (n : ℕ) (bytes : List ℕ) (m : ℕ) (r : Checked) → Checks (checking words n bytes m) r → (d : Node) → Holds words n bytes m d
-    → (r .number ≡ checkNumber (check d)) × (r .node ≡ checkNode (check d))
-unfolding checkNumber checkNode checkedAs
-document-checked words n bytes m r c d h =
-    let x = rw (checks words n bytes m d (h .words-within) (h .bytes-within) (h .draft)) at c in
-    go (check d) x
-  where
-    go : (k : Check) → Checks (checkedAs k) r → (r .number ≡ checkNumber k) × (r .node ≡ checkNode k)
-    go sound x = (x .number, x .node)
-    go (unsound i j) x = (x .number, x .node)
-
-module _ (ps : List ℕ) (d : Node) (number node : ℕ) (n-is : number ≡ checkNumber (check d)) (i-is : node ≡ checkNode (check d)) where
-  pub place-of-none : number ≡ 0 → (0 ≡ checkNumber (check d)) × (0 ≡ checkPlace ps (check d))
-  unfolding checkNumber checkPlace
-  place-of-none z = go (check d) refl (sym n-is ∙ z)
-    where
-      go : (c : Check) → check d ≡ c → checkNumber c ≡ 0 → (0 ≡ checkNumber c) × (0 ≡ checkPlace ps c)
-      go sound e k = (refl, refl)
-      go (unsound n i) e k = absurd (omega (arith, check-number d n i e))
-
-  pub place-of-node : (number ≡ 0 → ⊥) → (number ≡ checkNumber (check d)) × (getD ps node 0 ≡ checkPlace ps (check d))
-  unfolding checkNumber checkNode checkPlace
-  place-of-node h = (n-is, go (check d) n-is i-is)
-    where
-      go : (c : Check) → number ≡ checkNumber c → node ≡ checkNode c → getD ps node 0 ≡ checkPlace ps c
-      go sound k l = absurd (h k)
-      go (unsound n i) k l = rw l
-
-  pub place-past : (number ≡ 0 → ⊥) → length ps ≤ node → (number ≡ checkNumber (check d)) × (0 ≡ checkPlace ps (check d))
-  place-past h past = let (a, b) = place-of-node h in (a, sym (List·getD-eq-default ps 0 past) ∙ b)
-
 -- ---- the lent memory once it is filled
 
 sets-over : (l vs : List ℕ) → length vs ≤ length l → sets l 0 vs ≡ over vs l
@@ -124,18 +77,18 @@ module _ (text : List ℕ) (m : Memory) (ps : List ℕ) (d : Node) where
   stored-full = go (ltb (nodeRoom m) (count d)) (ltb (length (m .pool)) (length (pool d)))
     where
       go : (a b : Bool) → (_≡_ {A = ℕ} (cond a 13 (cond b 14 0)) 0 → ⊥)
-          → cond a (noRoom text m 13 d) (cond b (noRoom text m 14 d) (checked text m ps d (check d)))
+          → cond a (noRoom text m 13 d) (cond b (noRoom text m 14 d) (filled text m ps d))
           ≡ record { answer = answerAt text (cond a 13 (cond b 14 0)) 0 (count d) (length (pool d)); memory = m }
       go true b h = refl
       go false true h = refl
       go false false h = absurd (h refl)
 
-  stored-fits : full ≡ 0 → (stored text m ps d ≡ checked text m ps d (check d)) × (count d ≤ nodeRoom m) × (length (pool d) ≤ length (m .pool))
+  stored-fits : full ≡ 0 → (stored text m ps d ≡ filled text m ps d) × (count d ≤ nodeRoom m) × (length (pool d) ≤ length (m .pool))
   unfolding stored nodeRoom roomNumber
   stored-fits = go (ltb (nodeRoom m) (count d)) refl (ltb (length (m .pool)) (length (pool d))) refl
     where
       go : (a : Bool) → ltb (nodeRoom m) (count d) ≡ a → (b : Bool) → ltb (length (m .pool)) (length (pool d)) ≡ b → _≡_ {A = ℕ} (cond a 13 (cond b 14 0)) 0
-          → (cond a (noRoom text m 13 d) (cond b (noRoom text m 14 d) (checked text m ps d (check d))) ≡ checked text m ps d (check d))
+          → (cond a (noRoom text m 13 d) (cond b (noRoom text m 14 d) (filled text m ps d)) ≡ filled text m ps d)
           × (count d ≤ nodeRoom m) × (length (pool d) ≤ length (m .pool))
       go true e b f z = absurd (omega arith)
       go false e true f z = absurd (omega arith)
@@ -147,47 +100,9 @@ module _ (text : List ℕ) (m : Memory) (ps : List ℕ) (d : Node) where
     written-over =
         rw (sets-over (m .nodes) (tableOf d) (omega (arith, table-length d)), sets-over (m .places) ps (omega arith), sets-over (m .pool) (pool d) bytes)
 
-    written-holds : Document d → treeLevels (layout d) ≤ 64 → length (pool d) ≤ 65536 → Holds (written m ps d .nodes) (count d) (written m ps d .pool) (length (pool d)) d
-    unfolding over nodeRoom
-    written-holds doc levels short =
-        let words = ap (λ (x : Memory). x .nodes) written-over in
-        let strings = ap (λ (x : Memory). x .pool) written-over in
-        record {
-          words-within = omega (arith, ap length words, length-append (tableOf d) (drop (length (tableOf d)) (m .nodes)), table-length d);
-          bytes-within = omega (arith, ap length strings, length-append (pool d) (drop (length (pool d)) (m .pool)));
-          draft = record {
-            document = doc;
-            node-words = sym (ap (take (recordLength * count d)) words ∙ take-at (tableOf d) _ (recordLength * count d) (table-length d));
-            pool-bytes = sym (ap (take (length (pool d))) strings ∙ take-at (pool d) _ (length (pool d)) refl);
-            few-nodes = true-T (le-leb (count d) 4096 (omega arith));
-            nests-within = true-T (le-leb (treeLevels (layout d)) 64 levels);
-            short-pool = true-T (le-leb (length (pool d)) 65536 short);
-          };
-        }
-
-    -- The place that the filled place list has for the checked node is the place of that node.
-    checked-place : checkPlace (written m ps d .places) (check d) ≡ checkPlace ps (check d)
-    unfolding checkPlace over
-    checked-place = go (check d) refl
-      where
-        go : (c : Check) → check d ≡ c → checkPlace (written m ps d .places) c ≡ checkPlace ps c
-        go sound e = refl
-        go (unsound n i) e =
-            ap (λ (x : Memory). getD (x .places) i 0) written-over
-            ∙ List·getD-append ps (drop (length ps) (m .places)) 0 i (omega (arith, unsound-below d n i e))
-
-    checked-answer : checked text m ps d (check d)
-        ≡ record { answer = answerAt text (checkNumber (check d)) (checkPlace ps (check d)) (count d) (length (pool d)); memory = written m ps d }
-    unfolding checked filled checkNumber checkPlace
-    checked-answer = rw written-over (go (check d))
-      where
-        go : (c : Check) → checked text m ps d c
-            ≡ record {
-              answer = answerAt text (checkNumber c) (checkPlace ps c) (count d) (length (pool d));
-              memory = record { nodes = over (tableOf d) (m .nodes); places = over ps (m .places); pool = over (pool d) (m .pool) };
-            }
-        go sound = refl
-        go (unsound n i) = refl
+    filled-answer : filled text m ps d ≡ record { answer = answerAt text 0 0 (count d) (length (pool d)); memory = written m ps d }
+    unfolding filled
+    filled-answer = rw written-over
 
 -- ---- places and counts that fit
 
@@ -235,8 +150,7 @@ module _ (s : Spelling) (text : List ℕ) (m : Memory) where
   reads-of a exit r e h = record { answers = rw e h; leaves = rw e }
 
   -- After the judge, over the expression that it found.
-  module _ (e : Expr) (ok : judgeRoot e ≡ fine) (doc : Document (says (treeOf e)))
-      (levels : treeLevels (layout (says (treeOf e))) ≤ 64) (goes-on : outcome s text m ≡ stored text m (places e) (says (treeOf e)))
+  module _ (e : Expr) (ok : judgeRoot e ≡ fine) (goes-on : outcome s text m ≡ stored text m (places e) (says (treeOf e)))
       (nodes bytes : ℕ) (nodes-are : nodes ≡ count (says (treeOf e))) (bytes-are : bytes ≡ length (pool (says (treeOf e))))
       (f : ℕ) (room : f ≡ roomNumber (length (m .nodes)) (length (m .places)) (length (m .pool)) nodes bytes) where
     abbrev d : Node
@@ -250,34 +164,11 @@ module _ (s : Spelling) (text : List ℕ) (m : Memory) where
         reads-of (answerAt text f 0 nodes bytes) m r
         (goes-on ∙ stored-full text m (places e) d (λ q. h (room-is ∙ q)) ∙ rw (← room-is, ← nodes-are, ← bytes-are))
 
-    module _ (y : f ≡ 0) (exit : Memory) (exit-is : exit ≡ written m (places e) d) (number place : ℕ)
-        (short : bytes ≤ 65536)
-        (checks : (d : Node) → Holds (exit .nodes) nodes (exit .pool) bytes d
-        → (number ≡ checkNumber (check d)) × (place ≡ checkPlace (exit .places) (check d))) where
-      room-enough-for : (stored text m (places e) d ≡ checked text m (places e) d (check d)) × (count d ≤ nodeRoom m) × (length (pool d) ≤ length (m .pool))
-      room-enough-for = stored-fits text m (places e) d (sym room-is ∙ y)
-
-      check-is : (number ≡ checkNumber (check d)) × (place ≡ checkPlace (places e) (check d))
-      check-is =
-          let (q, few, fit) = room-enough-for in
-          let holds : Holds (exit .nodes) nodes (exit .pool) bytes d
-          = rw (exit-is, nodes-are, bytes-are) (written-holds text m (places e) d few fit (root-places e ok) doc levels (rw bytes-are at short)) in
-          let (a, b) = checks d holds in
-          (a, b ∙ ap (λ (x : Memory). checkPlace (x .places) (check d)) exit-is ∙ checked-place text m (places e) d few fit (root-places e ok))
-
-      place-after : Placed (length text) e → place ≤ length text
-      unfolding checkPlace
-      place-after placed = rw (check-is .1) (go (check d))
-        where
-          go : (k : Check) → checkPlace (places e) k ≤ length text
-          go sound = omega arith
-          go (unsound n i) = place-list-within (length text) e placed i
-
-      filled-after : (r : Answer) → SameAnswer (answerAt text number place nodes bytes) r → Reads s text m r exit
-      filled-after r =
-          let (q, few, fit) = room-enough-for in
-          reads-of (answerAt text number place nodes bytes) exit r
-          (goes-on ∙ q ∙ checked-answer text m (places e) d few fit (root-places e ok) ∙ rw (check-is .0, check-is .1, nodes-are, bytes-are, exit-is))
+    filled-after : f ≡ 0 → (exit : Memory) → exit ≡ written m (places e) d → (r : Answer) → SameAnswer (answerAt text 0 0 nodes bytes) r → Reads s text m r exit
+    filled-after y exit exit-is r =
+        let (q, few, fit) = stored-fits text m (places e) d (sym room-is ∙ y) in
+        reads-of (answerAt text 0 0 nodes bytes) exit r
+        (goes-on ∙ q ∙ filled-answer text m (places e) d few fit (root-places e ok) ∙ rw (nodes-are, bytes-are, exit-is))
 
   module _ (n p : ℕ) (group : (n ≡ groupNumber (mostLevels s) text) × (p ≡ groupPlace (mostLevels s) text)) where
     -- 1 to 6.
@@ -306,12 +197,10 @@ module _ (s : Spelling) (text : List ℕ) (m : Memory) where
         -- 13 and 14.
         pub full-reads : (f ≡ 0 → ⊥) → (r : Answer) → SameAnswer (answerAt text f 0 (w .nodes) (w .pool)) r → Reads s text m r m
         full-reads =
-            full-after (found .expr) (found .fine-root) (found .document) (found .levels) (found .goes-on) (w .nodes) (w .pool) (found .nodes-are) (found .bytes-are) f room
+            full-after (found .expr) (found .fine-root) (found .goes-on) (w .nodes) (w .pool) (found .nodes-are) (found .bytes-are) f room
 
         module _ (y : f ≡ 0) (exit : Memory) (tape : List ℕ) (tapes : TapeOfText s text (w .number) blankTape tape)
-            (fills : Fills text tape (w .nodes) m exit) (number place : ℕ)
-            (checks : (d : Node) → Holds (exit .nodes) (w .nodes) (exit .pool) (w .pool) d
-            → (number ≡ checkNumber (check d)) × (place ≡ checkPlace (exit .places) (check d))) where
+            (fills : Fills text tape (w .nodes) m exit) where
           exit-is : exit ≡ written m (places (found .expr)) (says (treeOf (found .expr)))
           exit-is =
               filled-written m exit (found .expr)
@@ -319,20 +208,7 @@ module _ (s : Spelling) (text : List ℕ) (m : Memory) where
               (tapes (passed .es) (found .expr) (found .form) (passed .stands) (passed .shallow) z′ long)
               (found .nodes-are ∙ sym (root-places (found .expr) (found .fine-root)) ∙ nodes-places (found .expr)))
 
-          few-bytes : w .pool ≤ 65536
-          few-bytes = walk-fits s text n p group z w judges .2
-
-          pub check-fits : place ≤ 65536
-          check-fits =
-              let short : length text ≤ 65536 = passed .short in
-              omega (
-                arith,
-                place-after (found .expr) (found .fine-root) (found .document) (found .levels) (found .goes-on) (w .nodes) (w .pool) (found .nodes-are) (found .bytes-are) f room
-                    y exit exit-is number place few-bytes checks (read-placed s text (passed .es) (passed .stands) (found .expr) (found .reads)),
-              )
-
-          -- 15 to 18, and 0.
-          pub filled-reads : (r : Answer) → SameAnswer (answerAt text number place (w .nodes) (w .pool)) r → Reads s text m r exit
+          -- 0.
+          pub filled-reads : (r : Answer) → SameAnswer (answerAt text 0 0 (w .nodes) (w .pool)) r → Reads s text m r exit
           filled-reads =
-              filled-after (found .expr) (found .fine-root) (found .document) (found .levels) (found .goes-on) (w .nodes) (w .pool) (found .nodes-are) (found .bytes-are) f room
-              y exit exit-is number place few-bytes checks
+              filled-after (found .expr) (found .fine-root) (found .goes-on) (w .nodes) (w .pool) (found .nodes-are) (found .bytes-are) f room y exit exit-is

@@ -1,4 +1,4 @@
--- The answers of the check of a table, where the words and the pool are the table of a draft and where they are not.
+-- Whether a table is a draft's, and the answers of its check.
 use Prim.Native.Nat.{ℕ, _*_, _≤_}
 use mathlib.Core.Path.{_≡_, refl, sym, ap, _∙_}
 use mathlib.Core.Bool.{Bool, true, false, not}
@@ -12,27 +12,47 @@ use Rattle.document.specs.rules.Document.{Node}
 use Rattle.document.specs.rules.Record.{recordLength}
 use Rattle.document.specs.rules.Table.{count}
 use Rattle.document.specs.reference.Check.{Check, sound, unsound, check}
-use Rattle.document.specs.reference.Printing.{checkedAs, checking}
-use Rattle.document.specs.rules.Draft.{IsDraft}
+use Rattle.document.specs.reference.Printing.{Draft, no-draft, the-draft, isThere, draftOf, checkedAs, checkedOf, checking}
+use Rattle.document.specs.rules.Draft.{IsDraft, Holds}
 use Rattle.document.proofs.Records.{table-length}
 use Rattle.document.proofs.CheckedNode.{unsound-below}
-use Rattle.document.proofs.PrintingDecided.{checks, refused-check}
-use Rattle.validate.specs.CheckNumbers.{checkNumber, checkNode}
+use Rattle.document.proofs.CheckAccount.{held-checked}
+use Rattle.document.proofs.PrintingDecided.{no-both, held-draft, none-held}
+use Rattle.validate.specs.internal.CheckNumbers.{checkNumber, checkNode}
 use Rattle.validate.specs.internal.DocumentTable.{BeginsWithTable}
 use Rattle.validate.specs.Checks.{Checks}
 
-pub no-both : (r : Bool) → not r ≡ true → r ≡ true → ⊥
-no-both true a b = absurd (false-not-T (sym a) tt)
-no-both false a b = absurd (false-not-T (sym b) tt)
-
 module _ (words : List ℕ) (n : ℕ) (bytes : List ℕ) (m : ℕ) where
-  pub no-table-answered : (recordLength * n ≤ length words → m ≤ length bytes → (d : Node) → IsDraft d (take (recordLength * n) words) (take m bytes) → ⊥)
-      → Checks (checking words n bytes m) (record { number = 20; node = 0 })
-  no-table-answered none = let e = refused-check words n bytes m none in record { number = rw e; node = rw e }
+  -- A count beyond what is lent.
+  pub none-there : (recordLength * n ≤ length words → m ≤ length bytes → ⊥) → false ≡ isThere (draftOf words n bytes m)
+  unfolding isThere
+  none-there past = rw (none-held words n bytes m (λ d h. past (h .words-within) (h .bytes-within)))
 
-  module _ (hn : recordLength * n ≤ length words) (hm : m ≤ length bytes) (d : Node) (x : IsDraft d (take (recordLength * n) words) (take m bytes)) where
+  -- The test of the words and bytes up to the counts decides.
+  pub tested : recordLength * n ≤ length words → m ≤ length bytes → (r : Bool)
+      → (r ≡ true → (d : Node) × IsDraft d (take (recordLength * n) words) (take m bytes))
+      × ((d : Node) → IsDraft d (take (recordLength * n) words) (take m bytes) → r ≡ true) → r ≡ isThere (draftOf words n bytes m)
+  unfolding isThere
+  tested hn hm true (f, g) =
+      let (d, x) = f refl in
+      rw (held-draft words n bytes m d (record { words-within = hn; bytes-within = hm; draft = x }))
+  tested hn hm false (f, g) = rw (none-held words n bytes m (λ d h. false-not-T (sym (g d (h .draft))) tt))
+
+  -- 20: there is no draft.
+  pub not-there : (r : Bool) → r ≡ isThere (draftOf words n bytes m) → not r ≡ true → Checks (checking words n bytes m) (record { number = 20; node = 0 })
+  unfolding checking checkedOf isThere
+  not-there r is t = go (draftOf words n bytes m) is
+    where
+      go : (x : Draft) → r ≡ isThere x → Checks (checkedOf x) (record { number = 20; node = 0 })
+      go no-draft e = record { number = refl; node = refl }
+      go (the-draft d) e = absurd (no-both r t e)
+
+  module _ (d : Node) (h : Holds words n bytes m d) where
+    abbrev x : IsDraft d (take (recordLength * n) words) (take m bytes)
+    x = h .draft
+
     node-count : count d ≡ n
-    node-count = omega (arith, table-length d, ap length (x .node-words), length-take-le (recordLength * n) words hn)
+    node-count = omega (arith, table-length d, ap length (x .node-words), length-take-le (recordLength * n) words (h .words-within))
 
     pub few-nodes : n ≤ 4096
     few-nodes = omega (arith, leb→le (count d) 4096 (x .few-nodes), node-count)
@@ -42,7 +62,7 @@ module _ (words : List ℕ) (n : ℕ) (bytes : List ℕ) (m : ℕ) where
         record {
           document = x .document;
           node-count = node-count;
-          node-words = take-all (recordLength * n) (take (recordLength * n) words) (omega (arith, length-take-le (recordLength * n) words hn)) ∙ sym (x .node-words);
+          node-words = take-all (recordLength * n) (take (recordLength * n) words) (omega (arith, length-take-le (recordLength * n) words (h .words-within))) ∙ sym (x .node-words);
           pool-bytes = rw (x .pool-bytes) (take-all (length (take m bytes)) (take m bytes) (omega arith));
         }
 
@@ -62,8 +82,7 @@ module _ (words : List ℕ) (n : ℕ) (bytes : List ℕ) (m : ℕ) where
       unfolding checkNumber checkNode checkedAs
       answered =
           let (a, b) = is d held in
-          let e = checks words n bytes m d hn hm x in
-          rw e (go (check d) a b)
+          rw (held-checked words n bytes m d h) (go (check d) a b)
         where
           go : (c : Check) → number ≡ checkNumber c → node ≡ checkNode c → Checks (checkedAs c) (record { number = number; node = node })
           go sound a b = record { number = a; node = b }

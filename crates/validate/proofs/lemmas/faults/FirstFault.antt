@@ -7,7 +7,7 @@ use Rattle.document.specs.rules.Document.{Node}
 use Rattle.document.specs.reference.Check.{First, any-number, badRow, Entry, entries, repeatedId, unknownTarget, unknownLink, unknownFootnote, Check, sound, checkedBy, check}
 use Rattle.validate.specs.declared.faults.Found.{Found}
 use Rattle.validate.specs.declared.faults.Found.the-variants.{At, Nothing}
-use Rattle.validate.specs.CheckNumbers.{checkNumber, checkNode}
+use Rattle.validate.specs.internal.CheckNumbers.{checkNumber, checkNode}
 use Rattle.validate.specs.internal.DocumentTable.{BeginsWithTable}
 use Rattle.validate.specs.internal.TableWords.{entriesFrom, idsBefore, found, Searched}
 use Rattle.validate.proofs.lemmas.faults.BadRows.{found-nothing, found-at}

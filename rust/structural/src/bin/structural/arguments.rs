@@ -7,21 +7,26 @@ use structural::Spelling;
 pub const HELP: &str = "\
 structural: check, list and tidy documents of the language Structural 3.0.0
 
-  structural check FILE..   say of each file whether it is a well-formed document; of a folder,
-                            all files in it that end in .sd or .sdi
+  structural check FILE..   say of each file whether it is a well-formed document, and show every
+                            fault of its rows, ids and links (15 to 18); of a folder, all files in
+                            it that end in .sd or .sdi
   structural list FILE      one line a node: number, kind, parent, end, the kind's name, and
                             its id or target, size, type and text
   structural fmt FILE       the canonical spelling, on standard output
+
+list and fmt take drafts: documents that may still have faults of rows, ids and links.
 
 A file that ends in .sdi is read in the imperative spelling, any other in the nested one (.sd).
 FILE is - for standard input.
 
   --imperative   read the files named, and standard input, in the imperative spelling whatever
                  their endings; in a folder the endings decide
+  --draft        check: faults of rows, ids and links (15 to 18) are warnings
   --             what follows is a file, whatever its name
   --help, --version
 
-Exit status: 0 all files are well-formed; 1 one is refused or cannot be read; 2 wrong usage.
+Exit status: 0 nothing is refused; 1 a file is refused or cannot be read; 2 wrong usage. Under
+check a file that is not well-formed is refused, under check --draft, list and fmt it is not.
 ";
 
 /// What `--version` prints: the version of this package, and that of the language.
@@ -29,7 +34,7 @@ pub const VERSION: &str = concat!("structural ", env!("CARGO_PKG_VERSION"), " (l
 
 /// What stands below a message about a wrong call.
 pub const HINT: &str = "\
-usage: structural [--imperative] check FILE.. | list FILE | fmt FILE
+usage: structural [--imperative] check [--draft] FILE.. | list FILE | fmt FILE
 structural --help says more.";
 
 /// A task for one file.
@@ -39,12 +44,21 @@ pub enum Task {
     Fmt,
 }
 
+/// What becomes of a document with faults 15 to 18.
+#[derive(Clone, Copy, Debug, Default, PartialEq, Eq)]
+pub enum Drafts {
+    #[default]
+    Refused,
+    /// Its faults are warnings.
+    Taken,
+}
+
 /// A call that was understood. The spelling is the one that an option chose, if any.
 #[derive(Debug, PartialEq, Eq)]
 pub enum Request {
     Help,
     Version,
-    Check(Vec<OsString>, Option<Spelling>),
+    Check(Vec<OsString>, Option<Spelling>, Drafts),
     One(Task, OsString, Option<Spelling>),
 }
 
@@ -53,6 +67,7 @@ pub enum Request {
 struct Words {
     plain: Vec<OsString>,
     spelling: Option<Spelling>,
+    drafts: Drafts,
     early: Option<Early>,
 }
 
@@ -73,11 +88,12 @@ pub fn parse(words: impl Iterator<Item = OsString>) -> Result<Request, String> {
     let mut plain = words.plain.into_iter();
     let task = plain.next().ok_or("no task is named")?;
     let files: Vec<OsString> = plain.collect();
-    match task.to_str() {
-        Some("check") => check(files, words.spelling),
-        Some("list") => one(Task::List, files, words.spelling),
-        Some("fmt") => one(Task::Fmt, files, words.spelling),
-        Some("help") => Ok(Request::Help),
+    match (task.to_str(), words.drafts) {
+        (Some("check"), drafts) => check(files, words.spelling, drafts),
+        (Some("list" | "fmt"), Drafts::Taken) => Err("--draft goes with check; list and fmt take drafts".to_string()),
+        (Some("list"), _) => one(Task::List, files, words.spelling),
+        (Some("fmt"), _) => one(Task::Fmt, files, words.spelling),
+        (Some("help"), _) => Ok(Request::Help),
         _ => Err(format!("unknown task: {}", task.to_string_lossy())),
     }
 }
@@ -101,6 +117,7 @@ impl Words {
     fn take(&mut self, option: &OsStr) -> Result<(), String> {
         match option.to_str() {
             Some("--imperative") => self.spelling = Some(Spelling::Imperative),
+            Some("--draft") => self.drafts = Drafts::Taken,
             Some("--help" | "-h") => self.early = Some(Early::Help),
             Some("--version" | "-V") => self.early = Some(Early::Version),
             _ => return Err(format!("unknown option: {}", option.to_string_lossy())),
@@ -114,14 +131,14 @@ fn is_option(word: &OsStr) -> bool {
     word != "-" && word.as_encoded_bytes().starts_with(b"-")
 }
 
-fn check(files: Vec<OsString>, spelling: Option<Spelling>) -> Result<Request, String> {
+fn check(files: Vec<OsString>, spelling: Option<Spelling>, drafts: Drafts) -> Result<Request, String> {
     if files.is_empty() {
         return Err("check wants a file or a folder".to_string());
     }
     if files.iter().filter(|file| *file == "-").count() > 1 {
         return Err("standard input can be read once".to_string());
     }
-    Ok(Request::Check(files, spelling))
+    Ok(Request::Check(files, spelling, drafts))
 }
 
 fn one(task: Task, files: Vec<OsString>, spelling: Option<Spelling>) -> Result<Request, String> {
@@ -145,7 +162,9 @@ mod tests {
 
     #[test]
     fn tasks() {
-        assert_eq!(parsed(&["check", "a", "b"]), Ok(Request::Check(vec!["a".into(), "b".into()], None)));
+        let both = |drafts| Ok(Request::Check(vec!["a".into(), "b".into()], None, drafts));
+        assert_eq!(parsed(&["check", "a", "b"]), both(Drafts::Refused));
+        assert_eq!(parsed(&["check", "a", "--draft", "b"]), both(Drafts::Taken));
         assert_eq!(parsed(&["list", "-"]), Ok(Request::One(Task::List, "-".into(), None)));
         assert_eq!(parsed(&["fmt", "a.sd"]), Ok(Request::One(Task::Fmt, "a.sd".into(), None)));
     }
@@ -174,6 +193,9 @@ mod tests {
             &["tidy", "a"],
             &["check", "--nested", "a"],
             &["check", "-x"],
+            &["check", "--draft"],
+            &["fmt", "--draft", "a"],
+            &["list", "--draft", "a"],
         ] {
             assert!(parsed(words).is_err(), "{words:?}");
         }

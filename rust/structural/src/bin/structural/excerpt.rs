@@ -1,50 +1,79 @@
 //! The line of a place, with a caret under the place.
 
 use crate::width::{shown, width};
-use structural::position;
 
 /// Most cells of a line that are shown, and how many of these are kept for what follows the place. A manual
 /// may be a single line, and a line that a terminal wraps has its caret elsewhere.
 const CELLS: usize = 70;
 const FOLLOWING: usize = 30;
 
+/// Most bytes that are looked at on either side of a place, which is enough for the cells. A line may be as long as
+/// the text and have many places to be shown.
+const NEAR: usize = 1_000;
+
 /// Stands for what is left out of a line.
 const LEFT_OUT: char = '…';
 
 /// Two lines: that of the place with its number in front, and one with a caret under the place.
-pub fn excerpt(text: &[u8], place: usize) -> String {
-    let (before, after) = around(text, place.min(text.len()));
-    let (before, after) = cut(&characters(before), &characters(after));
-    let number = position(text, place).line.to_string();
+pub fn excerpt(text: &[u8], place: usize, line: u32) -> String {
+    let (before, after) = text.split_at(place.min(text.len()));
+    let (before, after) = cut(&Side::before(before), &Side::after(after));
+    let number = line.to_string();
     let margin = " ".repeat(number.len());
     let blank = blank(&before);
     format!("  {number} | {before}{after}\n  {margin} | {blank}^\n")
 }
 
+/// A side of the line that a place is in: the characters near the place, and whether the line has more.
+struct Side {
+    near: Vec<char>,
+    more: bool,
+}
+
+impl Side {
+    /// Of what stands before a place.
+    fn before(text: &[u8]) -> Side {
+        let from = text.len().saturating_sub(NEAR);
+        match text[from..].iter().rposition(|&byte| byte == b'\n') {
+            Some(end) => Side { near: characters(&text[from + end + 1..]), more: false },
+            None => Side { near: characters(&text[whole(text, from)..]), more: from != 0 },
+        }
+    }
+
+    /// Of what stands from the place on, without the line end.
+    fn after(text: &[u8]) -> Side {
+        let to = text.len().min(NEAR);
+        match text[..to].iter().position(|&byte| byte == b'\n') {
+            Some(end) => {
+                Side { near: characters(text[..end].strip_suffix(b"\r").unwrap_or(&text[..end])), more: false }
+            }
+            None => Side { near: characters(&text[..whole(text, to)]), more: to != text.len() },
+        }
+    }
+}
+
+/// The place, or in the middle of a character the next one where a character starts; at either end the end itself.
+fn whole(text: &[u8], place: usize) -> usize {
+    let starts = |place: &usize| !text.get(*place).is_some_and(|byte| (0x80..=0xBF).contains(byte));
+    if place == 0 {
+        return 0;
+    }
+    (place..text.len()).find(starts).unwrap_or(place)
+}
+
 /// What is shown before the place and from it on.
-fn cut(before: &[char], after: &[char]) -> (String, String) {
-    let kept = cells(after).min(FOLLOWING);
-    let from = before.len() - fitting(before.iter().rev(), CELLS - kept);
-    let to = fitting(after.iter(), CELLS - cells(&before[from..]));
+fn cut(before: &Side, after: &Side) -> (String, String) {
+    let kept = cells(&after.near).min(FOLLOWING);
+    let from = before.near.len() - fitting(before.near.iter().rev(), CELLS - kept);
+    let to = fitting(after.near.iter(), CELLS - cells(&before.near[from..]));
     let mark = |cut: bool| cut.then_some(LEFT_OUT).into_iter();
-    let before = mark(from != 0).chain(before[from..].iter().copied());
-    let after = after[..to].iter().copied().chain(mark(to != after.len()));
-    (before.collect(), after.collect())
+    let first = mark(before.more || from != 0).chain(before.near[from..].iter().copied());
+    let rest = after.near[..to].iter().copied().chain(mark(after.more || to != after.near.len()));
+    (first.collect(), rest.collect())
 }
 
 fn cells(characters: &[char]) -> usize {
     characters.iter().copied().map(width).sum()
-}
-
-/// The line of a place, up to the place and from it on, without its line end.
-fn around(text: &[u8], place: usize) -> (&[u8], &[u8]) {
-    let (before, after) = text.split_at(place);
-    let start = before.iter().rposition(|&byte| byte == b'\n').map_or(0, |end| end + 1);
-    let after = match after.iter().position(|&byte| byte == b'\n') {
-        Some(end) => after[..end].strip_suffix(b"\r").unwrap_or(&after[..end]),
-        None => after,
-    };
-    (&before[start..], after)
 }
 
 /// The characters to show of some bytes; those that are no UTF-8 too, each as U+FFFD.
@@ -71,7 +100,11 @@ fn blank(shown: &str) -> String {
 
 #[cfg(test)]
 mod tests {
-    use super::excerpt;
+    use structural::position;
+
+    fn excerpt(text: &[u8], place: usize) -> String {
+        super::excerpt(text, place, position(text, place).line)
+    }
 
     #[test]
     fn caret_under_the_place() {
@@ -117,5 +150,15 @@ mod tests {
         let at_the_start = line("", &format!("{}…", &many_b[..70]), 0);
         assert_eq!(excerpt(many_b.as_bytes(), 0), at_the_start);
         assert_eq!(excerpt(&[b'a'; 70], 10), line(&many_a[..10], &many_a[..60], 10));
+    }
+
+    /// Marks take no cell, so that a side of more than 1,000 bytes would fit. U+0301 has two bytes: 1,000 before the
+    /// place at 1,203 is the second byte of one, and 1,000 from it on is the second byte of another.
+    #[test]
+    fn sides_are_cut_between_characters() {
+        let marks = |count: usize| "\u{301}".repeat(count);
+        let text = format!("ab{}c[{}", marks(600), marks(600));
+        let expected = format!("  1 | …{}c[{}…\n    |   ^\n", marks(499), marks(500));
+        assert_eq!(excerpt(text.as_bytes(), 1_203), expected);
     }
 }

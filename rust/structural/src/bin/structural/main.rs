@@ -13,7 +13,7 @@ mod width;
 use arguments::{Request, Task};
 use input::Input;
 use std::process::ExitCode;
-use structural::Document;
+use structural::Draft;
 
 /// Exit status of a wrong call; 0 is that all is well and 1 that something is not.
 const WRONG_CALL: u8 = 2;
@@ -41,14 +41,14 @@ fn answer(request: Request) -> bool {
     match request {
         Request::Help => output::say(arguments::HELP),
         Request::Version => output::say(arguments::VERSION),
-        Request::Check(words, choice) => check::all(&words, choice),
+        Request::Check(words, choice, drafts) => check::all(&words, choice, drafts),
         Request::One(task, word, choice) => one(task, &Input::named(&word, choice)),
     }
 }
 
 fn one(task: Task, input: &Input) -> bool {
     match report::read(input) {
-        Ok(document) => output::say(&written(task, &document)),
+        Ok(draft) => output::say(&written(task, &draft)),
         Err(message) => {
             output::complain(&message);
             false
@@ -56,9 +56,9 @@ fn one(task: Task, input: &Input) -> bool {
     }
 }
 
-fn written(task: Task, document: &Document) -> String {
+fn written(task: Task, draft: &Draft) -> String {
     match task {
-        Task::List => listing::lines(document),
-        Task::Fmt => document.print() + "\n",
+        Task::List => listing::lines(draft),
+        Task::Fmt => draft.print() + "\n",
     }
 }

@@ -1,19 +1,21 @@
 //! What is said of one file.
 
+use crate::arguments::Drafts;
 use crate::excerpt::excerpt;
 use crate::input::Input;
 use std::io;
 use std::path::Path;
 use structural::lent::MAX_NODES;
-use structural::{number, position, Document, Node, Refusal};
+use structural::{number, Draft, Fault, Node, Refusal, Table};
 
 /// U+FEFF, which some editors put at the start of a file.
 const BYTE_ORDER_MARK: &[u8] = b"\xEF\xBB\xBF";
 
-/// The document of an input, or the message that says why there is none.
-pub fn read(input: &Input) -> Result<Document, String> {
+/// The draft of an input, or the message that says why there is none.
+pub fn read(input: &Input) -> Result<Draft, String> {
     let text = input.load().map_err(|error| unread(input.name(), &error))?;
-    structural::read(&text, input.spelling()).map_err(|refusal| refused(input, &text, &refusal))
+    let source = Source { name: input.name(), text: &text };
+    structural::read_draft(&text, input.spelling()).map_err(|refusal| source.refused(&refusal))
 }
 
 /// Of a file or a folder that cannot be read.
@@ -21,58 +23,97 @@ pub fn unread(name: &Path, error: &io::Error) -> String {
     format!("{}: cannot be read: {error}\n", name.display())
 }
 
-/// Of a well-formed document.
-pub fn fine(input: &Input, document: &Document) -> String {
-    let (nodes, bytes) = (document.count(), document.pool().len());
-    format!("{}: ok: {nodes} nodes, {bytes} pool bytes\n", input.name().display())
+/// A number of things, and what they are called, with an s for more than one.
+pub fn counted(count: usize, noun: &str) -> String {
+    format!("{count} {noun}{}", if count == 1 { "" } else { "s" })
 }
 
-/// Of a refusal: where, which number, what it means, the line with its place, and what helps to mend it.
-pub fn refused(input: &Input, text: &[u8], refusal: &Refusal) -> String {
-    let line = format!("{}\n", refusal.in_file(input.name()));
-    line + &excerpt(text, refusal.place()) + &note(input, text, refusal)
+/// A text, and the name of the file that has it.
+pub struct Source<'a> {
+    pub name: &'a Path,
+    pub text: &'a [u8],
 }
 
-fn note(input: &Input, text: &[u8], refusal: &Refusal) -> String {
-    match refusal.number() {
-        number::NODES_SHORT => {
-            format!("  the document has {} nodes; at most {MAX_NODES} are read\n", refusal.answer().nodes)
+impl Source<'_> {
+    /// Of a well-formed document.
+    pub fn fine(&self, draft: &Draft) -> String {
+        format!("{}: ok: {}\n", self.name.display(), sizes(draft))
+    }
+
+    /// Of a draft with so many faults, which is taken.
+    pub fn faulty(&self, draft: &Draft, faults: usize) -> String {
+        format!("{}: draft: {}, {}\n", self.name.display(), sizes(draft), counted(faults, "fault"))
+    }
+
+    /// Of a text that is no draft: where, which number, what it means, the line with its place, and what helps to mend
+    /// it.
+    pub fn refused(&self, refusal: &Refusal) -> String {
+        let line = format!("{}\n", refusal.in_file(self.name));
+        line + &excerpt(self.text, refusal.place(), refusal.line()) + &self.note(refusal)
+    }
+
+    fn note(&self, refusal: &Refusal) -> String {
+        match refusal.number() {
+            number::NODES_SHORT => {
+                format!("  the document has {} nodes; at most {MAX_NODES} are read\n", refusal.answer().nodes)
+            }
+            number::NOT_ONE_EXPRESSION | number::NOT_ALLOWED if self.text.starts_with(BYTE_ORDER_MARK) => {
+                "  the text starts with a byte order mark, which is an expression of its own\n".to_string()
+            }
+            _ => String::new(),
         }
-        number::ROW_LENGTH => rows(refusal).unwrap_or_default(),
-        number::REPEATED_ID => first_block(input, text, refusal).unwrap_or_default(),
-        number::UNKNOWN_TARGET | number::UNKNOWN_FOOTNOTE => target(input, text, refusal).unwrap_or_default(),
-        number::NOT_ONE_EXPRESSION | number::NOT_ALLOWED if text.starts_with(BYTE_ORDER_MARK) => {
-            "  the text starts with a byte order mark, which is an expression of its own\n".to_string()
+    }
+
+    /// Of the faults of a draft: of each the same as of a refusal.
+    pub fn faults(&self, draft: &Draft, faults: &[Fault], drafts: Drafts) -> String {
+        let mark = match drafts {
+            Drafts::Refused => "",
+            Drafts::Taken => "warning: ",
+        };
+        let nodes = faults.iter().filter_map(|fault| Some((fault, draft.node(fault.node)?)));
+        let told = |(fault, node): (&Fault, Node)| {
+            self.pointed(node, &format!("{mark}{fault}")) + &self.help(draft, fault.number, node).unwrap_or_default()
+        };
+        nodes.map(told).collect()
+    }
+
+    /// What helps to mend a fault of a node.
+    fn help(&self, table: &Table, number: u32, node: Node) -> Option<String> {
+        match number {
+            number::ROW_LENGTH => rows(node),
+            number::REPEATED_ID => self.first_block(table, node.id()?),
+            _ => self.target(table, node.target()?),
         }
-        _ => String::new(),
+    }
+
+    fn first_block(&self, table: &Table, id: &str) -> Option<String> {
+        Some(self.pointed(table.block(id)?, &format!("note: the first block with the id {id}")))
+    }
+
+    /// The target; and where a block has that id, so that it is a reference to what is no footnote, the block.
+    fn target(&self, table: &Table, target: &str) -> Option<String> {
+        let line = format!("  target: {target}\n");
+        match table.block(target) {
+            Some(block) => {
+                let words = format!("note: a {} has that id, and is no footnote", block.kind());
+                Some(line + &self.pointed(block, &words))
+            }
+            None => Some(line),
+        }
+    }
+
+    /// A message at the place of a node, and the line of it.
+    fn pointed(&self, node: Node, words: &str) -> String {
+        let at = node.position();
+        format!("{}:{at}: {words}\n", self.name.display()) + &excerpt(self.text, node.place(), at.line)
     }
 }
 
-fn rows(refusal: &Refusal) -> Option<String> {
-    let (cells, names) = refusal.row_length()?;
+fn sizes(table: &Table) -> String {
+    format!("{} nodes, {} pool bytes", table.count(), table.pool().len())
+}
+
+fn rows(row: Node) -> Option<String> {
+    let (cells, names) = row.row_length()?;
     Some(format!("  cells in the row: {cells}; names in the head: {names}\n"))
-}
-
-fn first_block(input: &Input, text: &[u8], refusal: &Refusal) -> Option<String> {
-    let block = refusal.first_block()?;
-    Some(pointed(input, text, block, &format!("the first block with the id {}", block.id()?)))
-}
-
-/// The target; and where a block has that id, so that it is a reference to what is no footnote, the block.
-fn target(input: &Input, text: &[u8], refusal: &Refusal) -> Option<String> {
-    let target = refusal.target()?;
-    let line = format!("  target: {target}\n");
-    match refusal.table()?.block(target) {
-        Some(block) => {
-            let words = format!("a {} has that id, and is no footnote", block.kind());
-            Some(line + &pointed(input, text, block, &words))
-        }
-        None => Some(line),
-    }
-}
-
-/// A note at the place of a node.
-fn pointed(input: &Input, text: &[u8], node: Node, words: &str) -> String {
-    let at = position(text, node.place());
-    format!("{}:{at}: note: {words}\n", input.name().display()) + &excerpt(text, node.place())
 }

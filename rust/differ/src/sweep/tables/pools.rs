@@ -4,7 +4,7 @@ use super::table_of;
 use crate::sweep::manual;
 use crate::sweep::must::Must;
 use crate::sweep::sweeper::Sweeper;
-use oracle::random::PrintCase;
+use oracle::random::TableCase;
 
 pub fn sweep(sweeper: &mut Sweeper) {
     // Strings of two bytes each. By sort, an id has 65 of them, a type 63, a target 94 and a text 128.
@@ -19,15 +19,16 @@ pub fn sweep(sweeper: &mut Sweeper) {
     everywhere(sweeper, "bytes of long characters", &long, Must::meet(9 * 256, well, &[0, 20]));
     let manual = table_of(manual::NESTED);
     let places = manual.pool.len() as u64;
-    everywhere(sweeper, "bytes of a manual's pool", &manual, Must::meet_some(256 * places, 40 * places, &[0, 20]));
+    let must = Must::meet_some(256 * places, 40 * places, &[0, 16, 17, 18, 20]);
+    everywhere(sweeper, "bytes of a manual's pool", &manual, must);
 }
 
-fn everywhere(sweeper: &mut Sweeper, name: &str, table: &PrintCase, must: Must) {
-    sweeper.prints(name, must, |prints| {
+fn everywhere(sweeper: &mut Sweeper, name: &str, table: &TableCase, must: Must) {
+    sweeper.tables(name, must, |tables| {
         for (place, byte) in (0..table.pool.len()).flat_map(|place| (0..=255).map(move |byte| (place, byte))) {
             let mut changed = table.clone();
             changed.pool[place] = byte;
-            prints.table(&changed);
+            tables.table(&changed);
         }
     });
 }

@@ -4,7 +4,7 @@ use super::least::{document, least};
 use crate::sweep::must::Must;
 use crate::sweep::sweeper::Sweeper;
 use oracle::names::NESTED_LEVELS;
-use oracle::random::{Element, PrintCase};
+use oracle::random::{Element, TableCase};
 use oracle::Kind;
 
 /// Document, section and paragraph.
@@ -17,13 +17,13 @@ const EVEN: u64 = 11;
 
 pub fn sweep(sweeper: &mut Sweeper) {
     let must = Must::meet(4 * (ODD + EVEN), 3 * ODD + 2 * EVEN, &[0, 20]);
-    sweeper.prints("nesting", must, |prints| {
+    sweeper.tables("nesting", must, |tables| {
         for (element, own) in innermost() {
             for pairs in 0..40 {
                 let sum = BLOCKS + 2 * pairs + own;
                 if (NESTED_LEVELS - 4..=NESTED_LEVELS + 3).contains(&sum) {
-                    let table = PrintCase::of(document(in_lists(element.clone(), pairs)).table());
-                    prints.expect(if sum > NESTED_LEVELS { 20 } else { 0 }, &table);
+                    let table = TableCase::of(document(in_lists(element.clone(), pairs)).table());
+                    tables.expect(if sum > NESTED_LEVELS { 20 } else { 0 }, &table);
                 }
             }
         }

@@ -1,10 +1,10 @@
 //! Every kind in every kind, as a table: up to three children of any kinds.
 
 use super::least::{document, kinds, least};
+use crate::sweep::judging::Tables;
 use crate::sweep::must::Must;
-use crate::sweep::printing::Prints;
 use crate::sweep::sweeper::Sweeper;
-use oracle::random::{Element, PrintCase};
+use oracle::random::{Element, TableCase};
 use oracle::Kind;
 
 /// 1 + 25 + 625 + 15,625.
@@ -46,23 +46,23 @@ const WELL: [(Kind, u64); 25] = [
 pub fn sweep(sweeper: &mut Sweeper) {
     for (kind, well) in WELL {
         let must = Must::meet(RUNS, well, &[0, 20]);
-        sweeper.prints(&format!("children of {} as a table", kind.name()), must, |prints| runs(prints, kind));
+        sweeper.tables(&format!("children of {} as a table", kind.name()), must, |tables| runs(tables, kind));
     }
 }
 
-fn runs(prints: &mut Prints, kind: Kind) {
-    print(prints, kind, &[]);
+fn runs(tables: &mut Tables, kind: Kind) {
+    judge(tables, kind, &[]);
     for first in kinds() {
-        print(prints, kind, &[first]);
+        judge(tables, kind, &[first]);
         for second in kinds() {
-            print(prints, kind, &[first, second]);
-            kinds().for_each(|third| print(prints, kind, &[first, second, third]));
+            judge(tables, kind, &[first, second]);
+            kinds().for_each(|third| judge(tables, kind, &[first, second, third]));
         }
     }
 }
 
-fn print(prints: &mut Prints, kind: Kind, children: &[Kind]) {
+fn judge(tables: &mut Tables, kind: Kind, children: &[Kind]) {
     let children = children.iter().zip(1..).map(|(&child, place)| least(child, place)).collect();
     let element = Element { children, ..least(kind, 0) };
-    prints.table(&PrintCase::of(document(element).table()));
+    tables.table(&TableCase::of(document(element).table()));
 }

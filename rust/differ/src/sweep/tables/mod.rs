@@ -2,6 +2,7 @@
 
 mod counts;
 mod depths;
+mod faults;
 mod least;
 mod outputs;
 mod pools;
@@ -11,7 +12,7 @@ mod words;
 
 use super::sweeper::Sweeper;
 use oracle::names::{MOST_BYTES, MOST_NODES, RECORD_LENGTH};
-use oracle::random::PrintCase;
+use oracle::random::TableCase;
 
 pub fn sweep(sweeper: &mut Sweeper) {
     words::sweep(sweeper);
@@ -20,18 +21,19 @@ pub fn sweep(sweeper: &mut Sweeper) {
     trees::sweep(sweeper);
     depths::sweep(sweeper);
     counts::sweep(sweeper);
+    faults::sweep(sweeper);
     outputs::sweep(sweeper);
 }
 
-/// The table of a nested text, and no output. Where the rules refuse the text the table is empty, so that the groups of
+/// The table of a nested text. Where the rules refuse the text the table is empty, so that the groups of
 /// that table differ from what they state, or miss what they must meet, and the sweep goes on.
-fn table_of(text: &str) -> PrintCase {
+fn table_of(text: &str) -> TableCase {
     let (mut nodes, mut places, mut pool) =
         (vec![0; MOST_NODES * RECORD_LENGTH], vec![0; MOST_NODES], vec![0; MOST_BYTES]);
     let answer = oracle::read(text.as_bytes(), false, &mut nodes, &mut places, &mut pool);
     nodes.truncate(answer.nodes as usize * RECORD_LENGTH);
     pool.truncate(answer.pool as usize);
-    PrintCase { nodes, node_count: answer.nodes, pool, pool_count: answer.pool, out: 0 }
+    TableCase { nodes, node_count: answer.nodes, pool, pool_count: answer.pool }
 }
 
 #[cfg(test)]
@@ -45,7 +47,7 @@ mod tests {
         let table = table_of("[document [title A] [link [target x]]]");
         assert_eq!((table.nodes.len(), table.node_count, table.pool.len(), table.pool_count), (0, 0, 0, 0));
         let mut sweeper = Sweeper::new(0, 1);
-        sweeper.prints("refused", Must::meet(1, 1, &[0]), |prints| prints.expect(0, &table));
+        sweeper.tables("refused", Must::meet(1, 1, &[0]), |tables| tables.expect(0, &table));
         let mut missed = String::new();
         sweeper.groups[0].missed(&mut missed);
         assert_eq!((sweeper.groups[0].differ(), missed.is_empty()), (1, false));

@@ -1,11 +1,11 @@
 //! Every kind with every choice of strings and sizes, and every character in a text and in a target.
 
 use super::least::{document, kinds, least};
+use crate::sweep::judging::Tables;
 use crate::sweep::must::Must;
-use crate::sweep::printing::Prints;
 use crate::sweep::sweeper::Sweeper;
 use oracle::names::{KIND, MISSING, RECORD_LENGTH, WIDTH};
-use oracle::random::{Element, PrintCase};
+use oracle::random::{Element, TableCase};
 use oracle::Kind;
 
 pub fn sweep(sweeper: &mut Sweeper) {
@@ -24,30 +24,34 @@ const SIZES: [[u32; 2]; 5] = [[MISSING, MISSING], [0, 0], [65_535, 65_535], [0, 
 
 /// How many choices fit a kind, by number. Document to subsection have an id or none and a type or none. Paragraph,
 /// formal item and footnote stand beside a footnote with that id, so that the first two have none, and the third cannot
-/// be. Term, verbatim and table have a type or none; an image one of two targets, a type or none, and one of three sizes.
+/// be without a fault. Term, verbatim and table have a type or none; an image one of two targets, a type or none, and one of three sizes.
 const FITTING: [u64; 25] = [4, 4, 4, 4, 2, 2, 0, 1, 1, 2, 12, 2, 1, 2, 1, 1, 1, 1, 2, 1, 1, 1, 1, 1, 1];
 
+/// These three with the id of that footnote, and a type or none.
+const REPEATED: u64 = 3 * 2;
+
 fn choices(sweeper: &mut Sweeper) {
-    let must = Must::meet(25 * 4 * 3 * 2 * 5, FITTING.iter().sum(), &[0, 20]);
-    sweeper.prints("strings and sizes of every kind", must, |prints| {
+    let sound: u64 = FITTING.iter().sum();
+    let must = Must::meet(25 * 4 * 3 * 2 * 5, sound + REPEATED, &[0, 16, 20]).sound(sound);
+    sweeper.tables("strings and sizes of every kind", must, |tables| {
         for (kind, name) in kinds().flat_map(|kind| NAMES.map(|name| (kind, name))) {
             for (class, text) in TYPES.into_iter().flat_map(|class| TEXTS.map(|text| (class, text))) {
-                SIZES.into_iter().for_each(|size| choice(prints, kind, [name, class, text], size));
+                SIZES.into_iter().for_each(|size| choice(tables, kind, [name, class, text], size));
             }
         }
     });
 }
 
-fn choice(prints: &mut Prints, kind: Kind, [name, class, text]: [&str; 3], size: [u32; 2]) {
+fn choice(tables: &mut Tables, kind: Kind, [name, class, text]: [&str; 3], size: [u32; 2]) {
     let values = Element { name: name.into(), class: class.into(), text: text.into(), ..least(kind, 0) };
-    let mut case = PrintCase::of(document(values).table());
+    let mut case = TableCase::of(document(values).table());
     let node = node_of(&case, kind);
     case.nodes[node * RECORD_LENGTH + WIDTH..][..2].copy_from_slice(&size);
-    prints.table(&case);
+    tables.table(&case);
 }
 
 /// The last node of that kind: the swept one stands behind those that are put around it.
-fn node_of(case: &PrintCase, kind: Kind) -> usize {
+fn node_of(case: &TableCase, kind: Kind) -> usize {
     case.nodes.chunks(RECORD_LENGTH).rposition(|record| record[KIND] == kind.number()).expect("it is in the document")
 }
 
@@ -60,10 +64,10 @@ fn characters() -> impl Iterator<Item = char> {
 /// Alone and between others in a text.
 fn texts(sweeper: &mut Sweeper) {
     let must = Must::meet(2 * (4_096 + 10), 2 * (4_096 + 10), &[0]);
-    sweeper.prints("characters of a text", must, |prints| {
+    sweeper.tables("characters of a text", must, |tables| {
         for character in characters() {
             for text in [format!("{character}"), format!("a{character}f")] {
-                prints.expect(0, &PrintCase::of(document(Element::of_text(text)).table()));
+                tables.expect(0, &TableCase::of(document(Element::of_text(text)).table()));
             }
         }
     });
@@ -72,12 +76,12 @@ fn texts(sweeper: &mut Sweeper) {
 /// Alone and between others in the target of an image: 0x21 to 0x7E go well.
 fn targets(sweeper: &mut Sweeper) {
     let must = Must::meet(2 * (4_096 + 10), 2 * 94, &[0, 20]);
-    sweeper.prints("characters of a target", must, |prints| {
+    sweeper.tables("characters of a target", must, |tables| {
         for character in characters() {
             let number = if ('!'..='~').contains(&character) { 0 } else { 20 };
             for name in [format!("{character}"), format!("a{character}f")] {
                 let image = Element { name, ..Element::new(Kind::Image) };
-                prints.expect(number, &PrintCase::of(document(image).table()));
+                tables.expect(number, &TableCase::of(document(image).table()));
             }
         }
     });

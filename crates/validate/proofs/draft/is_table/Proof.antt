@@ -1,4 +1,4 @@
--- `draft::is_draft` meets its contract.
+-- `draft::is_table` meets its contract.
 use native.Mathlib.Omega.{arith}
 use mathlib.Core.Path.{_≡_, sym, _∙_}
 use mathlib.Core.Bool.{true≢false}
@@ -12,8 +12,8 @@ use Rattle.table.specs.Stored.{wordAt}
 use Rattle.validate.proofs.lemmas.records.RecordTests.{word-there}
 use Rattle.validate.proofs.lemmas.draft.DraftRoot.{draft-told, no-draft}
 use borrow.Author.Needs.{needs}
-use Rattle.validate.proofs.draft.is_draft.Statement.{statement}
-use Rattle.validate.proofs.draft.is_draft.Tie as tie
+use Rattle.validate.proofs.draft.is_table.Statement.{statement}
+use Rattle.validate.proofs.draft.is_table.Tie as tie
 
 returns : tie.Need-returns
 returns c = no-draft (λ e q r. omega (arith, c .if1 .taken, r .few-words))
@@ -63,8 +63,8 @@ returns-7 c =
     })
     (λ t e q r. eqb-false next count t (element .ensures .complete e q (r .root) .1 ∙ omega (arith, r .all-words)))
 
-pub is-draft-spec : {M : Type 1} → statement M
-is-draft-spec =
+pub is-table-spec : {M : Type 1} → statement M
+is-table-spec =
     tie.close
     (tie.spec
     returns
