@@ -38,8 +38,8 @@ impl Draft {
     /// Every fault, in the order of the nodes; no node has two.
     ///
     /// The proved check decides whether there is one, and which is the first by number and node. The others are found
-    /// by one plain pass over the table with the ids in a hash map, which is not proved; that the least of its list is
-    /// the fault that the check answered is asserted at each call.
+    /// by two plain passes over the table with the ids in a hash map. They are not proved; that the least of their list
+    /// is the fault that the check answered is asserted at each call.
     ///
     /// ```
     /// use structural::{read_draft, Spelling};

@@ -1,4 +1,4 @@
-//! The list of a draft's faults, which one pass makes and no proof covers, against the rules as they are said of a
+//! The list of a draft's faults, which two passes make and no proof covers, against the rules as they are said of a
 //! single node (`crates/document/specs/rules/WellFormed.antt`), by search, on random drafts.
 
 use structural::{number, read_draft, Draft, Fault, Kind, Node, Spelling};
