@@ -8,5 +8,6 @@ use Rattle.listing.specs.examples.Listings.{Example, listed}
 use Rattle.examples.specs.Listings.{letters, crowd, listings}
 
 pub listings-judged : map listed listings ≡ map (λ (e : Example). e .lines) listings
-unfolding computes lentMemory numeralWithin numeral refusedLine headerLine parentWord nodeLine lineOfNode nodeLines documentLines listingOf faultLine afterRead afterCheck printedBy tooLong letters crowd listings listed
+unfolding computes lentMemory numeralWithin numeral refusedLine headerLine parentWord nodeLine lineOfNode nodeLines documentLines
+    listingOf faultLine afterRead afterCheck printedBy tooLong letters crowd listings listed
 listings-judged = refl

@@ -9,7 +9,8 @@ use Rattle.listing.specs.Listing.{nodeLines, documentLines, listingOf, f
 use Rattle.listing.specs.examples.Listings.{Example, listed, examples}
 
 pub judged : map listed examples ≡ map (λ (e : Example). e .lines) examples
-unfolding computes lentMemory numeralWithin numeral refusedLine headerLine parentWord nodeLine lineOfNode nodeLines documentLines listingOf faultLine afterRead afterCheck printedBy tooLong examples listed
+unfolding computes lentMemory numeralWithin numeral refusedLine headerLine parentWord nodeLine lineOfNode nodeLines documentLines
+    listingOf faultLine afterRead afterCheck printedBy tooLong examples listed
 judged = refl
 
 -- "They lend 1,024 nodes and a pool of 32,768 bytes."

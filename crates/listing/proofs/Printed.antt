@@ -21,7 +21,8 @@ use Rattle.document.specs.rules.Pair.{placeOf, pairAnswer}
 use Rattle.document.specs.reference.Pair.{checkLeft}
 use Rattle.document.specs.reference.Printing.{checking}
 use Rattle.document.specs.rules.Memory.{Memory, Outcome, answerAt, refusal, noRoom, filled, nodeRoom, over}
-use Rattle.listing.specs.Listing.{longestText, lentNodes, lentPool, lentMemory, tooLong, refusedLine, documentLines, partFitting, faultLine, listingOf, afterRead, afterCheck, printedBy, printed, Lists}
+use Rattle.listing.specs.Listing.{longestText, lentNodes, lentPool, lentMemory, tooLong, refusedLine, documentLines}
+use Rattle.listing.specs.Listing.{partFitting, faultLine, listingOf, afterRead, afterCheck, printedBy, printed, Lists}
 use Rattle.listing.proofs.Lengths.{refused-length}
 
 -- A document that is listed has no more nodes than the place list.

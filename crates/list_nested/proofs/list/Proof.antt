@@ -34,8 +34,9 @@ returns-3 c =
     let e = r .read-nested .ensures .answers in
     let k = c .before .before .before .before .before .check in
     lists-fault nested (args .text .now) (args .out .now) (omega (arith, c .before .put-fault-arg .given .0 .1)) _ (r .before .before .before .before .if1 .left) (a .number) (a .nodes)
-    (a .pool) _ (c .before .before .before .before .before .before .before .before .if2 .left) (e .number) (e .nodes) (e .pool) (r .read-nested .ensures .leaves) (k .result .number) (k .result .node) (k .ensures .number)
-    (k .ensures .node) (c .before .before .before .if3 .taken) (c .before .before .before .before .struct-known2 .given .0 .fits) refl (c .put-fault .ensures)
+    (a .pool) _ (c .before .before .before .before .before .before .before .before .if2 .left) (e .number) (e .nodes) (e .pool) (r .read-nested .ensures .leaves)
+    (k .result .number) (k .result .node) (k .ensures .number) (k .ensures .node)
+    (c .before .before .before .if3 .taken) (c .before .before .before .before .struct-known2 .given .0 .fits) refl (c .put-fault .ensures)
 
 returns-4 : tie.Need-returns-4
 unfolding lentMemory
@@ -47,8 +48,8 @@ returns-4 c =
     let k = c .before .before .before .before .before .check in
     let p = c .put-document .ensures in
     lists-document nested (args .text .now) (args .out .now) (omega (arith, c .before .put-document-arg .given .0 .1)) _ (r .before .before .before .before .if1 .left) (a .number) (a .nodes)
-    (a .pool) _ (c .before .before .before .before .before .before .before .before .if2 .left) (e .number) (e .nodes) (e .pool) (r .read-nested .ensures .leaves) (k .result .number) (k .result .node) (k .ensures .number)
-    (k .ensures .node) (c .before .before .before .if3 .left) refl (p .0, p .1 .0) (p .1 .1)
+    (a .pool) _ (c .before .before .before .before .before .before .before .before .if2 .left) (e .number) (e .nodes) (e .pool) (r .read-nested .ensures .leaves)
+    (k .result .number) (k .result .node) (k .ensures .number) (k .ensures .node) (c .before .before .before .if3 .left) refl (p .0, p .1 .0) (p .1 .1)
 
 pub list-spec : {M : Type 1} → statement M
 list-spec =

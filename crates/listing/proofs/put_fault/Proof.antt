@@ -11,19 +11,22 @@ returns c = rw (fault-too-long _ _ _ _ (c .before .before .before .before .if1 .
 
 cast-put-refusal : tie.Need-cast-put-refusal
 cast-put-refusal c =
-    let short = c .before .before .before .if1 .left in
-    omega (arith, c .before .position .ensures .0, position-within (c .before .before .before .before .before .before .before .args .text .now) (c .before .before .word .result) .line-within)
+    let if1 = c .before .before .before .if1 in
+    let args = c .before .before .before .before .before .before .before .args in
+    omega (arith, if1 .left, c .before .position .ensures .0, position-within (args .text .now) (c .before .before .word .result) .line-within)
 
 cast-put-refusal-2 : tie.Need-cast-put-refusal-2
 cast-put-refusal-2 c =
-    let short = c .before .before .before .before .if1 .left in
-    omega (arith, c .before .before .position .ensures .1, position-within (c .before .before .before .before .before .before .before .before .args .text .now) (c .before .before .before .word .result) .column-within)
+    let if1 = c .before .before .before .before .if1 in
+    let args = c .before .before .before .before .before .before .before .before .args in
+    omega (arith, if1 .left, c .before .before .position .ensures .1, position-within (args .text .now) (c .before .before .before .word .result) .column-within)
 
 returns-2 : tie.Need-returns-2
 returns-2 c =
     let position = c .before .before .before .before .before .before .position in
-    rw (fault-refused _ _ _ _ (c .before .before .before .before .before .before .before .before .if1 .left), ← c .before .before .before .before .before .before .before .word .ensures, ← position .ensures .0, ← position .ensures .1)
-    (c .before .before .put-refusal .ensures)
+    let word = c .before .before .before .before .before .before .before .word in
+    let if1 = c .before .before .before .before .before .before .before .before .if1 in
+    rw (fault-refused _ _ _ _ (if1 .left), ← word .ensures, ← position .ensures .0, ← position .ensures .1) (c .before .before .put-refusal .ensures)
 
 pub put-fault-spec : {M : Type 1} → statement M
 put-fault-spec =

@@ -23,12 +23,14 @@ slice-aggregate-strings c =
 
 returns-2 : tie.Need-returns-2
 returns-2 c =
-    short _ _ _ _ _ _ (c .before .before .before .before .before .before .before .is-draft .ensures) (not-false _ (c .before .before .before .before .before .before .if1 .left)) _ _ _ (c .before .before .spelled .ensures) (c .if2 .taken)
+    short _ _ _ _ _ _ (c .before .before .before .before .before .before .before .is-draft .ensures) (not-false _ (c .before .before .before .before .before .before .if1 .left)) _ _ _
+    (c .before .before .spelled .ensures) (c .if2 .taken)
 
 returns-3 : tie.Need-returns-3
 returns-3 c =
-    whole _ _ _ _ _ _ (c .before .before .before .before .before .before .before .before .before .before .before .is-draft .ensures) (not-false _ (c .before .before .before .before .before .before .before .before .before .before .if1 .left)) _ _ _ (c .before .before .before .before .before .before .spelled .ensures) (c .before .before .before .before .if2 .left) _ _
-    (c .before .before .spelled2 .ensures)
+    let c₁ = c .before .before .before .before .before .before in
+    whole _ _ _ _ _ _ (c₁ .before .before .before .before .before .is-draft .ensures) (not-false _ (c₁ .before .before .before .before .if1 .left)) _ _ _ (c₁ .spelled .ensures)
+    (c .before .before .before .before .if2 .left) _ _ (c .before .before .spelled2 .ensures)
 
 pub print-spec : {M : Type 1} → statement M
 print-spec =
