@@ -1,5 +1,7 @@
 // Symbols and strings: the pieces of a string, where a string ends, whether what it stands for are characters
 // of a sort, and what it stands for written out (document 01, "Characters and brackets" and number 4).
+#![tactic(auto)]
+
 mod escape; // escape.rt: escapes by number
 mod fit; // fit.rt: whether what a symbol or string stands for are characters of a sort
 mod pieces; // pieces.rt: the pieces of a quoted string

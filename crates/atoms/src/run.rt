@@ -1,8 +1,8 @@
 // Runs of bytes: those of a string that stand for themselves, and bytes that are written as they stand.
-ghost use Rattle.std.specs.Prelude.{◌≡◌, ◌+◌, ◌≤◌, ◌<◌, leb, drop, length};
+ghost use Rattle.std.specs.Prelude.{◌≡◌, ◌+◌, ◌≤◌, leb, drop, length};
 ghost use Rattle.std.proofs.lemmas.List.Edits.{sets};
 ghost use Rattle.syntax.specs.rules.Byte.{is_raw};
-ghost use Rattle.atoms.specs.internal.Run.{plain_run, Halved};
+ghost use Rattle.atoms.specs.internal.Run.{plain_run};
 
 use base::store_all;
 
@@ -13,19 +13,19 @@ fn plain(b: u8) -> bool
     (b != 0x22) & (b != 0x5C)
 }
 
-// Whether the four bytes from a place on are plain.
-fn plain_4(text: &[u8], i: usize) -> bool
-    requires { i + 4 ≤ length text.now }
-    ensures { result ≡ leb 4 (length (plain_run (drop i text.now))) }
-{
-    plain(text[i]) & plain(text[i + 1]) & plain(text[i + 2]) & plain(text[i + 3])
-}
-
+// Whether the eight bytes from a place on are plain.
 fn plain_8(text: &[u8], i: usize) -> bool
     requires { i + 8 ≤ length text.now }
     ensures { result ≡ leb 8 (length (plain_run (drop i text.now))) }
 {
-    plain_4(text, i) & plain_4(text, i + 4)
+    plain(text[i])
+        & plain(text[i + 1])
+        & plain(text[i + 2])
+        & plain(text[i + 3])
+        & plain(text[i + 4])
+        & plain(text[i + 5])
+        & plain(text[i + 6])
+        & plain(text[i + 7])
 }
 
 fn plain_16(text: &[u8], i: usize) -> bool
@@ -35,68 +35,9 @@ fn plain_16(text: &[u8], i: usize) -> bool
     plain_8(text, i) & plain_8(text, i + 8)
 }
 
-// A run that ends among sixteen bytes ends in one half of them, which is told by one test.
-fn past_8(text: &[u8], i: usize) -> usize
-    requires { i + 8 ≤ length text.now }
-    ensures { Halved text.now i 8 result }
-{
-    if plain_8(text, i) {
-        return i + 8;
-    }
-    i
-}
-
-fn past_4(text: &[u8], i: usize) -> usize
-    requires { i + 4 ≤ length text.now }
-    ensures { Halved text.now i 4 result }
-{
-    if plain_4(text, i) {
-        return i + 4;
-    }
-    i
-}
-
-// The end of a run that ends among four bytes.
-fn end_in_4(text: &[u8], i: usize) -> usize
-    requires { (i + 4 ≤ length text.now) × (length (plain_run (drop i text.now)) < 4) }
-    ensures { result ≡ i + length (plain_run (drop i text.now)) }
-{
-    if !plain(text[i]) {
-        return i;
-    }
-    if !plain(text[i + 1]) {
-        return i + 1;
-    }
-    if !plain(text[i + 2]) {
-        return i + 2;
-    }
-    i + 3
-}
-
-fn end_in_16(text: &[u8], i: usize) -> usize
-    requires { (i + 16 ≤ length text.now) × (length (plain_run (drop i text.now)) < 16) }
-    ensures { result ≡ i + length (plain_run (drop i text.now)) }
-{
-    end_in_4(text, past_4(text, past_8(text, i)))
-}
-
-// The end of a run where too few bytes are left for a block.
-fn last_end(text: &[u8], from: usize) -> usize
-    ensures { result ≡ from + length (plain_run (drop from text.now)) }
-{
-    let mut i = from;
-    while i < text.len() {
-        if !plain(text[i]) {
-            return i;
-        }
-        i += 1;
-    }
-    i
-}
-
-// The place after the run of plain bytes from a place on.
-pub fn plain_end(text: &[u8], from: usize) -> usize
-    ensures { result ≡ from + length (plain_run (drop from text.now)) }
+// The place after blocks of 16 plain bytes, from which on the run ends where it ends.
+fn blocks_end(text: &[u8], from: usize) -> usize
+    ensures { result + length (plain_run (drop result text.now)) ≡ from + length (plain_run (drop from text.now)) }
 {
     let mut i = from;
     if text.len() < i {
@@ -104,11 +45,41 @@ pub fn plain_end(text: &[u8], from: usize) -> usize
     }
     while 16 <= text.len() - i {
         if !plain_16(text, i) {
-            return end_in_16(text, i);
+            return i;
         }
         i += 16;
     }
-    last_end(text, i)
+    i
+}
+
+// The same after a block of 8 plain bytes, if one stands there.
+fn block_end(text: &[u8], from: usize) -> usize
+    ensures { result + length (plain_run (drop result text.now)) ≡ from + length (plain_run (drop from text.now)) }
+{
+    if text.len() < from {
+        return from;
+    }
+    if text.len() - from < 8 {
+        return from;
+    }
+    if plain_8(text, from) {
+        return from + 8;
+    }
+    from
+}
+
+// The place after the run of plain bytes from a place on.
+pub fn plain_end(text: &[u8], from: usize) -> usize
+    ensures { result ≡ from + length (plain_run (drop from text.now)) }
+{
+    let mut i = block_end(text, blocks_end(text, from));
+    while i < text.len() {
+        if !plain(text[i]) {
+            return i;
+        }
+        i += 1;
+    }
+    i
 }
 
 // Writes bytes, k bytes from an index on, as far as the output reaches.

@@ -1,4 +1,6 @@
 // What every crate stands on: the limits and numbers by name, byte strings compared, and bytes written into lent memory as far as it reaches.
+#![tactic(auto)]
+
 mod compare; // compare.rt: the comparison of two byte strings
 mod copy; // copy.rt: a part of one slice copied into another
 pub mod limit; // limit.rt: the limits of the language

@@ -1,4 +1,6 @@
 // The classes of bytes, where a symbol ends, and the characters of values (document 01, "Characters and brackets" and "Elements").
+#![tactic(auto)]
+
 pub mod class; // class.rt: the classes of bytes
 mod place; // place.rt: the bytes of a text by their places
 mod symbol; // symbol.rt: where a symbol ends

@@ -1,4 +1,6 @@
 // The names of the language and their numbers (document 01, "Elements").
+#![tactic(auto)]
+
 mod words; // words.rt: the comparisons with the names
 
 ghost use Rattle.std.specs.Prelude.{◌≡◌};

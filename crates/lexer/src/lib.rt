@@ -1,4 +1,6 @@
 // The scan, and what stands at a place of a text (document 01, "Characters and brackets" and numbers 3 to 6).
+#![tactic(auto)]
+
 mod name; // name.rt: names told by their first bytes
 mod scanner; // scanner.rt: the scan, faults 3 to 6
 mod token; // token.rt: white space, and what is seen at a place

@@ -56,7 +56,7 @@ pub fn past_blanks(text: &[u8], place: usize) -> usize
 
 // The same, byte by byte: a carriage return is white space where a line feed follows. Bytes above the space, as most are,
 // are told by one test.
-fn skip_blanks(text: &[u8], place: usize) -> usize
+pub fn skip_blanks(text: &[u8], place: usize) -> usize
     ensures { result ≡ place + blanks (drop place text.now) }
 {
     let mut at = place;

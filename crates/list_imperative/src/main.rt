@@ -1,4 +1,6 @@
 // Lists the document that standard input holds in the imperative spelling (document 01, "Judged examples").
+#![tactic(auto)]
+
 ghost use Rattle.io.specs.Counts.{IsPrefixLen};
 ghost use Rattle.document.specs.rules.Spelling.{imperative};
 ghost use Rattle.listing.specs.Listing.{Lists, printed};

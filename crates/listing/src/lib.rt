@@ -1,4 +1,6 @@
 // The lines that the listing programs print (document 01, "Judged examples").
+#![tactic(auto)]
+
 ghost use Rattle.std.specs.Prelude.{◌≡◌, [], ◌∷◌, ◌++◌, ◌+◌, ◌*◌, ◌≤◌, get_or, length};
 ghost use Rattle.document.specs.rules.Memory.{over};
 ghost use Rattle.listing.specs.Listing.{numeral, parent_word, node_line, node_lines, header_line, refused_line, fault_line, document_lines, too_long, part_fitting};

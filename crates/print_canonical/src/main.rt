@@ -1,4 +1,6 @@
 // Prints the canonical spelling of the document that standard input holds in the nested spelling (document 01, "Canonical spelling").
+#![tactic(auto)]
+
 ghost use Rattle.io.specs.Counts.{IsPrefixLen};
 ghost use Rattle.listing.specs.Listing.{Lists};
 ghost use Rattle.print_canonical.specs.Tidying.{tidied};

@@ -1,30 +1,28 @@
 -- The ways through printing.
-use Prim.Native.Nat.{ℕ, ◌+◌, ◌*◌, ◌≤◌, ◌<◌}
-use mathlib.Core.Path.{◌≡◌, refl, sym, ap, ◌∙◌}
+use Prim.Native.Nat.{ℕ, ◌*◌, ◌≤◌, ◌<◌}
+use mathlib.Core.Path.{◌≡◌, refl, ◌∙◌}
 use mathlib.Core.Bool.{Bool, true, not}
 use mathlib.Core.List.{List}
 use native.Mathlib.Omega.{arith}
 use borrow.Author.Tests.{lt-ltb, le-ltb}
 use lib.Dec.{ltb, leb→le}
-use lib.ListN.{length, take, length-take}
+use lib.ListN.{length, take}
 use lib.Seq.{sets}
 use Rattle.base.specs.rules.Limits.{missing}
 use Rattle.base.specs.Adds.{greatest_word}
 use Rattle.base.proofs.Stores.{sets_front}
 use Rattle.document.specs.rules.Document.{Node}
 use Rattle.document.specs.rules.Record.{record_length}
-use Rattle.document.specs.rules.Table.{count, pool}
 use Rattle.document.specs.rules.Canonical.{canonical}
 use Rattle.document.specs.rules.Memory.{over}
 use Rattle.document.specs.reference.Printing.{Draft, no_draft, the_draft, is_there, draft_of, written, printed_of, printing}
 use Rattle.document.specs.rules.Draft.{Holds}
 use Rattle.document.proofs.PrintingDecided.{no_both, is_there_lem}
 use Rattle.document.proofs.PrintAccount.{held_printed}
-use Rattle.document.proofs.Records.{table_length}
 use Rattle.table.specs.Stored.{Stored}
 use Rattle.table.proofs.Stored.{table_stored}
 use Rattle.printer.specs.Prints.{Prints}
-use Rattle.printer.proofs.SpellingLength.{node_short, spelled_short}
+use Rattle.printer.proofs.SpellingLength.{spelled_short}
 
 module _ (words : List ℕ) (n : ℕ) (bytes : List ℕ) (m : ℕ) (out : List ℕ) (there : Bool) (is : there ≡ is_there (draft_of words n bytes m)) where
   -- 20: there is no draft.
@@ -53,12 +51,12 @@ module _ (words : List ℕ) (n : ℕ) (bytes : List ℕ) (m : ℕ) (out : List �
     abbrev pub SpellsTable : List ℕ → ℕ → List ℕ → Type 0
     SpellsTable start r exit =
         (r ≤ greatest_word) × ((d : Node) (parent p : ℕ) → Stored (take (record_length * n) words) (take m bytes) 0 parent p d
-        → length (take (record_length * n) words) ≡ record_length * count d → length (canonical d) ≤ greatest_word → (r ≡ length (canonical d)) × (exit ≡ sets start 0 (canonical d)))
+        → length (canonical d) ≤ greatest_word → (r ≡ length (canonical d)) × (exit ≡ sets start 0 (canonical d)))
 
     of_document : (start exit : List ℕ) (r : ℕ) → SpellsTable start r exit → (r ≡ length (canonical d)) × (exit ≡ sets start 0 (canonical d))
     of_document start exit r s =
         let x = found.1.draft in
-        s.1 d missing 0 (table_stored d _ _ x.node_words x.pool_bytes) (sym (ap length x.node_words) ∙ table_length d)
+        s.1 d missing 0 (table_stored d _ _ x.node_words x.pool_bytes)
         (spelled_short d (leb→le _ _ x.few_nodes) (leb→le _ _ x.short_pool))
 
     module _ (start exit : List ℕ) (r : ℕ) (measured : SpellsTable start r exit) where
@@ -80,12 +78,3 @@ module _ (words : List ℕ) (n : ℕ) (bytes : List ℕ) (m : ℕ) (out : List �
           let e = held_printed words n bytes m out d found.1 in
           let l : ltb (length out) (length (canonical d)) ≡ _ = le-ltb (length out) (length (canonical d)) (omega (arith, a)) in
           rw (e, l) (record { number = refl; size = a; out = b' ∙ sets_front out (canonical d) (omega (arith, a)) })
-
-    -- 0: the output is long enough for the spelling of any table of so many nodes and bytes.
-    pub sure : 6 * m + 80 * n ≤ length out → (later : List ℕ) (k : ℕ) → SpellsTable out k later → Prints (printing words n bytes m out) (record { number = 0; length = k }) later
-    sure h later k s =
-        let x = found.1.draft in
-        let nodes : record_length * count d ≤ record_length * n = omega (arith, table_length d, simp length-take at (ap length x.node_words)) in
-        let pooled : length (pool d) ≤ m = omega (arith, simp length-take at (ap length x.pool_bytes)) in
-        let size = (of_document out later k s).0 in
-        whole out later k s (omega (arith, node_short d)) later k s

@@ -1,4 +1,4 @@
--- The spelling of a document within the limits is short: six bytes for each byte of the pool, and eighty for each node.
+-- The spelling of a document within the limits is short: six bytes for each byte of the pool, and a hundred for each node.
 use Prim.Native.Nat.{ℕ, ◌+◌, ◌*◌, ◌≤◌}
 use mathlib.Core.Path.{◌≡◌, ap}
 use mathlib.Core.Bool.{Bool, true, false, ◌||◌}
@@ -61,7 +61,7 @@ names_short (n ∷ ns) c t =
     let (now, later) = both (name_test n) (every name_test ns) t in
     cond_case (Short 14) (eqb c n.class) (λ e. leb→le _ _ now) (λ e. names_short ns c later)
 
-pub name_short : (c : ℕ) → length (name_of c) ≤ 14
+name_short : (c : ℕ) → length (name_of c) ≤ 14
 unfolding name_of names as_name codes
 name_short c = names_short names c tt
 
@@ -119,11 +119,11 @@ one_short k key type text w h ns =
 mutual
   unfolding count pool
 
-  pub node_short : (n : Node) → length (canonical n) + 1 ≤ 6 * length (pool n) + 80 * count n
+  pub node_short : (n : Node) → length (canonical n) + 1 ≤ 6 * length (pool n) + 100 * count n
   node_short (node k key type text w h ns) =
       simp length-append (omega (arith, one_short k key type text w h ns, nodes_short ns))
 
-  nodes_short : (ns : Nodes) → length (inside_all ns) ≤ 6 * length (pool_all ns) + 80 * count_all ns
+  nodes_short : (ns : Nodes) → length (inside_all ns) ≤ 6 * length (pool_all ns) + 100 * count_all ns
   nodes_short childless = omega (arith, ap length inside_none)
   nodes_short (child n ns) =
       simp length-append (omega (arith, node_short n, nodes_short ns, simp length-append at (ap length (inside_child n ns))))

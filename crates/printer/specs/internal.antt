@@ -2,4 +2,3 @@
 pub mod Inside
 pub mod Pieces
 pub mod Raw
-pub mod Spelled

@@ -1,9 +1,9 @@
 // Prints the canonical spelling of the document whose node table it is given (document 01, "Printing returns number and length").
+#![tactic(auto)]
+
 mod name; // name.rt: the names of the classes
 mod put; // put.rt: writes the pieces of a spelling
-mod raw; // raw.rt: bytes of a string that stand for themselves
 mod spell; // spell.rt: the spelling of a table's nodes
-mod write; // write.rt: bytes written where there is room for them
 
 ghost use Rattle.std.specs.Prelude.{◌≡◌};
 ghost use Rattle.document.specs.reference.Printing.{printing};
@@ -20,14 +20,8 @@ pub struct Printed {
     pub length: u32,
 }
 
-// The most bytes in which a byte of the pool is spelled, and in which a node is spelled beside its strings and its children.
-const MOST_OF_BYTE: usize = 6;
-
-const MOST_OF_NODE: usize = 80;
-
 // Writes the canonical spelling, or says why not: 20 where it is no draft's table, 21 with the length needed where the output is too short.
-// Where the output is long enough for any table of so many nodes and bytes, the spelling is written at once.
-// Else it is measured first, so that a refusal leaves the output as it was.
+// It is measured first, so that a refusal leaves the output as it was.
 pub fn print(
     nodes: &[u32],
     node_count: u32,
@@ -47,13 +41,6 @@ pub fn print(
     let bytes = pool_count as usize;
     let table = &nodes[..words];
     let strings = &pool[..bytes];
-    if MOST_OF_BYTE * bytes + MOST_OF_NODE * (node_count as usize) <= out.len() {
-        let length = spelled(table, strings, out);
-        return Printed {
-            number: number::OK,
-            length: length as u32,
-        };
-    }
     let mut nothing = [0u8; 1];
     let length = spelled(table, strings, &mut nothing);
     if out.len() < length {

@@ -1,9 +1,8 @@
 // The names of the classes, each written where its class is picked.
-ghost use Rattle.std.specs.Prelude.{◌∷◌, ◌+◌, ◌≤◌, ◌<◌, length};
+ghost use Rattle.std.specs.Prelude.{◌≤◌, ◌<◌};
 ghost use Rattle.elements.specs.rules.Class.{subsection, title, footnote_ref, table, cell, name_of};
 ghost use Rattle.base.specs.Adds.{Adds};
 
-use super::write::{write_byte, write_bytes};
 use base::put_bytes;
 use kind::{Keyword, Kind};
 
@@ -69,136 +68,114 @@ const INCLUDE: usize = Keyword::INCLUDE.number as usize;
 const IMPORT: usize = Keyword::IMPORT.number as usize;
 
 // The name of a document, or of a part, section or subsection of one; number 0 has none.
-fn write_division_name(out: &mut [u8], at: usize, class: usize) -> usize
-    requires { (class ≤ subsection) × (at + 14 ≤ length out.old) }
+fn put_division_name(out: &mut [u8], at: usize, class: usize) -> usize
+    requires { class ≤ subsection }
     ensures { Adds (name_of class) at out.old result out.new }
 {
     match class {
-        DOCUMENT => write_bytes(out, at, b"document"),
-        PART => write_bytes(out, at, b"part"),
-        SECTION => write_bytes(out, at, b"section"),
-        SUBSECTION => write_bytes(out, at, b"subsection"),
+        DOCUMENT => put_bytes(out, at, b"document"),
+        PART => put_bytes(out, at, b"part"),
+        SECTION => put_bytes(out, at, b"section"),
+        SUBSECTION => put_bytes(out, at, b"subsection"),
         _ => at,
     }
 }
 
 // The name of a block that holds inline content, or of a title.
-fn write_paragraph_name(out: &mut [u8], at: usize, class: usize) -> usize
-    requires { (subsection < class) × (class ≤ title) × (at + 14 ≤ length out.old) }
+fn put_paragraph_name(out: &mut [u8], at: usize, class: usize) -> usize
+    requires { (subsection < class) × (class ≤ title) }
     ensures { Adds (name_of class) at out.old result out.new }
 {
     match class {
-        PARAGRAPH => write_bytes(out, at, b"paragraph"),
-        FORMAL_ITEM => write_bytes(out, at, b"formal_item"),
-        FOOTNOTE => write_bytes(out, at, b"footnote"),
-        TITLE => write_bytes(out, at, b"title"),
+        PARAGRAPH => put_bytes(out, at, b"paragraph"),
+        FORMAL_ITEM => put_bytes(out, at, b"formal_item"),
+        FOOTNOTE => put_bytes(out, at, b"footnote"),
+        TITLE => put_bytes(out, at, b"title"),
         _ => at,
     }
 }
 
 // The name of what stands beside texts in inline content, lists and tables apart; a text has none.
-fn write_inline_name(out: &mut [u8], at: usize, class: usize) -> usize
-    requires { (title < class) × (class ≤ footnote_ref) × (at + 14 ≤ length out.old) }
+fn put_inline_name(out: &mut [u8], at: usize, class: usize) -> usize
+    requires { (title < class) × (class ≤ footnote_ref) }
     ensures { Adds (name_of class) at out.old result out.new }
 {
     match class {
-        TERM => write_bytes(out, at, b"term"),
-        IMAGE => write_bytes(out, at, b"image"),
-        VERBATIM => write_bytes(out, at, b"verbatim"),
-        LINK => write_bytes(out, at, b"link"),
-        LINK_EXT => write_bytes(out, at, b"link_ext"),
-        FOOTNOTE_REF => write_bytes(out, at, b"footnote_ref"),
+        TERM => put_bytes(out, at, b"term"),
+        IMAGE => put_bytes(out, at, b"image"),
+        VERBATIM => put_bytes(out, at, b"verbatim"),
+        LINK => put_bytes(out, at, b"link"),
+        LINK_EXT => put_bytes(out, at, b"link_ext"),
+        FOOTNOTE_REF => put_bytes(out, at, b"footnote_ref"),
         _ => at,
     }
 }
 
 // The name of a list, of its items or of a table.
-fn write_list_name(out: &mut [u8], at: usize, class: usize) -> usize
-    requires { (footnote_ref < class) × (class ≤ table) × (at + 14 ≤ length out.old) }
+fn put_list_name(out: &mut [u8], at: usize, class: usize) -> usize
+    requires { (footnote_ref < class) × (class ≤ table) }
     ensures { Adds (name_of class) at out.old result out.new }
 {
     match class {
-        LIST_ORDERED => write_bytes(out, at, b"list_ordered"),
-        LIST_UNORDERED => write_bytes(out, at, b"list_unordered"),
-        ITEM => write_bytes(out, at, b"item"),
-        TABLE => write_bytes(out, at, b"table"),
+        LIST_ORDERED => put_bytes(out, at, b"list_ordered"),
+        LIST_UNORDERED => put_bytes(out, at, b"list_unordered"),
+        ITEM => put_bytes(out, at, b"item"),
+        TABLE => put_bytes(out, at, b"table"),
         _ => at,
     }
 }
 
 // The name of what a table is made of.
-fn write_table_part_name(out: &mut [u8], at: usize, class: usize) -> usize
-    requires { (table < class) × (class ≤ cell) × (at + 14 ≤ length out.old) }
+fn put_table_part_name(out: &mut [u8], at: usize, class: usize) -> usize
+    requires { (table < class) × (class ≤ cell) }
     ensures { Adds (name_of class) at out.old result out.new }
 {
     match class {
-        SUMMARY => write_bytes(out, at, b"summary"),
-        HEAD => write_bytes(out, at, b"head"),
-        NAME => write_bytes(out, at, b"name"),
-        BODY => write_bytes(out, at, b"body"),
-        ROW => write_bytes(out, at, b"row"),
-        CELL => write_bytes(out, at, b"cell"),
+        SUMMARY => put_bytes(out, at, b"summary"),
+        HEAD => put_bytes(out, at, b"head"),
+        NAME => put_bytes(out, at, b"name"),
+        BODY => put_bytes(out, at, b"body"),
+        ROW => put_bytes(out, at, b"row"),
+        CELL => put_bytes(out, at, b"cell"),
         _ => at,
     }
 }
 
 // The name of a parameter, of include or of import; a greater number has none.
-fn write_keyword_name(out: &mut [u8], at: usize, class: usize) -> usize
-    requires { (cell < class) × (at + 14 ≤ length out.old) }
+fn put_keyword_name(out: &mut [u8], at: usize, class: usize) -> usize
+    requires { cell < class }
     ensures { Adds (name_of class) at out.old result out.new }
 {
     match class {
-        ID => write_bytes(out, at, b"id"),
-        TYPE => write_bytes(out, at, b"type"),
-        TARGET => write_bytes(out, at, b"target"),
-        SIZE => write_bytes(out, at, b"size"),
-        INCLUDE => write_bytes(out, at, b"include"),
-        IMPORT => write_bytes(out, at, b"import"),
+        ID => put_bytes(out, at, b"id"),
+        TYPE => put_bytes(out, at, b"type"),
+        TARGET => put_bytes(out, at, b"target"),
+        SIZE => put_bytes(out, at, b"size"),
+        INCLUDE => put_bytes(out, at, b"include"),
+        IMPORT => put_bytes(out, at, b"import"),
         _ => at,
     }
 }
 
 // The name of a class; number 0 and a text have none.
 // It is picked in groups: what has to be proved of a `match` grows faster than the number of its arms.
-fn write_name(out: &mut [u8], at: usize, class: usize) -> usize
-    requires { at + 14 ≤ length out.old }
+pub fn put_name(out: &mut [u8], at: usize, class: usize) -> usize
     ensures { Adds (name_of class) at out.old result out.new }
 {
     if class <= SUBSECTION {
-        return write_division_name(out, at, class);
+        return put_division_name(out, at, class);
     }
     if class <= TITLE {
-        return write_paragraph_name(out, at, class);
+        return put_paragraph_name(out, at, class);
     }
     if class <= FOOTNOTE_REF {
-        return write_inline_name(out, at, class);
+        return put_inline_name(out, at, class);
     }
     if class <= TABLE {
-        return write_list_name(out, at, class);
+        return put_list_name(out, at, class);
     }
     if class <= CELL {
-        return write_table_part_name(out, at, class);
+        return put_table_part_name(out, at, class);
     }
-    write_keyword_name(out, at, class)
-}
-
-// The opening bracket and the name of a class.
-fn write_open(out: &mut [u8], class: usize) -> usize
-    requires { 15 ≤ length out.old }
-    ensures { Adds (0x5B ∷ name_of class) 0 out.old result out.new }
-{
-    let k = write_byte(out, 0, b'[');
-    write_name(out, k, class)
-}
-
-// The same, as far as the output reaches.
-pub fn put_open(out: &mut [u8], class: usize) -> usize
-    ensures { Adds (0x5B ∷ name_of class) 0 out.old result out.new }
-{
-    if 15 <= out.len() {
-        return write_open(out, class);
-    }
-    let mut opening = [0u8; 15];
-    let size = write_open(&mut opening, class);
-    put_bytes(out, 0, &opening[..size])
+    put_keyword_name(out, at, class)
 }

@@ -1,22 +1,17 @@
 // Writes the pieces of a spelling, as far as the output reaches: each function takes the index to write at and answers the next.
 // An index that would pass 4,294,967,295 is answered as 0: no document within the limits has so long a spelling.
-ghost use Rattle.std.specs.Prelude.{◌≡◌, ◌||◌, [], ◌∷◌, ◌<◌, ◌≤◌, eqb, ltb, length};
-ghost use Rattle.elements.specs.rules.Class as Class;
-ghost use Rattle.document.specs.rules.Canonical.{hex_byte, byte_before, bytes_before, quoted_before, digits, string_before, key_class};
+ghost use Rattle.std.specs.Prelude.{◌≡◌, true, ◌||◌, [], ◌∷◌, ◌+◌, ◌<◌, ◌≤◌, eqb, ltb, length, take, drop};
+ghost use Rattle.document.specs.rules.Canonical.{hex_byte, byte_before, bytes_before, quoted_before, digits, string_before};
 ghost use Rattle.document.specs.rules.Canonical as Canonical;
 ghost use Rattle.base.specs.Adds.{greatest_word, Adds};
-ghost use Rattle.printer.specs.internal.Pieces.{letter_of, leading_of, value_open};
+ghost use Rattle.printer.specs.internal.Pieces.{letter_of, leading_of};
+ghost use Rattle.printer.specs.internal.Raw.{Raw, RawTo};
 ghost use Rattle.printer.specs.internal.Inside.{value_inside, size_inside};
 
-use super::raw::{all_raw, raw_end};
-use super::write::{has_room, write_byte, write_bytes, write_string};
-use base::{put_byte, put_bytes};
+use super::name::put_name;
+use base::{lesser, put_byte, put_bytes};
 use kind::Keyword;
-use table::{MISSING, key_class};
-
-const ID: usize = Keyword::ID.number as usize;
-
-const TYPE: usize = Keyword::TYPE.number as usize;
+use table::MISSING;
 
 const TARGET: usize = Keyword::TARGET.number as usize;
 
@@ -78,6 +73,78 @@ fn put_string_byte(out: &mut [u8], at: usize, b: u8) -> usize
     put_byte(out, at, b)
 }
 
+// Whether a byte of a string stands for itself.
+fn raw(b: u8) -> bool
+    ensures { result ≡ true → Raw (b ∷ []) }
+{
+    (b != 0x22) & (b != 0x5C) & (0x1F < b) & (b != 0x7F)
+}
+
+// Whether eight bytes do. `&` makes every test, so that they are compiled into a few on all eight.
+fn raw_8(bytes: &[u8], i: usize) -> bool
+    requires { i + 8 ≤ length bytes.now }
+    ensures { result ≡ true → Raw (take 8 (drop i bytes.now)) }
+{
+    raw(bytes[i])
+        & raw(bytes[i + 1])
+        & raw(bytes[i + 2])
+        & raw(bytes[i + 3])
+        & raw(bytes[i + 4])
+        & raw(bytes[i + 5])
+        & raw(bytes[i + 6])
+        & raw(bytes[i + 7])
+}
+
+// Past as many blocks of sixteen bytes as stand for themselves.
+fn raw_blocks(bytes: &[u8], from: usize) -> usize
+    requires { from ≤ length bytes.now }
+    ensures { RawTo bytes.now from result }
+{
+    let mut i = from;
+    while 16 <= bytes.len() - i {
+        if !(raw_8(bytes, i) & raw_8(bytes, i + 8)) {
+            return i;
+        }
+        i += 16;
+    }
+    i
+}
+
+// Whether all from an index on do, where they are sixteen at most: by a test of the eight there and one of the last eight, which may overlap.
+// So bytes are tested one by one only in a string of fewer than eight, or where one of them does not stand for itself.
+fn raw_rest(bytes: &[u8], from: usize) -> bool
+    requires { from ≤ length bytes.now }
+    ensures { result ≡ true → RawTo bytes.now from (length bytes.now) }
+{
+    let end = bytes.len();
+    if end < 8 {
+        return false;
+    }
+    if 16 < end - from {
+        return false;
+    }
+    let last = end - 8;
+    raw_8(bytes, lesser(from, last)) & raw_8(bytes, last)
+}
+
+// Past as many bytes as stand for themselves.
+fn raw_end(bytes: &[u8], from: usize) -> usize
+    requires { from ≤ length bytes.now }
+    ensures { RawTo bytes.now from result }
+{
+    let mut i = raw_blocks(bytes, from);
+    if raw_rest(bytes, i) {
+        return bytes.len();
+    }
+    while i < bytes.len() {
+        if !raw(bytes[i]) {
+            return i;
+        }
+        i += 1;
+    }
+    i
+}
+
 // A string's bytes: those that stand for themselves are copied, as many as stand together.
 fn put_escaped(out: &mut [u8], at: usize, bytes: &[u8]) -> usize
     ensures { Adds (bytes_before bytes.now []) at out.old result out.new }
@@ -95,7 +162,6 @@ fn put_escaped(out: &mut [u8], at: usize, bytes: &[u8]) -> usize
     }
 }
 
-// A string in quotes.
 pub fn put_quoted(out: &mut [u8], at: usize, bytes: &[u8]) -> usize
     ensures { (result ≤ greatest_word) × Adds (quoted_before bytes.now []) at out.old result out.new }
 {
@@ -143,43 +209,6 @@ fn put_digits(out: &mut [u8], at: usize, n: usize) -> usize
     put_bytes(out, at, &five[from..])
 }
 
-// A space and a string in quotes, piece by piece.
-fn text_apart(out: &mut [u8], at: usize, bytes: &[u8]) -> usize
-    ensures { Adds (0x20 ∷ quoted_before bytes.now []) at out.old result out.new }
-{
-    let k = put_byte(out, at, b' ');
-    put_quoted(out, k, bytes)
-}
-
-// A space and a text in quotes: at once where all its bytes stand for themselves and there is room for them.
-pub fn put_text(out: &mut [u8], at: usize, bytes: &[u8]) -> usize
-    ensures { Adds (0x20 ∷ quoted_before bytes.now []) at out.old result out.new }
-{
-    if !has_room(out.len(), at, bytes.len(), 3) {
-        return text_apart(out, at, bytes);
-    }
-    if !all_raw(bytes) {
-        return text_apart(out, at, bytes);
-    }
-    let k = write_bytes(out, at, b" \"");
-    let k = write_string(out, k, bytes);
-    write_byte(out, k, 0x22)
-}
-
-// What opens a value: a space, the bracket, its name and a space.
-fn put_value_open(out: &mut [u8], at: usize, class: usize) -> usize
-    requires { (class ≡ Class.id → ⊥) → (class ≡ Class.type → ⊥) → class ≡ Class.target }
-    ensures { Adds (value_open class) at out.old result out.new }
-{
-    if class == ID {
-        return put_bytes(out, at, b" [id ");
-    }
-    if class == TYPE {
-        return put_bytes(out, at, b" [type ");
-    }
-    put_bytes(out, at, b" [target ")
-}
-
 // "ids and types as symbols, targets and texts quoted"
 fn put_string(out: &mut [u8], at: usize, class: usize, bytes: &[u8]) -> usize
     ensures { Adds (string_before class bytes.now []) at out.old result out.new }
@@ -190,72 +219,18 @@ fn put_string(out: &mut [u8], at: usize, class: usize, bytes: &[u8]) -> usize
     put_bytes(out, at, bytes)
 }
 
-// A space and an id, a type or a target, piece by piece: one function for the three, so that it is called and not put where they are written at once.
-fn value_apart(out: &mut [u8], at: usize, class: usize, bytes: &[u8]) -> usize
-    requires { (length bytes.now ≡ 0 → ⊥) × ((class ≡ Class.id → ⊥) → (class ≡ Class.type → ⊥) → class ≡ Class.target) }
+// A space and the value of a class, where there is one.
+pub fn put_value(out: &mut [u8], at: usize, class: usize, bytes: &[u8]) -> usize
     ensures { Adds (value_inside class bytes.now) at out.old result out.new }
 {
-    let k = put_value_open(out, at, class);
+    if bytes.len() == 0 {
+        return at;
+    }
+    let k = put_bytes(out, at, b" [");
+    let k = put_name(out, k, class);
+    let k = put_byte(out, k, b' ');
     let k = put_string(out, k, class, bytes);
     put_byte(out, k, b']')
-}
-
-// A space and an id, where there is one: at once where there is room for it.
-fn put_id(out: &mut [u8], at: usize, bytes: &[u8]) -> usize
-    ensures { Adds (value_inside Class.id bytes.now) at out.old result out.new }
-{
-    if bytes.len() == 0 {
-        return at;
-    }
-    if !has_room(out.len(), at, bytes.len(), 6) {
-        return value_apart(out, at, ID, bytes);
-    }
-    let k = write_bytes(out, at, b" [id ");
-    let k = write_string(out, k, bytes);
-    write_byte(out, k, b']')
-}
-
-// A space and a type, where there is one.
-pub fn put_type(out: &mut [u8], at: usize, bytes: &[u8]) -> usize
-    ensures { Adds (value_inside Class.type bytes.now) at out.old result out.new }
-{
-    if bytes.len() == 0 {
-        return at;
-    }
-    if !has_room(out.len(), at, bytes.len(), 8) {
-        return value_apart(out, at, TYPE, bytes);
-    }
-    let k = write_bytes(out, at, b" [type ");
-    let k = write_string(out, k, bytes);
-    write_byte(out, k, b']')
-}
-
-// A space and a target, where there is one.
-fn put_target(out: &mut [u8], at: usize, bytes: &[u8]) -> usize
-    ensures { Adds (value_inside Class.target bytes.now) at out.old result out.new }
-{
-    if bytes.len() == 0 {
-        return at;
-    }
-    if !has_room(out.len(), at, bytes.len(), 12) {
-        return value_apart(out, at, TARGET, bytes);
-    }
-    if !all_raw(bytes) {
-        return value_apart(out, at, TARGET, bytes);
-    }
-    let k = write_bytes(out, at, b" [target \"");
-    let k = write_string(out, k, bytes);
-    write_bytes(out, k, b"\"]")
-}
-
-// A space and the key of a kind, which is an id or a target.
-pub fn put_key(out: &mut [u8], at: usize, kind: usize, bytes: &[u8]) -> usize
-    ensures { Adds (value_inside (key_class kind) bytes.now) at out.old result out.new }
-{
-    if key_class(kind) == Keyword::ID.number {
-        return put_id(out, at, bytes);
-    }
-    put_target(out, at, bytes)
 }
 
 // A space and a size, where there is one.

@@ -4,7 +4,6 @@ use mathlib.Core.Path.{refl, ap}
 use mathlib.Core.List.{List}
 use native.Mathlib.Omega.{arith}
 use lib.ListN.{length}
-use Rattle.syntax.specs.rules.Syntax.{levels}
 use Rattle.syntax.specs.rules.Expression.{Exprs, locate}
 use Rattle.document.specs.rules.Document.{Node}
 use Rattle.document.specs.rules.Spelling.{Spelling, Spells, WithinLimits}
@@ -25,8 +24,7 @@ unfolding read_walked
 pool_within s d text sp l =
     let e = (spelled_form sp).expression in
     let es : Exprs = locate 0 sp.forest in
-    let depth : ℕ = levels sp.forest in
-    let stands : RunStands text depth 0 es (length text) = forest_stands text depth sp.forest sp.syntax sp.spelled (omega arith) in
+    let stands : RunStands text 0 es (length text) = forest_stands text sp.forest sp.syntax sp.spelled in
     let (p, n, b) = walk_within s text es stands (read_walked (one_expression s (length text) es)) refl in
     let within : pool_bytes e ≤ length text = rw (spelled_one sp l) at b in
     omega (arith, within, bytes_pool e (root_node e (spelled_fine sp)), ap (λ (x : Node). length (pool x)) (spelled_means sp))

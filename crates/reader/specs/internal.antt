@@ -7,10 +7,7 @@ pub mod FirstGroups
 pub mod JudgedText
 pub mod ParameterValue
 pub mod RunStands
-pub mod ScanLeads
 pub mod Tape
 pub mod TapeWord
-pub mod TokenPlace
-pub mod Tries
 pub mod Walk
 pub mod WalkAnswer

@@ -1,25 +1,23 @@
 // The judging walk over the blocks of an imperative text (document 01, "Imperative"). A command closes before its content, which follows up to the
 // next command that ends the block; what stands in a command and in its content is walked as in the nested spelling.
 ghost use Rattle.std.specs.Prelude.{◌≡◌, ℕ, ◌+◌, ◌≤◌, ◌<◌, length};
-ghost use Rattle.base.specs.rules.Limits.{most_bytes, imperative_levels};
-ghost use Rattle.syntax.specs.reference.Scan.{scan};
-ghost use Rattle.lexer.specs.Token.{scan_number};
+ghost use Rattle.base.specs.rules.Limits.{most_bytes, imperative_levels, missing};
 ghost use Rattle.document.specs.rules.Spelling.{is_block_parameter};
-ghost use Rattle.syntax.specs.rules.Expression.{Expr, Exprs, and};
+ghost use Rattle.syntax.specs.rules.Expression.{Expr, Exprs, and, depth_all};
 ghost use Rattle.document.specs.rules.Spelling.{Spelling};
 ghost use Rattle.document.specs.reference.Imperative.{regroup};
 ghost use Rattle.document.specs.reference.Outcome.{one_expression};
 ghost use Rattle.reader.specs.internal.Tape.{taped};
+ghost use Rattle.reader.specs.internal.TapeWord.{tape_words, most_word};
 ghost use Rattle.reader.specs.internal.RunStands.{RunStands};
 ghost use Rattle.reader.specs.internal.WalkAnswer.{PoolBound, MayStart, MayEnter, Bounded, read_walked};
 ghost use Rattle.reader.specs.internal.BlockWalk.{command_class, loose_class, leads_command, ends_at, TurnAs, InCommand, InContent, Belongs, JudgesChild};
 
-use super::tape::enter;
+use super::tape::{MISSING, TAPE_WORDS, enter};
 use super::walk::{
     DOCUMENT, NOT_ALLOWED, NOT_ONE_EXPRESSION, TEXT, Turn, Walked, at_end, fault_at, inside, leave,
-    partner, past_bracket, refusal,
+    past_bracket, refusal,
 };
-use base::limit::IMPERATIVE_LEVELS;
 use inside::step;
 use kind::{Keyword, Kind};
 use lexer::{A_LIST, Seen, THE_END, look};
@@ -34,11 +32,6 @@ const TYPE: u8 = Keyword::TYPE.number;
 const PART: u8 = Kind::PART.number;
 
 const FOOTNOTE: u8 = Kind::FOOTNOTE.number;
-
-// How deep lists nest in a list that stands in a block's content, and in one that stands in a command's bracket.
-const IN_CONTENT: usize = IMPERATIVE_LEVELS - 1;
-
-const IN_COMMAND: usize = IMPERATIVE_LEVELS - 2;
 
 // Title, id and type: the parameters of blocks.
 fn is_parameter(class: u8) -> bool
@@ -112,9 +105,9 @@ fn turn_as(
     nodes: usize,
     pool: usize,
     node: usize,
-    tape: &mut [u16],
+    tape: &mut [u32; TAPE_WORDS],
 ) -> Turn
-    requires { (nodes ≤ i) × (i < seen.next → PoolBound (pool + seen.length) seen.next) × (i ≤ most_bytes) }
+    requires { (nodes ≤ i) × (i < seen.next → PoolBound (pool + seen.length) seen.next) × (i ≤ most_bytes) × (seen.place ≤ most_bytes) × (node ≤ most_word) }
     ensures { TurnAs at i seen.sort seen.place seen.next seen.length class kind state nodes pool node
         tape.old tape.new result }
 {
@@ -131,7 +124,7 @@ fn turn_as(
     if seen.sort == A_LIST {
         return Turn::List(place, class, next, taken.state);
     }
-    enter(tape, nodes, place, TEXT, node, seen.length);
+    enter(tape, nodes, place, TEXT, node, nodes + 1);
     Turn::Atom(next, nodes + 1, pool + seen.length, taken.state)
 }
 
@@ -145,9 +138,9 @@ fn block(
     nodes: usize,
     pool: usize,
     node: usize,
-    tape: &mut [u16],
+    tape: &mut [u32; TAPE_WORDS],
 ) -> Walked
-    requires { MayStart text.now from nodes pool node × (at < length text.now) }
+    requires { MayStart text.now from nodes pool node }
     ensures bounded { Bounded text.now from result }
     ensures in_command { InCommand text.now at kind node from 0 nodes pool tape.old tape.new result }
 {
@@ -161,9 +154,6 @@ fn block(
         if seen.sort == THE_END {
             // that there is a bracket is known only where expressions stand
             if text.len() <= end {
-                return refusal(NOT_ALLOWED, end);
-            }
-            if text[end] != partner(text[at]) {
                 return refusal(NOT_ALLOWED, end);
             }
             return content(text, at, end + 1, kind, state, n, p, node, tape);
@@ -194,8 +184,7 @@ fn block(
             Turn::List(place, class, next, s) => {
                 let w = past_bracket(
                     text,
-                    place,
-                    inside(text, place, next, kind, class, n, p, node, tape, IN_COMMAND),
+                    inside(text, place, next, kind, class, n, p, node, tape),
                 );
                 if w.number != 0 {
                     return w;
@@ -221,7 +210,7 @@ fn content(
     nodes: usize,
     pool: usize,
     node: usize,
-    tape: &mut [u16],
+    tape: &mut [u32; TAPE_WORDS],
 ) -> Walked
     requires { MayStart text.now from nodes pool node }
     ensures bounded { Bounded text.now from result }
@@ -285,7 +274,7 @@ fn child(
     nodes: usize,
     pool: usize,
     node: usize,
-    tape: &mut [u16],
+    tape: &mut [u32; TAPE_WORDS],
 ) -> Walked
     requires { MayEnter text.now at from nodes pool node × Belongs parent class }
     ensures bounded { Bounded text.now from result }
@@ -299,21 +288,17 @@ fn child(
     }
     past_bracket(
         text,
-        at,
-        inside(
-            text, at, from, parent, class, nodes, pool, node, tape, IN_CONTENT,
-        ),
+        inside(text, at, from, parent, class, nodes, pool, node, tape),
     )
 }
 
-// Judges an imperative text: 7 to 12, or the counts of its document.
-pub fn judge_imperative(text: &[u8], tape: &mut [u16]) -> Walked
+// Judges an imperative text that was scanned: 7 to 12, or the counts of its document.
+pub fn judge_imperative(text: &[u8], tape: &mut [u32; TAPE_WORDS]) -> Walked
     requires { length text.now ≤ most_bytes }
-    ensures value { (es : Exprs) → RunStands text.now imperative_levels 0 es (length text.now)
+    ensures value { (es : Exprs) → RunStands text.now 0 es (length text.now) → depth_all es ≤ imperative_levels
         → result ≡ read_walked (one_expression Spelling.imperative (length text.now) es) }
-    ensures tape_after { (e : Expr) (es : Exprs) → RunStands text.now imperative_levels 0 (and e es) (length text.now)
-        → result.number ≡ 0 → tape.new ≡ taped tape.old 0 0 (regroup e es) }
-    ensures text_value { result.number ≡ 0 → scan_number (scan imperative_levels text.now) ≡ 0 }
+    ensures tape_after { (e : Expr) (es : Exprs) → RunStands text.now 0 (and e es) (length text.now) → depth_all (and e es) ≤ imperative_levels
+        → result.number ≡ 0 → length tape.old ≡ tape_words → tape.new ≡ taped tape.old 0 missing (regroup e es) }
 {
     let seen = look(text, 0);
     let place = seen.place;
@@ -328,16 +313,11 @@ pub fn judge_imperative(text: &[u8], tape: &mut [u16]) -> Walked
     if next < 1 {
         return refusal(NOT_ALLOWED, place);
     }
-    enter(tape, 0, place, DOCUMENT, 0, 0);
+    enter(tape, 0, place, DOCUMENT, MISSING, 0);
     let w = block(text, place, next, DOCUMENT, 1, 0, 0, tape);
     leave(tape, 0, w);
     if w.number != 0 {
         return w;
-    }
-    // Where expressions stand, the document's block goes to the text's end.
-    let last = look(text, w.next);
-    if last.place < text.len() {
-        return refusal(NOT_ALLOWED, last.place);
     }
     Walked {
         number: 0,

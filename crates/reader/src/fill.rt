@@ -12,73 +12,42 @@ ghost use Rattle.document.specs.rules.Table.{table_of};
 ghost use Rattle.document.specs.rules.Table as Table;
 ghost use Rattle.reader.specs.internal.Counts.{node_count};
 ghost use Rattle.reader.specs.internal.Tape.{Located, taped};
-ghost use Rattle.reader.specs.internal.TapeWord.{node_words};
-ghost use Rattle.reader.specs.internal.Filling.{plain_start, seen_at, key_at, held_at, parent_word, size_word, entry_at, text_row, element_row, next_row, RoomFor, Rowed};
+ghost use Rattle.reader.specs.internal.Filling.{held_at, entry_at, text_row, element_row, next_row, RoomFor, Rowed};
 
 use super::tape;
 use atoms::put_atom;
-use base::copy_part;
 use kind::Kind;
 use table::MISSING;
 use table::record::{Record, put_record};
 
-// The byte around a string, and the one that begins an escape.
-const QUOTE: u8 = 0x22;
-
-const BACKSLASH: u8 = 0x5C;
-
-// What the tape says of a node: where it stands, its words, the places of what its id or target and its type hold, 0 where there is none,
-// and the length of the text that it is, or of what its id or target holds.
+// What the tape says of a node: where it stands, its words, and the places of what its id or target and its type hold, 0 where there is none.
 #[derive(Drop)]
 struct Entry {
     place: u32,
     class: u32,
     parent: u32,
-    length: u32,
+    end: u32,
     key: u32,
     typename: u32,
-    end: u32,
     width: u32,
     height: u32,
 }
 
-// The parent word of a node; the first node has none.
-fn parent_word(node: usize, parent: u16) -> u32
-    ensures { result ≡ parent_word node parent }
-{
-    if node == 0 {
-        return MISSING as u32;
-    }
-    parent as u32
-}
-
-// The width or height of a node whose class word is this.
-fn size_word_lem(class: u16, size: u16) -> u32
-    ensures { result ≡ size_word class size }
-{
-    if class < tape::SIZED {
-        return MISSING as u32;
-    }
-    size as u32
-}
-
 // The entry of a node on the tape.
-fn entry_at(tape: &[u16], node: usize) -> Entry
-    requires { node_words * node + node_words ≤ length tape.now }
+fn entry_at(tape: &[u32; 32768], node: usize) -> Entry
+    requires { node < most_nodes }
     ensures { result ≡ entry_at tape.now node }
 {
     let i = tape::NODE_WORDS * node;
-    let class = tape[i + tape::CLASS];
     Entry {
-        place: tape[i] as u32,
-        class: (class % tape::SIZED) as u32,
-        parent: parent_word(node, tape[i + tape::PARENT]),
-        length: tape[i + tape::LENGTH] as u32,
-        key: tape[i + tape::KEY] as u32,
-        typename: tape[i + tape::TYPE] as u32,
-        end: tape[i + tape::END] as u32,
-        width: size_word_lem(class, tape[i + tape::WIDTH]),
-        height: size_word_lem(class, tape[i + tape::HEIGHT]),
+        place: tape[i],
+        class: tape[i + tape::CLASS],
+        parent: tape[i + tape::PARENT],
+        end: tape[i + tape::END],
+        key: tape[i + tape::KEY],
+        typename: tape[i + tape::TYPE],
+        width: tape[i + tape::WIDTH],
+        height: tape[i + tape::HEIGHT],
     }
 }
 
@@ -93,56 +62,8 @@ fn offset_word(at: usize, length: usize) -> u32
     at as u32
 }
 
-// Where the `count` bytes stand in the text that the symbol or string at a place stands for; 0 where not all of them stand there, as in a string with
-// an escape, which is longer than what it stands for. A quote within a string is escaped: so the one that ends the string is told by the byte before it.
-fn plain_start(text: &[u8], place: usize, count: usize) -> usize
-    requires { (place ≤ missing) × (count ≤ missing) }
-    ensures { result ≡ plain_start text.now place count }
-{
-    let end = place + count;
-    if text.len() <= end + 1 {
-        return 0;
-    }
-    if text[place] != QUOTE {
-        return place;
-    }
-    if text[end + 1] != QUOTE {
-        return 0;
-    }
-    if text[end] == BACKSLASH {
-        return 0;
-    }
-    place + 1
-}
-
-// Writes what the symbol or string at a place stands for, which are `count` bytes. Answers its length.
-fn put_seen(text: &[u8], place: usize, count: usize, pool: &mut [u8], at: usize) -> usize
-    requires { (length text.now ≤ most_bytes) × (place ≤ missing) × (count ≤ missing) }
-    ensures { (result ≤ most_bytes) × (result ≡ length (seen_at text.now place count))
-        × (pool.new ≡ sets pool.old at (seen_at text.now place count)) }
-{
-    let start = plain_start(text, place, count);
-    if start == 0 {
-        return put_atom(text, place, pool, at);
-    }
-    copy_part(pool, at, text, start, count);
-    count
-}
-
-// The same of what stands at the place that a word of the tape says, or nothing where it says none.
-fn put_key(text: &[u8], place: usize, count: usize, pool: &mut [u8], at: usize) -> usize
-    requires { (length text.now ≤ most_bytes) × (place ≤ missing) × (count ≤ missing) }
-    ensures { (result ≤ most_bytes) × (result ≡ length (key_at text.now place count))
-        × (pool.new ≡ sets pool.old at (key_at text.now place count)) }
-{
-    if place == 0 {
-        return 0;
-    }
-    put_seen(text, place, count, pool, at)
-}
-
-// The same of a type, whose length is found anew.
-fn put_held(text: &[u8], place: usize, pool: &mut [u8], at: usize) -> usize
+// Writes what stands at the place that a word of the tape says, or nothing where it says none. Answers its length.
+fn put_held(text: &[u8], place: u32, pool: &mut [u8], at: usize) -> usize
     requires { length text.now ≤ most_bytes }
     ensures { (result ≤ most_bytes) × (result ≡ length (held_at text.now place))
         × (pool.new ≡ sets pool.old at (held_at text.now place)) }
@@ -150,7 +71,7 @@ fn put_held(text: &[u8], place: usize, pool: &mut [u8], at: usize) -> usize
     if place == 0 {
         return 0;
     }
-    put_atom(text, place, pool, at)
+    put_atom(text, place as usize, pool, at)
 }
 
 // The row of a text. Answers the next place in the pool.
@@ -168,7 +89,7 @@ fn text_row(
         (record { node = node; bytes = bytes; words = nodes.old; places = places.old; pool = pool.old })
         (record { node = node + 1; bytes = result; words = nodes.new; places = places.new; pool = pool.new }) }
 {
-    let length = put_seen(text, e.place as usize, e.length as usize, pool, bytes);
+    let length = put_atom(text, e.place as usize, pool, bytes);
     places[node] = e.place;
     put_record(
         nodes,
@@ -205,9 +126,9 @@ fn element_row(
         (record { node = node; bytes = bytes; words = nodes.old; places = places.old; pool = pool.old })
         (record { node = node + 1; bytes = result; words = nodes.new; places = places.new; pool = pool.new }) }
 {
-    let key = put_key(text, e.key as usize, e.length as usize, pool, bytes);
+    let key = put_held(text, e.key, pool, bytes);
     let middle = bytes + key;
-    let typename = put_held(text, e.typename as usize, pool, middle);
+    let typename = put_held(text, e.typename, pool, middle);
     places[node] = e.place;
     put_record(
         nodes,
@@ -254,16 +175,15 @@ fn row(
 // Fills the document whose `count` nodes are on the tape, where there is room for them.
 pub fn fill(
     text: &[u8],
-    tape: &[u16],
+    tape: &[u32; 32768],
     count: usize,
     nodes: &mut [u32],
     places: &mut [u32],
     pool: &mut [u8],
 )
-    requires { (length text.now ≤ most_bytes) × (count ≤ most_nodes) × (node_words * count ≤ length tape.now)
-        × (record_length * count ≤ length nodes.old) × (count ≤ length places.old) }
-    ensures { (e : Expr) (t : List ℕ) → Located text.now e → judge_root e ≡ fine
-        → tape.now ≡ taped t 0 0 e → count ≡ node_count e
+    requires { (length text.now ≤ most_bytes) × (count ≤ most_nodes) × (record_length * count ≤ length nodes.old) × (count ≤ length places.old) }
+    ensures { (e : Expr) (t : List ℕ) → Located text.now e → judge_root e ≡ fine → length t ≡ 32768
+        → tape.now ≡ taped t 0 missing e → count ≡ node_count e
         → (nodes.new ≡ sets nodes.old 0 (table_of (says (tree_of e))))
         × (places.new ≡ sets places.old 0 (Meaning.places e))
         × (pool.new ≡ sets pool.old 0 (Table.pool (says (tree_of e)))) }

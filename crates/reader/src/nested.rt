@@ -1,27 +1,24 @@
-// Judging a nested text: first 7, for no expression or a second one, then 8 to 12 of the one there is.
+// Judging a nested text that was scanned: first 7, for no expression or a second one, then 8 to 12 of the one there is.
 ghost use Rattle.std.specs.Prelude.{◌≡◌, ℕ, ◌≤◌, length};
-ghost use Rattle.base.specs.rules.Limits.{most_bytes, nested_levels};
+ghost use Rattle.base.specs.rules.Limits.{most_bytes, missing};
 ghost use Rattle.syntax.specs.rules.Expression.{Expr, Exprs, none, and};
-ghost use Rattle.syntax.specs.reference.Scan.{scan};
-ghost use Rattle.lexer.specs.Token.{scan_number};
 ghost use Rattle.document.specs.rules.Spelling.{nested};
 ghost use Rattle.document.specs.reference.Outcome.{one_expression};
 ghost use Rattle.reader.specs.internal.RunStands.{RunStands};
-ghost use Rattle.reader.specs.internal.ScanLeads.{Leads};
-ghost use Rattle.reader.specs.internal.FirstExpressions.{first_place, second_place, FirstJudged, Unfinished};
+ghost use Rattle.reader.specs.internal.FirstExpressions.{first_place, second_place, FirstJudged};
 ghost use Rattle.reader.specs.internal.WalkAnswer.{read_walked};
 ghost use Rattle.reader.specs.internal.Tape.{taped};
+ghost use Rattle.reader.specs.internal.TapeWord.{tape_words};
 
-use super::tape::enter;
+use super::tape::{MISSING, TAPE_WORDS, enter};
 use super::walk::{
     DOCUMENT, NOT_ALLOWED, NOT_ONE_EXPRESSION, Walked, inline, leave, past_bracket, refusal,
 };
-use base::limit::NESTED_LEVELS;
 use lexer::{A_LIST, THE_END, look};
 
 // Where the run of expressions from a place on ends, whatever its lists hold.
 fn run_end(text: &[u8], from: usize) -> usize
-    ensures { (d : ℕ) (es : Exprs) (e : ℕ) → RunStands text.now d from es e → result ≡ e }
+    ensures { (es : Exprs) (e : ℕ) → RunStands text.now from es e → result ≡ e }
 {
     let mut i = from;
     let mut depth: usize = 0;
@@ -58,7 +55,7 @@ fn run_end(text: &[u8], from: usize) -> usize
 
 // The place after the first expression from a place on.
 fn past_first(text: &[u8], from: usize) -> usize
-    ensures { (d : ℕ) (x : Expr) (es : Exprs) (e : ℕ) → RunStands text.now d from (and x es) e → RunStands text.now d result es e }
+    ensures { (x : Expr) (es : Exprs) (e : ℕ) → RunStands text.now from (and x es) e → RunStands text.now result es e }
 {
     let seen = look(text, from);
     if seen.sort != A_LIST {
@@ -78,8 +75,7 @@ fn past_first(text: &[u8], from: usize) -> usize
 
 // The place of the first expression from a place on, and the text's length where there is none.
 fn first_place(text: &[u8], from: usize) -> usize
-    ensures { (d : ℕ) (es : Exprs) → RunStands text.now d from es (length text.now)
-        → result ≡ first_place (length text.now) es }
+    ensures { (es : Exprs) → RunStands text.now from es (length text.now) → result ≡ first_place (length text.now) es }
 {
     let seen = look(text, from);
     if seen.sort == THE_END {
@@ -90,8 +86,7 @@ fn first_place(text: &[u8], from: usize) -> usize
 
 // The place of the second expression of a text, and the text's length where there is none.
 fn second(text: &[u8]) -> usize
-    ensures { (d : ℕ) (es : Exprs) → RunStands text.now d 0 es (length text.now)
-        → result ≡ second_place (length text.now) es }
+    ensures { (es : Exprs) → RunStands text.now 0 es (length text.now) → result ≡ second_place (length text.now) es }
 {
     let first = look(text, 0);
     if first.sort == THE_END {
@@ -102,7 +97,7 @@ fn second(text: &[u8]) -> usize
 
 // The same where the first expression was answered by w. One with no fault need not be passed over again.
 fn second_after(text: &[u8], w: Walked) -> usize
-    ensures { (es : Exprs) → RunStands text.now nested_levels 0 es (length text.now) → FirstJudged text.now es w
+    ensures { (es : Exprs) → RunStands text.now 0 es (length text.now) → FirstJudged text.now es w
         → result ≡ second_place (length text.now) es }
 {
     if w.number == 0 {
@@ -112,12 +107,11 @@ fn second_after(text: &[u8], w: Walked) -> usize
 }
 
 // 7 for no expression, or 8 to 12 of the first one, whatever follows it. The root counts as one node.
-fn judge_first(text: &[u8], tape: &mut [u16]) -> Walked
+fn judge_first(text: &[u8], tape: &mut [u32; TAPE_WORDS]) -> Walked
     requires { length text.now ≤ most_bytes }
-    ensures first_judged { (es : Exprs) → RunStands text.now nested_levels 0 es (length text.now) → FirstJudged text.now es result }
-    ensures tape_after { (e : Expr) (es : Exprs) → RunStands text.now nested_levels 0 (and e es) (length text.now) → result.number ≡ 0
-        → tape.new ≡ taped tape.old 0 0 e }
-    ensures leads { result.number ≡ 0 → Leads text.now nested_levels 0 result.next }
+    ensures first_judged { (es : Exprs) → RunStands text.now 0 es (length text.now) → FirstJudged text.now es result }
+    ensures tape_after { (e : Expr) (es : Exprs) → RunStands text.now 0 (and e es) (length text.now) → result.number ≡ 0
+        → length tape.old ≡ tape_words → tape.new ≡ taped tape.old 0 missing e }
 {
     let root = look(text, 0);
     if root.sort == THE_END {
@@ -132,49 +126,24 @@ fn judge_first(text: &[u8], tape: &mut [u16]) -> Walked
     if next == 0 {
         return refusal(NOT_ALLOWED, place);
     }
-    enter(tape, 0, place, DOCUMENT, 0, 0);
-    let w = inline(
-        text,
-        place,
-        next,
-        DOCUMENT,
-        1,
-        0,
-        0,
-        tape,
-        NESTED_LEVELS - 1,
-    );
+    enter(tape, 0, place, DOCUMENT, MISSING, 0);
+    let w = inline(text, place, next, DOCUMENT, 1, 0, 0, tape);
     leave(tape, 0, w);
-    past_bracket(text, place, w)
-}
-
-// More than white space follows an expression that was answered by w, and was accepted. Where expressions stand, that is a second one.
-fn unfinished(text: &[u8], w: Walked) -> bool
-    ensures { Unfinished text.now w result }
-{
-    if w.number != 0 {
-        return false;
-    }
-    let seen = look(text, w.next);
-    seen.place < text.len()
+    past_bracket(text, w)
 }
 
 // 7 to 12, or the counts of the document. 7 comes before 8 to 12; but the walk over the root comes first, since it finds the root's end.
-pub fn judge_nested(text: &[u8], tape: &mut [u16]) -> Walked
+pub fn judge_nested(text: &[u8], tape: &mut [u32; TAPE_WORDS]) -> Walked
     requires { length text.now ≤ most_bytes }
-    ensures value { (es : Exprs) → RunStands text.now nested_levels 0 es (length text.now)
+    ensures value { (es : Exprs) → RunStands text.now 0 es (length text.now)
         → result ≡ read_walked (one_expression nested (length text.now) es) }
-    ensures tape_after { (e : Expr) → RunStands text.now nested_levels 0 (and e none) (length text.now) → result.number ≡ 0
-        → tape.new ≡ taped tape.old 0 0 e }
-    ensures text_value { result.number ≡ 0 → scan_number (scan nested_levels text.now) ≡ 0 }
+    ensures tape_after { (e : Expr) → RunStands text.now 0 (and e none) (length text.now) → result.number ≡ 0
+        → length tape.old ≡ tape_words → tape.new ≡ taped tape.old 0 missing e }
 {
     let w = judge_first(text, tape);
     let other = second_after(text, w);
     if other < text.len() {
         return refusal(NOT_ONE_EXPRESSION, other);
-    }
-    if unfinished(text, w) {
-        return refusal(NOT_ALLOWED, w.next);
     }
     Walked {
         number: w.number,

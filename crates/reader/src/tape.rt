@@ -1,94 +1,68 @@
-// The tape: nine words for each node that the judging walk meets, in the order of the nodes, for the fill. A node for which a tape has no room is noted nowhere.
-// A word holds what it is given by its last 16 bits: no place, no number of a node that is filled and no size has more.
-ghost use Rattle.std.specs.Prelude.{◌≡◌, ◌≤◌};
-ghost use Rattle.base.specs.rules.Limits.{most_bytes};
-ghost use Rattle.reader.specs.internal.Tape.{entered, left, noted_held, noted_size};
+// The tape: eight words for each node that the judging walk meets, in the order of the nodes, for the fill. A node past 4,095 is noted nowhere.
+// (That the array behind a reference has its `TAPE_WORDS` elements is no fact that a proof is given: so contracts suppose it.)
+ghost use Rattle.std.specs.Prelude.{◌≡◌, ◌+◌, ◌*◌, ◌≤◌, ◌<◌, length, set};
+ghost use Rattle.reader.specs.internal.Tape.{entered};
+ghost use Rattle.reader.specs.internal.TapeWord.{node_words, tape_words, most_word};
 
-use kind::Keyword;
+use base::limit::MOST_NODES;
 
 // The words of a node, under the names of specs/internal/TapeWord.antt. The first is its place.
-pub const NODE_WORDS: usize = 9;
+pub const NODE_WORDS: usize = 8;
+
+pub const TAPE_WORDS: usize = NODE_WORDS * MOST_NODES;
 
 pub const CLASS: usize = 1;
 
 pub const PARENT: usize = 2;
 
-// How many bytes a text holds, or an element's id or target.
-pub const LENGTH: usize = 3;
+// The number after that of its last descendant.
+pub const END: usize = 3;
 
 // The place of what its id or target holds, and of what its type holds; 0 where there is none.
 pub const KEY: usize = 4;
 
 pub const TYPE: usize = 5;
 
-// The number after that of its last descendant.
-pub const END: usize = 6;
+pub const WIDTH: usize = 6;
 
-pub const WIDTH: usize = 7;
+pub const HEIGHT: usize = 7;
 
-pub const HEIGHT: usize = 8;
+// What stands for a parent, a width or a height that there is not, and the largest word.
+pub const MISSING: usize = 4294967295;
 
-// What the class word has more where a size was noted.
-pub const SIZED: u16 = 128;
+const MISSING_WORD: u32 = MISSING as u32;
 
-// The numbers that a word has.
-const WORD: usize = 65536;
-
-const TYPE_NAME: u8 = Keyword::TYPE.number;
-
-// A node is entered, and none of its values is known yet. Its length is that of a text, and 0 of an element.
-pub fn enter(tape: &mut [u16], node: usize, at: usize, class: u8, parent: usize, length: usize)
-    requires { node ≤ most_bytes }
-    ensures { tape.new ≡ entered tape.old node at class parent length }
+// A node is entered, and none of its values is known yet.
+pub fn enter(
+    tape: &mut [u32; TAPE_WORDS],
+    node: usize,
+    at: usize,
+    class: u8,
+    parent: usize,
+    end: usize,
+)
+    requires { (at ≤ most_word) × (parent ≤ most_word) × (end ≤ most_word) }
+    ensures { length tape.old ≡ tape_words → tape.new ≡ entered tape.old node at class parent end }
 {
-    let i = NODE_WORDS * node;
-    if i + NODE_WORDS <= tape.len() {
-        tape[i] = (at % WORD) as u16;
-        tape[i + CLASS] = class as u16;
-        tape[i + PARENT] = (parent % WORD) as u16;
-        tape[i + LENGTH] = (length % WORD) as u16;
+    if node < MOST_NODES {
+        let i = NODE_WORDS * node;
+        tape[i] = at as u32;
+        tape[i + CLASS] = class as u32;
+        tape[i + PARENT] = parent as u32;
+        tape[i + END] = end as u32;
         tape[i + KEY] = 0;
         tape[i + TYPE] = 0;
+        tape[i + WIDTH] = MISSING_WORD;
+        tape[i + HEIGHT] = MISSING_WORD;
     }
 }
 
-// A node is left: the number after that of its last descendant.
-pub fn note_end(tape: &mut [u16], node: usize, end: usize)
-    requires { node ≤ most_bytes }
-    ensures { tape.new ≡ left tape.old node end }
+// One word of a node.
+pub fn note(tape: &mut [u32; TAPE_WORDS], node: usize, word: usize, value: usize)
+    requires { (word < node_words) × (value ≤ most_word) }
+    ensures { length tape.old ≡ tape_words → tape.new ≡ set tape.old (node_words * node + word) value }
 {
-    let i = NODE_WORDS * node;
-    if i + NODE_WORDS <= tape.len() {
-        tape[i + END] = (end % WORD) as u16;
-    }
-}
-
-// What a parameter of a class holds: its place, and, but of a type, how many bytes it stands for.
-pub fn note_held(tape: &mut [u16], node: usize, class: u8, place: usize, length: usize)
-    requires { node ≤ most_bytes }
-    ensures { tape.new ≡ noted_held tape.old node class place length }
-{
-    let i = NODE_WORDS * node;
-    if i + NODE_WORDS <= tape.len() {
-        if class == TYPE_NAME {
-            tape[i + TYPE] = (place % WORD) as u16;
-            return;
-        }
-        tape[i + LENGTH] = (length % WORD) as u16;
-        tape[i + KEY] = (place % WORD) as u16;
-    }
-}
-
-// The width and height of a node.
-pub fn note_size(tape: &mut [u16], node: usize, width: usize, height: usize)
-    requires { node ≤ most_bytes }
-    ensures { tape.new ≡ noted_size tape.old node width height }
-{
-    let i = NODE_WORDS * node;
-    if i + NODE_WORDS <= tape.len() {
-        let class = tape[i + CLASS];
-        tape[i + CLASS] = class % SIZED + SIZED;
-        tape[i + WIDTH] = (width % WORD) as u16;
-        tape[i + HEIGHT] = (height % WORD) as u16;
+    if node < MOST_NODES {
+        tape[NODE_WORDS * node + word] = value as u32;
     }
 }

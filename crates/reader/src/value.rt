@@ -1,5 +1,5 @@
 // The value of a parameter: of an id, a target or a type one text or symbol, of a size two numbers. What is malformed is refused by 10.
-ghost use Rattle.std.specs.Prelude.{◌≡◌, cond, ◌&&◌, ℕ, ◌+◌, ◌≤◌};
+ghost use Rattle.std.specs.Prelude.{◌≡◌, cond, ◌&&◌, ℕ, ◌+◌, ◌≤◌, eqb};
 ghost use lib.ListN.{length, take, drop};
 ghost use Rattle.elements.specs.rules.Class as Class;
 ghost use Rattle.syntax.specs.rules.Expression.{Exprs, Expr};
@@ -8,10 +8,11 @@ ghost use Rattle.document.specs.rules.Value.{non_empty, is_value, names_block};
 ghost use Rattle.document.specs.reference.Meaning.{judge_value, value_tree, size_tree, number_of};
 ghost use Rattle.reader.specs.internal.RunStands.{RunStands};
 ghost use Rattle.reader.specs.internal.Counts.{value_size};
+ghost use Rattle.reader.specs.internal.TapeWord as TapeWord;
 ghost use Rattle.reader.specs.internal.WalkAnswer.{walked_to, MayStart, Bounded};
 ghost use Rattle.reader.specs.internal.ParameterValue.{HoldsOne, ReadsNumber, Notes, holds_sort};
 
-use super::tape::{note_held, note_size};
+use super::tape::{HEIGHT, KEY, TAPE_WORDS, TYPE, WIDTH, note};
 use super::walk::{MALFORMED, Walked, closes, refusal};
 use atoms::atom_fits;
 use kind::{Keyword, Kind};
@@ -203,11 +204,11 @@ fn size(
     nodes: usize,
     pool: usize,
     node: usize,
-    tape: &mut [u16],
+    tape: &mut [u32; TAPE_WORDS],
 ) -> Walked
     requires { MayStart text.now from nodes pool node }
     ensures bounded { Bounded text.now from result }
-    ensures by_index { (d : ℕ) (es : Exprs) (m : ℕ) → RunStands text.now d from es m
+    ensures value { (es : Exprs) (m : ℕ) → RunStands text.now from es m
         → result ≡ walked_to m nodes pool (judge_value kind at (size_tree es)) }
     ensures notes { Notes text.now from Class.size node tape.old result tape.new }
 {
@@ -223,7 +224,8 @@ fn size(
     if last.sort != THE_END {
         return refusal(MALFORMED, at);
     }
-    note_size(tape, node, width.number, height.number);
+    note(tape, node, WIDTH, width.number);
+    note(tape, node, HEIGHT, height.number);
     Walked {
         number: 0,
         place: 0,
@@ -231,6 +233,16 @@ fn size(
         nodes,
         pool,
     }
+}
+
+// The word of a node for the place of what a parameter of a class holds.
+fn word_of(class: u8) -> usize
+    ensures { result ≡ cond (eqb class Class.type) TapeWord.type TapeWord.key }
+{
+    if class == TYPE_NAME {
+        return TYPE;
+    }
+    KEY
 }
 
 // A list at `at` led by a parameter's name of a class, in an element of a kind with number `node`; what follows the name starts at `from`.
@@ -243,11 +255,11 @@ pub fn value(
     nodes: usize,
     pool: usize,
     node: usize,
-    tape: &mut [u16],
+    tape: &mut [u32; TAPE_WORDS],
 ) -> Walked
     requires { MayStart text.now from nodes pool node }
     ensures bounded { Bounded text.now from result }
-    ensures by_index { (d : ℕ) (es : Exprs) (m : ℕ) → RunStands text.now d from es m
+    ensures value { (es : Exprs) (m : ℕ) → RunStands text.now from es m
         → result ≡ walked_to m nodes (pool + value_size class es) (judge_value kind at (value_tree class es)) }
     ensures notes { Notes text.now from class node tape.old result tape.new }
 {
@@ -261,7 +273,7 @@ pub fn value(
     if !is_value(text, one.place, kind, class) {
         return refusal(MALFORMED, at);
     }
-    note_held(tape, node, class, one.place, one.length);
+    note(tape, node, word_of(class), one.place);
     Walked {
         number: 0,
         place: 0,

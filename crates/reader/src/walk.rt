@@ -1,32 +1,28 @@
 // The judging walk over the text, which counts nodes and pool bytes (document 01, numbers 8 to 12) and notes the nodes on the tape.
 // "An item holds inline content, and inline content holds lists of items": the walk over inline content
 // calls the list and item walks, which call it back, and the bytes left fall.
-// What it accepts the scan would pass: each closing bracket is the partner of its opening one, and no list is deeper than the levels that are left.
 // Only the walk over inline content takes its turns by `next_turn`, so that the compiler puts that into its loop.
-ghost use Rattle.std.specs.Prelude.{◌≡◌, ◌⊎◌, cond, true, List, ℕ, ◌≤◌, ◌<◌, eqb, length, drop};
-ghost use Rattle.base.specs.rules.Limits.{most_bytes};
+ghost use Rattle.std.specs.Prelude.{◌≡◌, ◌⊎◌, cond, true, ◌≤◌, eqb, length, drop};
 ghost use Rattle.base.specs.rules.Numbers as Number;
 ghost use Rattle.elements.specs.rules.Class as Class;
 ghost use Rattle.elements.specs.rules.Class.{is_element};
 ghost use Rattle.elements.specs.rules.Inside.{ended};
 ghost use Rattle.inside.specs.Machine.{state_of};
-ghost use Rattle.characters.specs.Codes.{quote_code, ordinary_code};
 ghost use Rattle.lexer.specs.Token.{seen, the_end};
 ghost use Rattle.document.specs.reference.Meaning.{Verdict};
 ghost use Rattle.reader.specs.internal.WalkAnswer.{walked_to, MayStart, MayEnter, Bounded};
 ghost use Rattle.reader.specs.internal.Tape.{left};
-ghost use Rattle.reader.specs.internal.TokenPlace.{TokenAt, ListAt};
-ghost use Rattle.reader.specs.internal.Walk.{AnswersFrom, Finishes, JudgesList, TurnFrom, TurnWithin, past_bracket, partner_of};
+ghost use Rattle.reader.specs.internal.TapeWord.{tape_words, most_word};
+ghost use Rattle.reader.specs.internal.Walk.{AnswersFrom, Finishes, JudgesList, TurnFrom, TurnWithin, past_bracket};
 
-use super::tape::{enter, note_end};
+use super::tape::{END, TAPE_WORDS, enter, note};
 use super::value::value;
-use atoms::string_at;
 use base::number;
-use characters::class::{ORDINARY, QUOTE, ROUND, ROUND_END, SQUARE};
-use characters::{byte_at, byte_class, symbol_end};
+use characters::byte_class;
+use characters::class::ROUND_END;
 use inside::{may_end, step};
 use kind::Kind;
-use lexer::{A_LIST, THE_END, lead_at, look, past_blanks};
+use lexer::{A_LIST, THE_END, look};
 
 // The numbers answered by a walk. A step of `inside` tells its faults as bytes, so a walk takes them so.
 pub const NOT_ONE_EXPRESSION: u8 = number::NOT_ONE_EXPRESSION as u8;
@@ -118,95 +114,7 @@ pub fn closes(text: &[u8], i: usize) -> bool
     ROUND_END <= byte_class(text[i])
 }
 
-// A turn at a string, whose quote is at `place`; a bad string has no place after it.
-fn string_turn(
-    text: &[u8],
-    at: usize,
-    i: usize,
-    place: usize,
-    kind: u8,
-    state: u8,
-    nodes: usize,
-    pool: usize,
-    node: usize,
-    tape: &mut [u16],
-) -> Turn
-    requires { MayStart text.now i nodes pool node × TokenAt text.now i place quote_code }
-    ensures turn_within { TurnWithin text.now i result }
-    ensures by_index { (levels : ℕ) → TurnFrom text.now levels at kind i state nodes pool node tape.old tape.new result }
-{
-    let taken = step(kind, state, TEXT);
-    if taken.fault != 0 {
-        return Turn::Done(fault_at(taken.fault, at, place));
-    }
-    let string = string_at(text, place);
-    let next = string.next;
-    if next <= i {
-        return Turn::Done(refusal(NOT_ALLOWED, place));
-    }
-    enter(tape, nodes, place, TEXT, node, string.length);
-    Turn::Atom(next, nodes + 1, pool + string.length, taken.state)
-}
-
-// A turn at a symbol.
-fn symbol_turn(
-    text: &[u8],
-    at: usize,
-    i: usize,
-    place: usize,
-    kind: u8,
-    state: u8,
-    nodes: usize,
-    pool: usize,
-    node: usize,
-    tape: &mut [u16],
-) -> Turn
-    requires { MayStart text.now i nodes pool node × TokenAt text.now i place ordinary_code }
-    ensures turn_within { TurnWithin text.now i result }
-    ensures by_index { (levels : ℕ) → TurnFrom text.now levels at kind i state nodes pool node tape.old tape.new result }
-{
-    let taken = step(kind, state, TEXT);
-    if taken.fault != 0 {
-        return Turn::Done(fault_at(taken.fault, at, place));
-    }
-    let next = symbol_end(text, place);
-    let length = next - place;
-    // Not where a byte of a symbol stands.
-    if next <= i {
-        return Turn::Done(refusal(NOT_ALLOWED, place));
-    }
-    enter(tape, nodes, place, TEXT, node, length);
-    Turn::Atom(next, nodes + 1, pool + length, taken.state)
-}
-
-// A turn at a list, whose bracket is at `place`.
-fn list_turn(
-    text: &[u8],
-    at: usize,
-    i: usize,
-    place: usize,
-    kind: u8,
-    state: u8,
-    levels: usize,
-) -> Turn
-    requires { (i ≤ length text.now) × ListAt text.now i place }
-    ensures turn_within { TurnWithin text.now i result }
-    ensures by_index { (nodes pool node : ℕ) (t : List ℕ) → TurnFrom text.now levels at kind i state nodes pool node t t result }
-{
-    let lead = lead_at(text, place + 1);
-    let class = lead.class;
-    let taken = step(kind, state, class);
-    if taken.fault != 0 {
-        return Turn::Done(fault_at(taken.fault, at, place));
-    }
-    // No level is left: the scan will say so.
-    if levels == 0 {
-        return Turn::Done(refusal(NOT_ALLOWED, place));
-    }
-    Turn::List(place, class, lead.next, taken.state)
-}
-
-// The next expression in an element of a kind at `at` with number `node`, read so far to this state: the byte behind white space tells its sort.
+// The next expression in an element of a kind at `at` with number `node`, read so far to this state.
 fn next_turn(
     text: &[u8],
     at: usize,
@@ -216,54 +124,46 @@ fn next_turn(
     nodes: usize,
     pool: usize,
     node: usize,
-    tape: &mut [u16],
-    levels: usize,
+    tape: &mut [u32; TAPE_WORDS],
 ) -> Turn
     requires { MayStart text.now i nodes pool node }
     ensures turn_within { TurnWithin text.now i result }
-    ensures turn_from { TurnFrom text.now levels at kind i state nodes pool node tape.old tape.new result }
+    ensures turn_from { TurnFrom text.now at kind i state nodes pool node tape.old tape.new result }
 {
-    let place = past_blanks(text, i);
-    // past the end of the text this is the class of no token
-    let sort = byte_class(byte_at(text, place));
-    if sort == QUOTE {
-        return string_turn(text, at, i, place, kind, state, nodes, pool, node, tape);
+    if closes(text, i) {
+        return Turn::Done(at_end(at, kind, state, i, nodes, pool));
     }
-    if sort == ORDINARY {
-        return symbol_turn(text, at, i, place, kind, state, nodes, pool, node, tape);
-    }
-    if sort < ROUND {
+    let seen = look(text, i);
+    let place = seen.place;
+    if seen.sort == THE_END {
         return Turn::Done(at_end(at, kind, state, place, nodes, pool));
     }
-    if SQUARE < sort {
-        return Turn::Done(at_end(at, kind, state, place, nodes, pool));
+    let class = seen.class;
+    let next = seen.next;
+    let taken = step(kind, state, class);
+    if taken.fault != 0 {
+        return Turn::Done(fault_at(taken.fault, at, place));
     }
-    list_turn(text, at, i, place, kind, state, levels)
+    // Not where expressions stand; but the walk is to end on any bytes.
+    if next <= i {
+        return Turn::Done(refusal(NOT_ALLOWED, place));
+    }
+    if seen.sort == A_LIST {
+        return Turn::List(place, class, next, taken.state);
+    }
+    enter(tape, nodes, place, TEXT, node, nodes + 1);
+    Turn::Atom(next, nodes + 1, pool + seen.length, taken.state)
 }
 
-// The byte that closes what an opening bracket opens.
-pub fn partner(bracket: u8) -> u8
-    ensures { result ≡ partner_of bracket }
-{
-    if bracket == b'(' {
-        return b')';
-    }
-    b']'
-}
-
-// From the end of the run in a list at `at` to the place after its closing bracket; that the bracket's partner stands there is known only where expressions stand.
-pub fn past_bracket(text: &[u8], at: usize, w: Walked) -> Walked
-    requires { at < length text.now }
-    ensures { result ≡ past_bracket text.now at w }
+// From a list's closing bracket to the place after it; that there is a bracket is known only where expressions stand.
+pub fn past_bracket(text: &[u8], w: Walked) -> Walked
+    ensures { result ≡ past_bracket (length text.now) w }
 {
     if w.number != 0 {
         return w;
     }
     let end = w.next;
     if text.len() <= end {
-        return refusal(NOT_ALLOWED, end);
-    }
-    if text[end] != partner(text[at]) {
         return refusal(NOT_ALLOWED, end);
     }
     Walked {
@@ -289,17 +189,16 @@ pub fn is_element(class: u8) -> bool
 }
 
 // An element whose walk answered w is left: the number after that of its last descendant is noted, unless it was refused.
-pub fn leave(tape: &mut [u16], node: usize, w: Walked)
-    requires { node ≤ most_bytes }
-    ensures { w.number ≡ 0 → tape.new ≡ left tape.old node w.nodes }
+pub fn leave(tape: &mut [u32; TAPE_WORDS], node: usize, w: Walked)
+    requires { w.number ≡ 0 → w.nodes ≤ most_word }
+    ensures { w.number ≡ 0 → length tape.old ≡ tape_words → tape.new ≡ left tape.old node w.nodes }
 {
     if w.number == 0 {
-        note_end(tape, node, w.nodes);
+        note(tape, node, END, w.nodes);
     }
 }
 
-// A list at `at` in an element of kind `parent` with number `node`, led by a name of this class; what follows the name starts at `from`, and lists in it nest at
-// most `levels` deep.
+// A list at `at` in an element of kind `parent` with number `node`, led by a name of this class; what follows the name starts at `from`.
 #[cycle(content_of_inline_inside_item_list)]
 pub fn inside(
     text: &[u8],
@@ -310,18 +209,17 @@ pub fn inside(
     nodes: usize,
     pool: usize,
     node: usize,
-    tape: &mut [u16],
-    levels: usize,
+    tape: &mut [u32; TAPE_WORDS],
 ) -> Walked
     requires { MayEnter text.now at from nodes pool node }
     ensures bounded { Bounded text.now from result }
-    ensures judges_list { JudgesList text.now levels at from parent class nodes pool node tape.old tape.new result }
+    ensures judges_list { JudgesList text.now at from parent class nodes pool node tape.old tape.new result }
 {
     if !is_element(class) {
         return value(text, at, from, parent, class, nodes, pool, node, tape);
     }
     enter(tape, nodes, at, class, node, 0);
-    let w = content_of(text, at, from, class, nodes + 1, pool, nodes, tape, levels);
+    let w = content_of(text, at, from, class, nodes + 1, pool, nodes, tape);
     leave(tape, nodes, w);
     w
 }
@@ -336,18 +234,15 @@ fn content_of(
     nodes: usize,
     pool: usize,
     node: usize,
-    tape: &mut [u16],
-    levels: usize,
+    tape: &mut [u32; TAPE_WORDS],
 ) -> Walked
     requires { MayStart text.now from nodes pool node }
     ensures bounded { Bounded text.now from result }
-    ensures finishes { Finishes text.now levels at kind from nodes pool node tape.old tape.new result }
+    ensures finishes { Finishes text.now at kind from nodes pool node tape.old tape.new result }
 {
     match kind {
-        LIST_ORDERED | LIST_UNORDERED => list(
-            text, at, from, kind, nodes, pool, node, tape, levels,
-        ),
-        _ => inline(text, at, from, kind, nodes, pool, node, tape, levels),
+        LIST_ORDERED | LIST_UNORDERED => list(text, at, from, kind, nodes, pool, node, tape),
+        _ => inline(text, at, from, kind, nodes, pool, node, tape),
     }
 }
 
@@ -361,19 +256,18 @@ pub fn inline(
     nodes: usize,
     pool: usize,
     node: usize,
-    tape: &mut [u16],
-    levels: usize,
+    tape: &mut [u32; TAPE_WORDS],
 ) -> Walked
     requires { MayStart text.now from nodes pool node }
     ensures bounded { Bounded text.now from result }
-    ensures answers_from { AnswersFrom text.now levels at kind from 0 nodes pool node tape.old tape.new result }
+    ensures answers_from { AnswersFrom text.now at kind from 0 nodes pool node tape.old tape.new result }
 {
     let mut i = from;
     let mut state: u8 = 0;
     let mut n = nodes;
     let mut p = pool;
     loop {
-        let t = next_turn(text, at, i, kind, state, n, p, node, tape, levels);
+        let t = next_turn(text, at, i, kind, state, n, p, node, tape);
         match t {
             Turn::Done(w) => {
                 return w;
@@ -389,13 +283,13 @@ pub fn inline(
                 let child = match class {
                     LIST_ORDERED | LIST_UNORDERED => {
                         enter(tape, n, place, class, node, 0);
-                        let items = list(text, place, next, class, n + 1, p, n, tape, levels - 1);
+                        let items = list(text, place, next, class, n + 1, p, n, tape);
                         leave(tape, n, items);
                         items
                     }
-                    _ => inside(text, place, next, kind, class, n, p, node, tape, levels - 1),
+                    _ => inside(text, place, next, kind, class, n, p, node, tape),
                 };
-                let w = past_bracket(text, place, child);
+                let w = past_bracket(text, child);
                 if w.number != 0 {
                     return w;
                 }
@@ -419,12 +313,11 @@ fn list(
     nodes: usize,
     pool: usize,
     node: usize,
-    tape: &mut [u16],
-    levels: usize,
+    tape: &mut [u32; TAPE_WORDS],
 ) -> Walked
     requires { MayStart text.now from nodes pool node × ((kind ≡ Class.list_ordered) ⊎ (kind ≡ Class.list_unordered)) }
     ensures bounded { Bounded text.now from result }
-    ensures answers_from { AnswersFrom text.now levels at kind from 0 nodes pool node tape.old tape.new result }
+    ensures answers_from { AnswersFrom text.now at kind from 0 nodes pool node tape.old tape.new result }
 {
     let mut i = from;
     let mut state: u8 = 0;
@@ -445,14 +338,11 @@ fn list(
         if next <= i {
             return refusal(NOT_ALLOWED, place);
         }
-        if levels == 0 {
-            return refusal(NOT_ALLOWED, place);
-        }
         // An item: the step takes nothing else.
         enter(tape, n, place, ITEM, node, 0);
-        let child = item(text, place, next, n + 1, p, n, tape, levels - 1);
+        let child = item(text, place, next, n + 1, p, n, tape);
         leave(tape, n, child);
-        let w = past_bracket(text, place, child);
+        let w = past_bracket(text, child);
         if w.number != 0 {
             return w;
         }
@@ -472,12 +362,11 @@ fn item(
     nodes: usize,
     pool: usize,
     node: usize,
-    tape: &mut [u16],
-    levels: usize,
+    tape: &mut [u32; TAPE_WORDS],
 ) -> Walked
     requires { MayStart text.now from nodes pool node }
     ensures bounded { Bounded text.now from result }
-    ensures answers_from { AnswersFrom text.now levels at Class.item from 0 nodes pool node tape.old tape.new result }
+    ensures answers_from { AnswersFrom text.now at Class.item from 0 nodes pool node tape.old tape.new result }
 {
-    inline(text, at, from, ITEM, nodes, pool, node, tape, levels)
+    inline(text, at, from, ITEM, nodes, pool, node, tape)
 }

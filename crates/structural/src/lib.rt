@@ -1,5 +1,7 @@
 // What others call: reading in both spellings, the check of a table, and printing; the same for C and Rust, under plain names, each slice a pointer and a length.
 // What holds of calls one after the other is in proofs/.
+#![tactic(auto)]
+
 ghost use Rattle.std.specs.Prelude.{◌≡◌, [], ◌∷◌, ◌≤◌, length};
 ghost use Rattle.document.specs.rules.Spelling.{nested, imperative};
 ghost use Rattle.document.specs.rules.Memory.{over};

@@ -1,4 +1,6 @@
 // The records of a node table: their words, the strings that they name and what a node of a kind has (document 01, "The table").
+#![tactic(auto)]
+
 pub mod record; // record.rt: a record written
 
 ghost use Rattle.std.specs.Prelude.{◌≡◌};

@@ -7,7 +7,6 @@ pub mod Plain
 pub mod Rows
 pub mod Walk
 pub mod Ascii
-pub mod Cut
 pub mod Column
 pub mod Decode
 pub mod PositionBounds

@@ -1,7 +1,8 @@
 // UTF-8: which sequences of bytes are well formed, where a text stops being UTF-8, and the line and
 // column of a place (document 01, "Characters and brackets").
-ghost use Rattle.std.specs.Prelude.{◌≡◌, cond, [], ◌∷◌, ◌+◌, ◌≤◌, ◌<◌, min, eqb, drop, length};
-ghost use Rattle.utf8.specs.internal.Passed.{Passes};
+#![tactic(auto)]
+
+ghost use Rattle.std.specs.Prelude.{◌≡◌, cond, true, [], ◌∷◌, ◌+◌, ◌-◌, ◌≤◌, min, eqb, drop, length};
 ghost use Rattle.utf8.specs.reference.Sequence.{begins, begins_ascii, leading_ones, sequence_length, to, valid_up_to};
 ghost use Rattle.utf8.specs.rules.Position.{column_of, is_continuation, line_of};
 
@@ -93,94 +94,60 @@ fn sequence_length(text: &[u8], place: usize) -> usize
     4
 }
 
-// A byte as a part of a word.
-fn wide(b: u8) -> u64
-    ensures { (result ≡ b) × (result < 0x100) }
-{
-    b as u64
-}
-
-// Whether the eight bytes from a place on are ASCII: read as one word, in which each has its highest bit at a place of its own.
+// Whether the eight bytes from a place on are ASCII; `&`, which reads them all, has them compared at once.
 fn ascii_8(text: &[u8], place: usize) -> bool
     requires { place + 8 ≤ length text.now }
     ensures { result ≡ begins_ascii 8 (drop place text.now) }
 {
-    let word = wide(text[place])
-        + 0x100 * wide(text[place + 1])
-        + 0x10000 * wide(text[place + 2])
-        + 0x1000000 * wide(text[place + 3])
-        + 0x100000000 * wide(text[place + 4])
-        + 0x10000000000 * wide(text[place + 5])
-        + 0x1000000000000 * wide(text[place + 6])
-        + 0x100000000000000 * wide(text[place + 7]);
-    word & 0x8080808080808080 == 0
+    (text[place] < 0x80)
+        & (text[place + 1] < 0x80)
+        & (text[place + 2] < 0x80)
+        & (text[place + 3] < 0x80)
+        & (text[place + 4] < 0x80)
+        & (text[place + 5] < 0x80)
+        & (text[place + 6] < 0x80)
+        & (text[place + 7] < 0x80)
 }
 
-// Whether the 64 bytes from a place on are ASCII; `&`, which reads them all, has them tested at once.
-fn ascii_64(text: &[u8], place: usize) -> bool
-    requires { place + 64 ≤ length text.now }
-    ensures { result ≡ begins_ascii 64 (drop place text.now) }
-{
-    ascii_8(text, place)
-        & ascii_8(text, place + 8)
-        & ascii_8(text, place + 16)
-        & ascii_8(text, place + 24)
-        & ascii_8(text, place + 32)
-        & ascii_8(text, place + 40)
-        & ascii_8(text, place + 48)
-        & ascii_8(text, place + 56)
-}
-
-// The first byte from a place on that is not ASCII, and the text's end where there is none, one byte after the other.
-fn bytes_end(text: &[u8], place: usize) -> usize
+// Whether sixteen ASCII bytes stand from a place on.
+fn ascii_16(text: &[u8], place: usize) -> bool
     requires { place ≤ length text.now }
-    ensures { Passes text.now place result }
+    ensures { result ≡ begins_ascii 16 (drop place text.now) }
 {
-    let mut i = place;
-    while i < text.len() {
-        if 0x80 <= text[i] {
-            return i;
-        }
-        i += 1;
+    if text.len() - place < 16 {
+        return false;
     }
-    i
+    ascii_8(text, place) & ascii_8(text, place + 8)
 }
 
-// The same, by words of eight bytes while there are as many. The last may begin before the place.
-fn words_end(text: &[u8], place: usize) -> usize
+// Whether eight ASCII bytes stand from a place on.
+fn ascii_8_at(text: &[u8], place: usize) -> bool
     requires { place ≤ length text.now }
-    ensures { Passes text.now place result }
+    ensures { result ≡ begins_ascii 8 (drop place text.now) }
+{
+    if text.len() - place < 8 {
+        return false;
+    }
+    ascii_8(text, place)
+}
+
+// Whether at most sixteen bytes stand from a place to the text's end and are seen to be ASCII: by the last eight and, where
+// more are left, the eight at the place. The two blocks may overlap, and the last may begin before the place.
+fn ascii_end(text: &[u8], place: usize) -> bool
+    requires { place ≤ length text.now }
+    ensures { result ≡ true → begins_ascii (length text.now - place) (drop place text.now) ≡ true }
 {
     let n = text.len();
-    let mut i = place;
-    while 8 <= n - i {
-        if !ascii_8(text, i) {
-            return bytes_end(text, i);
-        }
-        i += 8;
-    }
     if n < 8 {
-        return bytes_end(text, i);
+        return false;
     }
-    if ascii_8(text, n - 8) {
-        return n;
+    if n - place <= 8 {
+        return ascii_8(text, n - 8);
     }
-    bytes_end(text, i)
-}
-
-// The same, by blocks of 64 bytes while there are as many.
-fn ascii_end(text: &[u8], place: usize) -> usize
-    requires { place ≤ length text.now }
-    ensures { Passes text.now place result }
-{
-    let mut i = place;
-    while 64 <= text.len() - i {
-        if !ascii_64(text, i) {
-            return words_end(text, i);
-        }
-        i += 64;
+    if n - place <= 16 {
+        return ascii_8(text, place) & ascii_8(text, n - 8);
     }
-    words_end(text, i)
+    false
 }
 
 // The place of the first ill_formed sequence, and the text's length where there is none. Most text is ASCII,
@@ -189,10 +156,21 @@ pub fn valid_up_to(text: &[u8]) -> usize
     ensures { result ≡ valid_up_to text.now }
 {
     let mut i = 0;
-    loop {
-        i = ascii_end(text, i);
-        if text.len() <= i {
-            return i;
+    while i < text.len() {
+        if ascii_16(text, i) {
+            i += 16;
+            continue;
+        }
+        if ascii_end(text, i) {
+            return text.len();
+        }
+        if ascii_8_at(text, i) {
+            i += 8;
+            continue;
+        }
+        if text[i] < 0x80 {
+            i += 1;
+            continue;
         }
         let n = sequence_length(text, i);
         if n == 0 {
@@ -200,6 +178,7 @@ pub fn valid_up_to(text: &[u8]) -> usize
         }
         i += n;
     }
+    i
 }
 
 // The lesser of two numbers.

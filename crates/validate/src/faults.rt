@@ -13,11 +13,11 @@ ghost use Rattle.table.specs.Stored.{word_at};
 ghost use Rattle.validate.specs.internal.IdIndex.{Indexed};
 ghost use Rattle.validate.specs.internal.TableWords.{entries_from, ids_before, repeats_at, dangles_at, found, cells_found, Family, Below, Binder, Spot, Searched};
 
-use super::index::{ANY, LINKS, has_id, key, known, seek};
+use super::index::{ANY, enter, has_id, known, slot};
 use base::limit::MOST_NODES;
 use base::number::{OK, REPEATED_ID, ROW_LENGTH, UNKNOWN_FOOTNOTE, UNKNOWN_TARGET};
 use kind::Kind;
-use table::{END, KIND, PARENT, RECORD, word};
+use table::{END, KEY, KIND, PARENT, RECORD, string, word};
 
 // The kinds that the check looks at, as words.
 const FOOTNOTE: usize = Kind::FOOTNOTE.number as usize;
@@ -49,34 +49,46 @@ enum Found {
 }
 
 // 16: whether node `i` is a block whose id is on an earlier block. An id that is on none enters the index.
-fn repeats(nodes: &[u32], i: usize, pool: &[u8], links: &mut [u16; LINKS]) -> bool
-    requires { (i < most_nodes) × (record_length * (i + 1) ≤ length nodes.now) × Indexed nodes.now pool.now i links.old }
+fn repeats(
+    nodes: &[u32],
+    i: usize,
+    pool: &[u8],
+    heads: &mut [u32; MOST_NODES],
+    nexts: &mut [u32; MOST_NODES],
+) -> bool
+    requires { (i < most_nodes) × Indexed nodes.now pool.now i heads.old nexts.old }
     ensures { (result ≡ repeats_at nodes.now pool.now i)
-        × (result ≡ false → Indexed nodes.now pool.now (i + 1) links.new) }
+        × (result ≡ false → Indexed nodes.now pool.now (i + 1) heads.new nexts.new) }
 {
     if !has_id(nodes, i, pool, ANY) {
         return false;
     }
-    let id = key(nodes, i, pool);
-    let at = seek(nodes, i, pool, links, ANY, id);
-    if links[at] != 0 {
+    let id = string(nodes, i, KEY, pool);
+    let s = slot(id);
+    if known(nodes, i, pool, heads, nexts, s, ANY, id) {
         return true;
     }
-    links[at] = (i + 1) as u16;
+    enter(heads, nexts, s, i);
     false
 }
 
 // The first such node; where there is none, the ids of all nodes have entered. The kind is tested first, here and in the loops below,
 // since most nodes are passed by it alone.
-fn first_repeated(nodes: &[u32], count: usize, pool: &[u8], links: &mut [u16; LINKS]) -> Found
-    requires { (count ≤ most_nodes) × (record_length * count ≤ length nodes.now) × Indexed nodes.now pool.now 0 links.old }
+fn first_repeated(
+    nodes: &[u32],
+    count: usize,
+    pool: &[u8],
+    heads: &mut [u32; MOST_NODES],
+    nexts: &mut [u32; MOST_NODES],
+) -> Found
+    requires { (count ≤ most_nodes) × (record_length * count ≤ length nodes.now) × Indexed nodes.now pool.now 0 heads.old nexts.old }
     ensures { (result ≡ found (found_repeated_id [] (entries_from nodes.now pool.now count 0)))
-        × (result ≡ Found.Nothing → Indexed nodes.now pool.now count links.new) }
+        × (result ≡ Found.Nothing → Indexed nodes.now pool.now count heads.new nexts.new) }
 {
     let mut i = 0;
     while i < count {
         if nodes[RECORD * i] as usize <= FOOTNOTE {
-            if repeats(nodes, i, pool, links) {
+            if repeats(nodes, i, pool, heads, nexts) {
                 return Found::At(i);
             }
         }
@@ -90,34 +102,36 @@ fn dangles(
     nodes: &[u32],
     count: usize,
     pool: &[u8],
-    links: &[u16; LINKS],
+    heads: &[u32; MOST_NODES],
+    nexts: &[u32; MOST_NODES],
     i: usize,
     kind: usize,
     only: usize,
 ) -> bool
-    requires { (word_at nodes.now i Word.kind ≡ kind) × (i < count) × (record_length * count ≤ length nodes.now) × Indexed nodes.now pool.now count links.now }
+    requires { (word_at nodes.now i Word.kind ≡ kind) × Indexed nodes.now pool.now count heads.now nexts.now }
     ensures { result ≡ dangles_at nodes.now pool.now kind (ids_before nodes.now pool.now only count) i }
 {
-    let id = key(nodes, i, pool);
-    !known(nodes, count, pool, links, only, id)
+    let id = string(nodes, i, KEY, pool);
+    !known(nodes, count, pool, heads, nexts, slot(id), only, id)
 }
 
 fn first_unknown(
     nodes: &[u32],
     count: usize,
     pool: &[u8],
-    links: &[u16; LINKS],
+    heads: &[u32; MOST_NODES],
+    nexts: &[u32; MOST_NODES],
     kind: usize,
     only: usize,
 ) -> Found
-    requires { (record_length * count ≤ length nodes.now) × Indexed nodes.now pool.now count links.now }
+    requires { (record_length * count ≤ length nodes.now) × Indexed nodes.now pool.now count heads.now nexts.now }
     ensures { result ≡ found (found_unknown_target kind (ids_before nodes.now pool.now only count)
         (entries_from nodes.now pool.now count 0)) }
 {
     let mut i = 0;
     while i < count {
         if nodes[RECORD * i] as usize == kind {
-            if dangles(nodes, count, pool, links, i, kind, only) {
+            if dangles(nodes, count, pool, heads, nexts, i, kind, only) {
                 return Found::At(i);
             }
         }
@@ -228,22 +242,23 @@ pub fn check_table(nodes: &[u32], count: usize, pool: &[u8]) -> Fault
             node: i,
         };
     }
-    let mut links = [0u16; LINKS];
-    let id = first_repeated(nodes, count, pool, &mut links);
+    let mut heads = [0u32; MOST_NODES];
+    let mut nexts = [0u32; MOST_NODES];
+    let id = first_repeated(nodes, count, pool, &mut heads, &mut nexts);
     if let Found::At(i) = id {
         return Fault {
             number: REPEATED_ID,
             node: i,
         };
     }
-    let link = first_unknown(nodes, count, pool, &links, LINK, ANY);
+    let link = first_unknown(nodes, count, pool, &heads, &nexts, LINK, ANY);
     if let Found::At(i) = link {
         return Fault {
             number: UNKNOWN_TARGET,
             node: i,
         };
     }
-    let note = first_unknown(nodes, count, pool, &links, FOOTNOTE_REF, FOOTNOTE);
+    let note = first_unknown(nodes, count, pool, &heads, &nexts, FOOTNOTE_REF, FOOTNOTE);
     if let Found::At(i) = note {
         return Fault {
             number: UNKNOWN_FOOTNOTE,

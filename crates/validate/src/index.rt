@@ -1,26 +1,20 @@
 // An index of the ids of blocks, so that faults 16 to 18 take no pass over the nodes for each id.
-// Each id has a slot; there are as many slots as a table may have nodes. Below a slot stands a tree of the nodes that entered: a node has four links, and a search goes past it by one of
-// them, which two bits of the id choose, other bits at each depth. So a search passes at most four nodes for each byte of the id and a few more, whatever ids there are.
-// `links` has first a link for each slot and then four for each node: a node's number + 1, or 0 for none.
-ghost use Rattle.std.specs.Prelude.{◌≡◌, ◌&&◌, ◌+◌, ◌*◌, ◌<◌, ◌≤◌, length};
-ghost use Rattle.document.specs.rules.Record.{record_length};
+// Each id has a slot; there are as many slots as a table may have nodes. `heads` has the last node of each slot, and `nexts` the one before each node in its slot: its number + 1, or 0 for none.
+ghost use Rattle.std.specs.Prelude.{◌≡◌, ◌&&◌, ◌+◌, ◌<◌, set, get_or};
+ghost use Rattle.base.specs.rules.Limits.{most_nodes};
 ghost use Rattle.document.specs.rules.Record as Word;
 ghost use Rattle.document.specs.reference.Check.{is_among, holds_id};
 ghost use Rattle.table.specs.Stored.{word_at};
-ghost use Rattle.validate.specs.internal.TableWords.{key_at, entry_of_node, wanted, ids_before};
-ghost use Rattle.validate.specs.internal.IdIndex.{slot_of, way_of, Indexed, Sought};
+ghost use Rattle.validate.specs.internal.TableWords.{entry_of_node, wanted, ids_before};
+ghost use Rattle.validate.specs.internal.IdIndex.{slot_of, Indexed};
 
-use super::alike::alike;
+use base::equal;
 use base::limit::MOST_NODES;
 use kind::Kind;
-use table::{KEY, KIND, RECORD, part, string, word};
+use table::{KEY, KIND, string, word};
 
 // Stands for blocks of any kind. Blocks are the kinds from document to footnote.
 pub const ANY: usize = 0;
-
-const WAYS: usize = 4;
-
-pub const LINKS: usize = MOST_NODES + WAYS * MOST_NODES;
 
 const DOCUMENT: usize = Kind::DOCUMENT.number as usize;
 
@@ -58,70 +52,40 @@ pub fn has_id(nodes: &[u32], i: usize, pool: &[u8], only: usize) -> bool
     string(nodes, i, KEY, pool).len() != 0
 }
 
-// The id or target of node `i`, whose record is within the words.
-pub fn key<'a>(nodes: &[u32], i: usize, pool: &'a [u8]) -> &'a [u8]
-    requires { record_length * (i + 1) ≤ length nodes.now }
-    ensures { result.now ≡ key_at nodes.now pool.now i }
-{
-    let at = RECORD * i + KEY;
-    let offset = nodes[at] as usize;
-    let size = nodes[at + 1] as usize;
-    part(pool, offset, size)
-}
-
-// The link by which a search for an id goes past a node that it meets at a depth.
-fn way(id: &[u8], depth: usize) -> usize
-    ensures { (result ≡ way_of id.now depth) × (result < 4) }
-{
-    let back = depth / 4;
-    if id.len() <= back {
-        return 0;
-    }
-    (id[id.len() - 1 - back] as usize >> (2 * (depth % 4))) % 4
-}
-
-// Where a search for an id among the first `count` nodes, which have entered, ends: at the link to a block of the kind `only` or, where that is 0, of any, which has it;
-// or at a link to none, where a block with this id enters.
-pub fn seek(
-    nodes: &[u32],
-    count: usize,
-    pool: &[u8],
-    links: &[u16; LINKS],
-    only: usize,
-    id: &[u8],
-) -> usize
-    requires { (record_length * count ≤ length nodes.now) × Indexed nodes.now pool.now count links.now }
-    ensures { Sought nodes.now pool.now count links.now only id.now result }
-{
-    let mut at = slot(id);
-    let mut depth = 0;
-    let mut j = links[at] as usize;
-    while 0 < j {
-        let i = j - 1;
-        if alike(id, key(nodes, i, pool)) {
-            if has_id(nodes, i, pool, only) {
-                return at;
-            }
-        }
-        at = MOST_NODES + WAYS * i + way(id, depth);
-        depth += 1;
-        j = links[at] as usize;
-    }
-    at
-}
-
-// Whether a string is the id of one of the first `count` nodes, which have entered: blocks of the kind `only` or, where that is 0, of any.
+// Whether a string of slot `s` is the id of one of the first `count` nodes, which have entered:
+// blocks of the kind `only` or, where that is 0, of any.
 pub fn known(
     nodes: &[u32],
     count: usize,
     pool: &[u8],
-    links: &[u16; LINKS],
+    heads: &[u32; MOST_NODES],
+    nexts: &[u32; MOST_NODES],
+    s: usize,
     only: usize,
     id: &[u8],
 ) -> bool
-    requires { (record_length * count ≤ length nodes.now) × Indexed nodes.now pool.now count links.now }
+    requires { (s ≡ slot_of id.now) × Indexed nodes.now pool.now count heads.now nexts.now }
     ensures { result ≡ is_among id.now (ids_before nodes.now pool.now only count) }
 {
-    let at = seek(nodes, count, pool, links, only, id);
-    links[at] != 0
+    let mut j = heads[s] as usize;
+    while 0 < j {
+        let i = j - 1;
+        if has_id(nodes, i, pool, only) {
+            if equal(id, string(nodes, i, KEY, pool)) {
+                return true;
+            }
+        }
+        j = nexts[i] as usize;
+    }
+    false
+}
+
+// Node `i` becomes the last of slot `s`.
+pub fn enter(heads: &mut [u32; MOST_NODES], nexts: &mut [u32; MOST_NODES], s: usize, i: usize)
+    requires { (s < most_nodes) × (i < most_nodes) }
+    ensures { (nexts.new ≡ set nexts.old i (get_or heads.old s 0))
+        × (heads.new ≡ set heads.old s (i + 1)) }
+{
+    nexts[i] = heads[s];
+    heads[s] = (i + 1) as u32;
 }

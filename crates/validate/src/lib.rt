@@ -1,5 +1,6 @@
 // Is it the table of a document within the limits (20), and has that document a fault 15 to 18?
-mod alike; // alike.rt: whether two strings are equal
+#![tactic(auto)]
+
 mod draft; // draft.rt: whether words and pool are the table of a document
 mod faults; // faults.rt: 15 to 18
 mod index; // index.rt: the ids of blocks, to look them up

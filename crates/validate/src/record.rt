@@ -2,7 +2,7 @@
 ghost use Rattle.std.specs.Prelude.{◌≡◌, List, ℕ, ◌+◌, ◌*◌, ◌≤◌, ◌<◌, length};
 ghost use Rattle.document.specs.rules.Record.{record_length};
 ghost use Rattle.table.specs.Stored.{word_at, Recorded};
-ghost use Rattle.validate.specs.internal.DraftWalk.{refused, Decided, NamesStringAt, TextAlone, BareAt, KindAt, StringsEnd};
+ghost use Rattle.validate.specs.internal.DraftWalk.{Decided, NamesStringAt, RecordAt, TextAlone, ElementAt, value_levels};
 
 use kind::Kind;
 use table::{
@@ -12,9 +12,6 @@ use table::{
 
 // What stands for a missing width or height, as a word.
 const MISSING_WORD: u32 = MISSING as u32;
-
-// No place: what is refused leaves none behind it, and no pool is so long.
-pub const REFUSED: usize = 18446744073709551615;
 
 // "Kinds are numbered 1 to 25".
 const FIRST_KIND: u32 = Kind::DOCUMENT.number as u32;
@@ -46,6 +43,25 @@ pub fn string_stands(offset: u32, length: u32, p: usize, size: usize) -> bool
     offset as usize == p
 }
 
+// Whether a record has this parent, and its strings stand from `p` on.
+pub fn stands(r: &[u32], size: usize, parent: usize, p: usize) -> bool
+    requires { (length r.now ≡ record_length) × (p ≤ size) }
+    ensures { (words : List ℕ) (i : ℕ) → Recorded words i r.now → Decided (RecordAt words size i parent p) result }
+{
+    if r[PARENT] as usize != parent {
+        return false;
+    }
+    if !string_stands(r[KEY], r[KEY_LENGTH], p, size) {
+        return false;
+    }
+    let type_at = p + r[KEY_LENGTH] as usize;
+    if !string_stands(r[TYPE], r[TYPE_LENGTH], type_at, size) {
+        return false;
+    }
+    let text_at = type_at + r[TYPE_LENGTH] as usize;
+    string_stands(r[TEXT], r[TEXT_LENGTH], text_at, size)
+}
+
 // Whether a record has this parent and end, a text, and no other string and no size.
 pub fn text_alone(r: &[u32], parent: usize, end: usize) -> bool
     requires { length r.now ≡ record_length }
@@ -62,57 +78,41 @@ pub fn text_alone(r: &[u32], parent: usize, end: usize) -> bool
         & (r[HEIGHT] == MISSING_WORD)
 }
 
-// Whether a record has no string and no size.
-pub fn bare(r: &[u32]) -> bool
+// The levels of an element's values.
+pub fn value_levels(r: &[u32]) -> usize
     requires { length r.now ≡ record_length }
-    ensures { (words : List ℕ) (i : ℕ) → Recorded words i r.now → Decided (BareAt words i) result }
+    ensures { (words : List ℕ) (i : ℕ) → Recorded words i r.now → result ≡ value_levels words i }
 {
-    (r[KEY] == 0)
-        & (r[KEY_LENGTH] == 0)
-        & (r[TYPE] == 0)
-        & (r[TYPE_LENGTH] == 0)
-        & (r[TEXT] == 0)
-        & (r[TEXT_LENGTH] == 0)
-        & (r[WIDTH] == MISSING_WORD)
-        & (r[HEIGHT] == MISSING_WORD)
+    if r[WIDTH] != MISSING_WORD {
+        return 1;
+    }
+    if r[KEY_LENGTH] != 0 {
+        return 1;
+    }
+    if r[TYPE_LENGTH] != 0 {
+        return 1;
+    }
+    0
 }
 
-// Whether a record has this parent and a kind.
-pub fn element_fits(r: &[u32], parent: usize) -> bool
+// Whether a record may be that of an element that nests at most `left` levels; its values nest `levels`.
+pub fn element_fits(r: &[u32], levels: usize, left: usize) -> bool
     requires { length r.now ≡ record_length }
-    ensures { (words : List ℕ) (i : ℕ) → Recorded words i r.now → Decided (KindAt words i parent) result }
+    ensures { (words : List ℕ) (i : ℕ) → Recorded words i r.now → levels ≡ value_levels words i → Decided (ElementAt words i left) result }
 {
-    if r[PARENT] as usize != parent {
-        return false;
-    }
     if r[KIND] < FIRST_KIND {
         return false;
     }
-    r[KIND] <= LAST_KIND
-}
-
-// Where the strings of an element end that stand from `p` on, within a pool of that size. Width and height are missing together.
-pub fn strings_end(r: &[u32], p: usize, size: usize) -> usize
-    requires { (length r.now ≡ record_length) × (p ≤ size) × (size < refused) }
-    ensures { (words : List ℕ) (i : ℕ) → Recorded words i r.now → StringsEnd words i p size result }
-{
-    if r[TEXT] != 0 {
-        return REFUSED;
+    if LAST_KIND < r[KIND] {
+        return false;
     }
     if r[TEXT_LENGTH] != 0 {
-        return REFUSED;
+        return false;
     }
     if r[WIDTH] == MISSING_WORD {
         if r[HEIGHT] != MISSING_WORD {
-            return REFUSED;
+            return false;
         }
     }
-    if !string_stands(r[KEY], r[KEY_LENGTH], p, size) {
-        return REFUSED;
-    }
-    let type_at = p + r[KEY_LENGTH] as usize;
-    if !string_stands(r[TYPE], r[TYPE_LENGTH], type_at, size) {
-        return REFUSED;
-    }
-    type_at + r[TYPE_LENGTH] as usize
+    levels < left
 }

@@ -1,13 +1,11 @@
 // The values of an element: id or target, size, type (document 01, "Elements").
-ghost use Rattle.std.specs.Prelude.{◌≡◌, ◌&&◌, List, ℕ, ◌+◌, ◌*◌, ◌≤◌, ◌<◌, length};
+ghost use Rattle.std.specs.Prelude.{◌≡◌, ◌&&◌, List, ℕ, ◌+◌, ◌*◌, ◌≤◌, length};
 ghost use Rattle.document.specs.rules.Record.{record_length};
-ghost use Rattle.document.specs.rules.Record as Word;
 ghost use Rattle.elements.specs.rules.Class as Class;
 ghost use Rattle.elements.specs.rules.Characters.{character_of};
 ghost use Rattle.document.specs.rules.Value.{is_value, non_empty, every};
-ghost use Rattle.document.specs.rules.Canonical.{key_class, value_before, size_before};
-ghost use Rattle.table.specs.Stored.{string_at, Recorded};
-ghost use Rattle.validate.specs.internal.DraftWalk.{no_state, held, TakesValues, node_values};
+ghost use Rattle.document.specs.rules.Canonical.{value_before, size_before};
+ghost use Rattle.validate.specs.internal.DraftWalk.{TakesValues, node_values};
 
 use super::OK;
 use super::record::words;
@@ -19,8 +17,12 @@ use table::{HEIGHT, KEY, KEY_LENGTH, MISSING, TYPE, TYPE_LENGTH, WIDTH, key_clas
 // A width or a height: "at most 65,535 each".
 const MOST_SIZE: usize = 65535;
 
-// No state: a value that is refused leaves none behind it. A state is a byte.
-pub const NO_STATE: u32 = 256;
+// Whether what stands before the rest is taken, and the state after it.
+#[derive(Drop)]
+pub struct Taken {
+    pub ok: bool,
+    pub state: u8,
+}
 
 // Whether all bytes are characters of that sort: 0 of a type, 1 of an id, any other of a URI.
 fn fits(bytes: &[u8], sort: u8) -> bool
@@ -57,82 +59,66 @@ fn sort(kind: u8, class: u8) -> u8
 }
 
 // A value, where it is there.
-fn take_value(kind: u8, state: u8, class: u8, bytes: &[u8]) -> u32
+fn take_value(kind: u8, state: u8, class: u8, bytes: &[u8]) -> Taken
     requires { (Class.id ≤ class) × (class ≤ Class.target) }
-    ensures { TakesValues kind (value_before class bytes.now) state (held result) result × (result ≤ no_state) }
+    ensures { TakesValues kind (value_before class bytes.now) state result.ok result.state }
 {
     if bytes.len() == 0 {
-        return state as u32;
+        return Taken { ok: true, state };
     }
     let taken = step(kind, state, class);
     if taken.fault != OK {
-        return NO_STATE;
+        return Taken { ok: false, state };
     }
-    if !fits(bytes, sort(kind, class)) {
-        return NO_STATE;
+    Taken {
+        ok: fits(bytes, sort(kind, class)),
+        state: taken.state,
     }
-    taken.state as u32
-}
-
-// The id or target of a record, where it is there.
-fn take_key(r: &[u32], pool: &[u8], kind: u8, state: u8) -> u32
-    requires { length r.now ≡ record_length }
-    ensures { ((words : List ℕ) (i : ℕ) → Recorded words i r.now
-        → TakesValues kind (value_before (key_class kind) (string_at words pool.now i Word.key_offset)) state (held result) result) × (result ≤ no_state) }
-{
-    if r[KEY_LENGTH] == 0 {
-        return state as u32;
-    }
-    let bytes = part(pool, r[KEY] as usize, r[KEY_LENGTH] as usize);
-    take_value(kind, state, key_class(kind as usize), bytes)
-}
-
-// The type of a record, where it is there.
-fn take_type(r: &[u32], pool: &[u8], kind: u8, state: u8) -> u32
-    requires { length r.now ≡ record_length }
-    ensures { ((words : List ℕ) (i : ℕ) → Recorded words i r.now
-        → TakesValues kind (value_before Class.type (string_at words pool.now i Word.type_offset)) state (held result) result) × (result ≤ no_state) }
-{
-    if r[TYPE_LENGTH] == 0 {
-        return state as u32;
-    }
-    let bytes = part(pool, r[TYPE] as usize, r[TYPE_LENGTH] as usize);
-    take_value(kind, state, Keyword::TYPE.number, bytes)
 }
 
 // A size, where it is there.
-fn take_size(kind: u8, state: u8, width: usize, height: usize) -> u32
-    ensures { TakesValues kind (size_before width height) state (held result) result × (result ≤ no_state) }
+fn take_size(kind: u8, state: u8, width: usize, height: usize) -> Taken
+    ensures { TakesValues kind (size_before width height) state result.ok result.state }
 {
     if width == MISSING {
-        return state as u32;
+        return Taken { ok: true, state };
     }
     if MOST_SIZE < width {
-        return NO_STATE;
+        return Taken { ok: false, state };
     }
     if MOST_SIZE < height {
-        return NO_STATE;
+        return Taken { ok: false, state };
     }
     let taken = step(kind, state, Keyword::SIZE.number);
-    if taken.fault != OK {
-        return NO_STATE;
+    Taken {
+        ok: taken.fault == OK,
+        state: taken.state,
     }
-    taken.state as u32
 }
 
-// The values of node `i` of a kind, "id before type", in an element that is read so far to a state: the state after them.
-pub fn values(nodes: &[u32], pool: &[u8], i: usize, kind: u8, state: u8) -> u32
+// The values of node `i` of a kind, "id before type".
+pub fn values(nodes: &[u32], pool: &[u8], i: usize, kind: u8, state: u8) -> Taken
     requires { record_length * i + record_length ≤ length nodes.now }
-    ensures { TakesValues kind (node_values nodes.now pool.now kind i) state (held result) result × (result ≤ no_state) }
+    ensures { TakesValues kind (node_values nodes.now pool.now kind i) state result.ok result.state }
 {
     let r = words(nodes, i);
-    let key = take_key(r, pool, kind, state);
-    if key == NO_STATE {
-        return NO_STATE;
+    let bytes = part(pool, r[KEY] as usize, r[KEY_LENGTH] as usize);
+    let key = take_value(kind, state, key_class(kind as usize), bytes);
+    if !key.ok {
+        return Taken { ok: false, state };
     }
-    let size = take_size(kind, key as u8, r[WIDTH] as usize, r[HEIGHT] as usize);
-    if size == NO_STATE {
-        return NO_STATE;
+    let size = take_size(kind, key.state, r[WIDTH] as usize, r[HEIGHT] as usize);
+    if !size.ok {
+        return Taken { ok: false, state };
     }
-    take_type(r, pool, kind, size as u8)
+    // most elements have no type
+    if r[TYPE_LENGTH] == 0 {
+        return size;
+    }
+    take_value(
+        kind,
+        size.state,
+        Keyword::TYPE.number,
+        part(pool, r[TYPE] as usize, r[TYPE_LENGTH] as usize),
+    )
 }

@@ -6,14 +6,14 @@ use Prim.Native.Nat.{ℕ, zero, suc, ◌+◌, ◌≤◌, ◌<◌}
 use native.Mathlib.Nat.{add-zero}
 use native.Mathlib.Omega.{arith}
 use lib.Dec.{leb, leb-suc-suc}
-use borrow.Author.Tests.{leb-true, leb-false, le-leb, lt-leb}
+use borrow.Author.Tests.{leb-true, le-leb, lt-leb}
 use lib.ListN.{length, take, drop, get_or, drop_of_length-le}
 use lib.Seq.{drop-cons, drop-drop}
 use Rattle.syntax.specs.rules.Byte.{is_raw}
 use Rattle.syntax.specs.rules.Syntax.{raw, is_piece}
 use Rattle.syntax.specs.reference.Scan.{Quoted, piece, quoted_from}
 use Rattle.syntax.proofs.Strings.{raw_tests}
-use Rattle.atoms.specs.internal.Run.{plain_run, Halved}
+use Rattle.atoms.specs.internal.Run.{plain_run}
 
 -- So many plain bytes stand at the front, and so many more after them.
 front : (m n : ℕ) (s : List ℕ) → leb m (length (plain_run s)) && leb n (length (plain_run (drop m s))) ≡ leb (m + n) (length (plain_run s))
@@ -72,48 +72,21 @@ plain_stop text i h e = rw (drop-cons text i 0 h, e)
 plain_more : (text : List ℕ) (i n : ℕ) → i + n < length text → leb n (plains text i) && is_raw (get_or text (i + n) 0) ≡ leb (n + 1) (plains text i)
 plain_more text i n h = rw (plain_one text (i + n) h) (plain_blocks text i n 1)
 
-pub plain_four : (text : List ℕ) (i : ℕ) → i + 4 ≤ length text
-    → is_raw (get_or text i 0) && is_raw (get_or text (i + 1) 0) && is_raw (get_or text (i + 2) 0) && is_raw (get_or text (i + 3) 0) ≡ leb 4 (plains text i)
-plain_four text i h =
-    rw (plain_one text i (omega arith), plain_more text i 1 (omega arith), plain_more text i 2 (omega arith), plain_more text i 3 (omega arith))
-
-plain_next : (text : List ℕ) (i n : ℕ) → i + n < length text → leb n (plains text i) ≡ true → is_raw (get_or text (i + n) 0) ≡ true
-    → leb (n + 1) (plains text i) ≡ true
-plain_next text i n h e f = sym (plain_more text i n h) ∙ rw (e, f)
-
--- The run ends at the byte after n of its own that is not plain.
-plain_at : (text : List ℕ) (i n : ℕ) → i + n < length text → leb n (plains text i) ≡ true → is_raw (get_or text (i + n) 0) ≡ false → plains text i ≡ n
-plain_at text i n h e f =
-    let none : leb (n + 1) (plains text i) ≡ false = sym (plain_more text i n h) ∙ rw (e, f) in
-    omega (arith, leb-true n (plains text i) e, leb-false (n + 1) (plains text i) none)
-
--- A run among four bytes, of which the first are plain.
-module _ (text : List ℕ) (i : ℕ) (h : i + 4 ≤ length text) (one : is_raw (get_or text i 0) ≡ true) where
-  one_plain : leb 1 (plains text i) ≡ true
-  one_plain = sym (plain_one text i (omega arith)) ∙ one
-
-  pub ends_at_1 : is_raw (get_or text (i + 1) 0) ≡ false → plains text i ≡ 1
-  ends_at_1 e = plain_at text i 1 (omega arith) one_plain e
-
-  module _ (two : is_raw (get_or text (i + 1) 0) ≡ true) where
-    two_plain : leb 2 (plains text i) ≡ true
-    two_plain = plain_next text i 1 (omega arith) one_plain two
-
-    pub ends_at_2 : is_raw (get_or text (i + 2) 0) ≡ false → plains text i ≡ 2
-    ends_at_2 e = plain_at text i 2 (omega arith) two_plain e
-
-    pub three_plain : is_raw (get_or text (i + 2) 0) ≡ true → 3 ≤ plains text i
-    three_plain e = leb-true 3 (plains text i) (plain_next text i 2 (omega arith) two_plain e)
-
--- Which half a run ends in.
-module _ (text : List ℕ) (i n : ℕ) where
-  pub half_passed : leb n (plains text i) ≡ true → Halved text i n (i + n)
-  half_passed e =
-      let same : i + n + plains text (i + n) ≡ i + plains text i = plain_passed text i n e in
-      record { same = same; near = omega arith; less = λ h. omega arith }
-
-  pub half_stayed : leb n (plains text i) ≡ false → Halved text i n i
-  half_stayed e = record { same = refl; near = omega arith; less = λ h. omega (arith, leb-false n (plains text i) e) }
+pub plain_eight : (text : List ℕ) (i : ℕ) → i + 8 ≤ length text
+    → is_raw (get_or text i 0) && is_raw (get_or text (i + 1) 0) && is_raw (get_or text (i + 2) 0) && is_raw (get_or text (i + 3) 0)
+    && is_raw (get_or text (i + 4) 0) && is_raw (get_or text (i + 5) 0) && is_raw (get_or text (i + 6) 0) && is_raw (get_or text (i + 7) 0)
+    ≡ leb 8 (plains text i)
+plain_eight text i h =
+    rw (
+      plain_one text i (omega arith),
+      plain_more text i 1 (omega arith),
+      plain_more text i 2 (omega arith),
+      plain_more text i 3 (omega arith),
+      plain_more text i 4 (omega arith),
+      plain_more text i 5 (omega arith),
+      plain_more text i 6 (omega arith),
+      plain_more text i 7 (omega arith),
+    )
 
 -- A run is the text's bytes from its place on.
 pub plain_part : (s : List ℕ) → take (length (plain_run s)) s ≡ plain_run s

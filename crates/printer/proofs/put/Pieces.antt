@@ -2,21 +2,19 @@
 use Prim.Native.Nat.{ℕ, ◌+◌, ◌-◌, ◌/◌, ◌%◌, ◌<◌, ◌≤◌}
 use mathlib.Core.Path.{◌≡◌, refl, sym, ap, ◌∙◌}
 use mathlib.Core.Bool.{Bool, true, false, cond, ◌||◌}
-use mathlib.Core.List.{List, [], ◌∷◌, ◌++◌, append_assoc, append-nil}
+use mathlib.Core.List.{List, [], ◌∷◌, ◌++◌, append-nil}
 use native.Mathlib.Numerals.{add-one}
 use native.Mathlib.Omega.{arith}
 use lib.Dec.{eqb, ltb}
 use lib.ListN.{length, get_or, take, drop}
 use lib.Seq.{take-suc, take_all}
 use borrow.Author.Tests.{eq-eqb, ne_eqb}
-use Rattle.base.proofs.Booleans.{cond_case}
 use Rattle.elements.specs.rules.Bytes.{codes}
 use Rattle.elements.specs.rules.Class as Class
 use Rattle.base.specs.rules.Limits.{missing}
-use Rattle.document.specs.rules.Canonical.{key_class, value_before, size_before, hex_byte, unicode_before, byte_before, bytes_before, quoted_before, digit, digits, brackets_before, string_before, inside_before}
+use Rattle.document.specs.rules.Canonical.{value_before, size_before, hex_byte, unicode_before, byte_before, bytes_before, quoted_before, digit, digits, brackets_before, string_before, inside_before}
 use Rattle.printer.specs.internal.Inside.{trees_inside, value_inside, size_inside}
-use Rattle.printer.specs.internal.Pieces.{letter_of, leading_of, value_open}
-use Rattle.printer.specs.internal.Raw.{Raw}
+use Rattle.printer.specs.internal.Pieces.{letter_of, leading_of}
 use Rattle.printer.proofs.Appended.{bytes_append, string_append}
 
 abbrev pick : {A : Type 0} → Bool → Bool → Bool → Bool → A → A → A → A → A → A
@@ -121,54 +119,6 @@ pub value_parts : (c : ℕ) (s : List ℕ) → (length s ≡ 0 → ⊥)
 unfolding value_inside trees_inside value_before inside_before brackets_before
 value_parts c [] h = absurd (h refl)
 value_parts c (b ∷ s) h = ap (λ (l : List ℕ). 0x20 ∷ 0x5B ∷ (Class.name_of c ++ (0x20 ∷ l))) (sym (string_append c (b ∷ s) (0x5D ∷ [])))
-
--- The openings of the values, as their bytes.
-pub id_open : (c : ℕ) → c ≡ Class.id → 0x20 ∷ 0x5B ∷ 0x69 ∷ 0x64 ∷ 0x20 ∷ [] ≡ value_open c
-unfolding value_open Class.name_of Class.name_in Class.names Class.as_name codes
-id_open c e = rw e
-
-pub type_open : (c : ℕ) → c ≡ Class.type → 0x20 ∷ 0x5B ∷ 0x74 ∷ 0x79 ∷ 0x70 ∷ 0x65 ∷ 0x20 ∷ [] ≡ value_open c
-unfolding value_open Class.name_of Class.name_in Class.names Class.as_name codes
-type_open c e = rw e
-
-pub target_open : (c : ℕ) → c ≡ Class.target → 0x20 ∷ 0x5B ∷ 0x74 ∷ 0x61 ∷ 0x72 ∷ 0x67 ∷ 0x65 ∷ 0x74 ∷ 0x20 ∷ [] ≡ value_open c
-unfolding value_open Class.name_of Class.name_in Class.names Class.as_name codes
-target_open c e = rw e
-
--- A value as its opening, its string and the closing bracket.
-pub open_parts : (c : ℕ) (s : List ℕ) → (length s ≡ 0 → ⊥) → value_open c ++ (string_before c s [] ++ (0x5D ∷ [])) ≡ value_inside c s
-unfolding value_open
-open_parts c s h = regrouped (Class.name_of c) (string_before c s []) ∙ value_parts c s h
-  where
-    regrouped : (name string : List ℕ) → ◌≡◌ {A = List ℕ} ((0x20 ∷ 0x5B ∷ (name ++ (0x20 ∷ []))) ++ (string ++ (0x5D ∷ [])))
-        (0x20 ∷ 0x5B ∷ (name ++ (0x20 ∷ (string ++ (0x5D ∷ [])))))
-    regrouped name string = simp append_assoc
-
--- A symbol as its opening, its bytes and the closing bracket.
-pub symbol_parts : (c : ℕ) (opening s : List ℕ) → opening ≡ value_open c → (c ≡ Class.target → ⊥) → (length s ≡ 0 → ⊥)
-    → opening ++ (s ++ (0x5D ∷ [])) ≡ value_inside c s
-symbol_parts c opening s e n h = rw e (ap (λ (l : List ℕ). value_open c ++ (l ++ (0x5D ∷ []))) (string_symbol c s n) ∙ open_parts c s h)
-
--- Strings whose bytes stand for themselves, in quotes.
-raw_quoted : (s : List ℕ) → Raw s → 0x22 ∷ (s ++ (0x22 ∷ [])) ≡ quoted_before s []
-unfolding Raw
-raw_quoted s e = ap (λ (l : List ℕ). 0x22 ∷ (l ++ (0x22 ∷ []))) (sym e) ∙ quoted_parts s
-
-pub text_raw : (s : List ℕ) → Raw s → (0x20 ∷ 0x22 ∷ []) ++ (s ++ (0x22 ∷ [])) ≡ 0x20 ∷ quoted_before s []
-text_raw s e = ap (λ (l : List ℕ). 0x20 ∷ l) (raw_quoted s e)
-
-pub target_raw : (s : List ℕ) → (length s ≡ 0 → ⊥) → Raw s
-    → (0x20 ∷ 0x5B ∷ 0x74 ∷ 0x61 ∷ 0x72 ∷ 0x67 ∷ 0x65 ∷ 0x74 ∷ 0x20 ∷ 0x22 ∷ []) ++ (s ++ (0x22 ∷ 0x5D ∷ [])) ≡ value_inside Class.target s
-target_raw s h e =
-    ap (λ (l : List ℕ). (0x20 ∷ 0x5B ∷ 0x74 ∷ 0x61 ∷ 0x72 ∷ 0x67 ∷ 0x65 ∷ 0x74 ∷ 0x20 ∷ []) ++ (0x22 ∷ l)) (sym (append_assoc s (0x22 ∷ []) (0x5D ∷ [])))
-    ∙ ap (λ (l : List ℕ). l ++ ((0x22 ∷ (s ++ (0x22 ∷ []))) ++ (0x5D ∷ []))) (target_open Class.target refl)
-    ∙ ap (λ (l : List ℕ). value_open Class.target ++ (l ++ (0x5D ∷ []))) (raw_quoted s e ∙ string_target Class.target s refl)
-    ∙ open_parts Class.target s h
-
--- The key of a kind that is no id is a target.
-pub key_target : (k : ℕ) → (key_class k ≡ Class.id → ⊥) → key_class k ≡ Class.target
-unfolding key_class
-key_target k = cond_case (λ (c : ℕ). (c ≡ Class.id → ⊥) → c ≡ Class.target) (Class.is_block k) (λ e n. absurd (n refl)) (λ e n. refl)
 
 pub size_none : (w h : ℕ) → w ≡ missing → [] ≡ size_inside w h
 unfolding size_inside trees_inside size_before inside_before

@@ -80,3 +80,8 @@ canonical_parts k key type string w h ns e =
     sym
     (ap (λ (t : Bool). spelled_before (cond t (text string) (element k ts)) []) (ne_eqb k Class.text e)
     ∙ ap (λ (l : List ℕ). 0x5B ∷ (Class.name_of k ++ l)) parts)
+
+pub values_as : (c k m : ℕ) (key key' type type' : List ℕ) (w w' h h' : ℕ) → c ≡ key_class k → k ≡ m → key ≡ key' → w ≡ w' → h ≡ h' → type ≡ type'
+    → value_inside c key ++ (size_inside w h ++ value_inside Class.type type) ≡ values_inside m key' type' w' h'
+unfolding values_inside
+values_as c k m key key' type type' w w' h h' a b d e f g = rw (a, b, d, e, f, g)

@@ -1,8 +1,8 @@
 -- The spelling of a node that stands in the table, from the pieces that the code wrote of it.
-use Prim.Native.Nat.{ℕ, ◌+◌}
+use Prim.Native.Nat.{ℕ, ◌+◌, ◌≤◌}
 use mathlib.Core.Path.{◌≡◌, refl, sym, ◌∙◌}
 use mathlib.Core.Bool.{Bool, true, false}
-use mathlib.Core.List.{List, [], ◌∷◌, ◌++◌, append_assoc}
+use mathlib.Core.List.{List, [], ◌∷◌}
 use native.Mathlib.Nat.{add-zero}
 use native.Mathlib.Omega.{arith}
 use lib.ListN.{length}
@@ -15,17 +15,12 @@ use Rattle.document.specs.rules.Canonical.{quoted_before, node_first, canonical}
 use Rattle.table.specs.Stored.{word_at, Stored, StoredAll}
 use Rattle.base.specs.Adds.{Adds}
 use Rattle.table.specs.Stored.{string_at}
-use Rattle.printer.specs.internal.Inside.{inside_all, values_inside, node_values, children_first, children_after}
-use Rattle.printer.specs.internal.Spelled.{SpellsNode, Parted, SpellsInside}
+use Rattle.printer.specs.internal.Inside.{values_inside, children_first, children_after}
 use Rattle.base.proofs.Adding.{adds_as, adds_join}
+use Rattle.document.proofs.TableDetermines.{count_positive}
 use Rattle.printer.proofs.spell.StoredNodes.{words_of, FirstEnd}
 use Rattle.printer.proofs.spell.ElementParts.{canonical_text, canonical_parts}
-use Rattle.printer.proofs.spell.Siblings.{adds_spelled}
-
--- The parts of an element as they are joined.
-joined : (name first values others : List ℕ) → ◌≡◌ {A = List ℕ} ((0x5B ∷ name) ++ ((first ++ (values ++ others)) ++ (0x5D ∷ [])))
-    ((0x5B ∷ []) ++ (name ++ (first ++ (values ++ (others ++ (0x5D ∷ []))))))
-joined name first values others = simp append_assoc
+use Rattle.printer.proofs.spell.Siblings.{SpellsNode, adds_spelled, Done}
 
 -- The children that are spelled before the values, and the others, stand one behind the other.
 record ChildrenParted (words bytes : List ℕ) (i parent p : ℕ) (b : Bool) (ns : Nodes) : Type 0 where
@@ -42,6 +37,10 @@ children_parted words bytes i parent p true (child n ns) s =
     record { first = (s.0, tt); from = p + length (pool n); others = rw (add-zero (count n)) s.1; counts = omega arith }
 
 module _ (words bytes : List ℕ) (i end : ℕ) (out : List ℕ) where
+  -- A span that is none has no node.
+  pub none_spelled : (r : ℕ) (later : List ℕ) → end ≤ i → SpellsNode words bytes i end out r later
+  none_spelled r later h d parent p s e = absurd (omega (arith, count_positive d))
+
   pub text_spelled : (kind r : ℕ) (string later : List ℕ) → kind ≡ word_at words i Word.kind → kind ≡ Class.text → string ≡ string_at words bytes i Word.text_offset
       → Adds (quoted_before string []) 0 out r later → SpellsNode words bytes i end out r later
   text_spelled kind r string later w t f a (node k key type text width height ns) parent p s e =
@@ -51,11 +50,13 @@ module _ (words bytes : List ℕ) (i end : ℕ) (out : List ℕ) where
       = rw (f, h.text_string, ← same) (sym (canonical_text key type text width height ns)) in
       adds_spelled (node k key type text width height ns) out r later (adds_as spelt a)
 
-  pub element_spelled : (kind middle : ℕ) → kind ≡ word_at words i Word.kind → (word_at words i Word.kind ≡ Class.text → ⊥) → FirstEnd words i end middle
-      → {a b r : ℕ} {o p later : List ℕ} → Adds (0x5B ∷ Class.name_of kind) 0 out a o → SpellsInside words bytes i middle end a o b p
-      → Adds (0x5D ∷ []) b p r later → SpellsNode words bytes i end out r later
-  unfolding Stored count node_values
-  element_spelled kind middle w t f opened inside closed (node k key type text width height ns) parent start stored e =
+  pub element_spelled : (kind middle : ℕ) → kind ≡ word_at words i Word.kind → (kind ≡ Class.text → ⊥) → FirstEnd words i end middle
+      → {a b c d e r : ℕ} {o p q s t later : List ℕ} → Adds (0x5B ∷ []) 0 out a o → Adds (Class.name_of kind) a o b p → Done words bytes (i + 1) middle b p c q
+      → Adds (values_inside (word_at words i Word.kind) (string_at words bytes i Word.key_offset) (string_at words bytes i Word.type_offset)
+      (word_at words i Word.width) (word_at words i Word.height)) c q d s
+      → Done words bytes middle end d s e t → Adds (0x5D ∷ []) e t r later → SpellsNode words bytes i end out r later
+  unfolding Stored count
+  element_spelled kind middle w t f opened named first valued others closed (node k key type text width height ns) parent start stored e =
       let h = words_of words bytes i parent start k key type text width height ns stored in
       let same : kind ≡ k = w ∙ h.kind in
       let b : Bool = node_first (rule_of k).parameters in
@@ -63,17 +64,10 @@ module _ (words bytes : List ℕ) (i end : ℕ) (out : List ℕ) where
       let whole : end ≡ i + 1 + count_all ns = omega arith in
       let part = children_parted words bytes (i + 1) i from b ns stored.4 in
       let at-middle : middle ≡ i + 1 + count_all (children_first b ns) = rw h.kind at (f bytes ns i from stored.4 whole) in
-      let parted : Parted words bytes i middle end (children_first b ns) (children_after b ns) = record {
-        parent = i;
-        from = from;
-        others_from = part.from;
-        stand = part.first;
-        ends = at-middle;
-        others_stand = rw at-middle part.others;
-        others_end = omega (arith, part.counts);
-      } in
-      let all = rw (h.kind, h.key_string, h.type_string, h.width, h.height) at (inside (children_first b ns) (children_after b ns) parted) in
-      let name = rw same at opened in
-      let parts = canonical_parts k key type text width height ns (λ x. t (h.kind ∙ x)) in
+      let first-all = first (children_first b ns) i from part.first at-middle in
+      let others-all = others (children_after b ns) i part.from (rw at-middle part.others) (omega (arith, part.counts)) in
+      let values = rw (h.kind, h.key_string, h.type_string, h.width, h.height) at valued in
+      let name = rw same at named in
       adds_spelled (node k key type text width height ns) out _ _
-      (adds_as (joined (Class.name_of k) (inside_all (children_first b ns)) (values_inside k key type width height) (inside_all (children_after b ns)) ∙ parts) (adds_join name (adds_join all closed)))
+      (adds_as (canonical_parts k key type text width height ns (λ x. t (same ∙ x)))
+      (adds_join opened (adds_join name (adds_join first-all (adds_join values (adds_join others-all closed))))))

@@ -2,7 +2,7 @@
 use Prim.Native.Nat.{ℕ, ◌+◌}
 use mathlib.Core.Path.{◌≡◌, refl, sym, ◌∙◌}
 use mathlib.Core.Bool.{true, ◌&&◌}
-use mathlib.Core.List.{List, [], ◌++◌}
+use mathlib.Core.List.{List, []}
 use lib.Dec.{eqb}
 use borrow.Author.Tests.{eqb-true}
 use Rattle.base.proofs.Booleans.{both, true_T, T_true}
@@ -12,7 +12,7 @@ use Rattle.document.specs.rules.Record as Word
 use Rattle.document.specs.rules.Canonical.{key_class}
 use Rattle.document.specs.reference.Printing.{part}
 use Rattle.table.specs.Stored.{word_at, string_at}
-use Rattle.printer.specs.internal.Inside.{Valueless, value_inside, size_inside, values_inside, node_values}
+use Rattle.printer.specs.internal.Inside.{Valueless, values_inside}
 use Rattle.printer.proofs.put.Pieces.{value_none, size_none}
 
 module _ (words : List ℕ) (i : ℕ) where
@@ -27,22 +27,15 @@ module _ (words : List ℕ) (i : ℕ) where
         width = sym c ∙ eqb-true w missing (T_true _ z);
       }
 
-  -- A string whose length word is 0 has no bytes.
-  pub no_bytes : (bytes : List ℕ) (j : ℕ) → word_at words i (j + 1) ≡ 0 → string_at words bytes i j ≡ []
+  no_bytes : (bytes : List ℕ) (j : ℕ) → word_at words i (j + 1) ≡ 0 → string_at words bytes i j ≡ []
   unfolding string_at part
   no_bytes bytes j e = rw e
 
-  pub valueless_inside : (bytes : List ℕ) → Valueless words i → [] ≡ node_values words bytes i
-  unfolding node_values values_inside
-  valueless_inside bytes v =
+  pub valueless_inside : (bytes : List ℕ) (kind h : ℕ) → Valueless words i
+      → [] ≡ values_inside kind (string_at words bytes i Word.key_offset) (string_at words bytes i Word.type_offset) (word_at words i Word.width) h
+  unfolding values_inside
+  valueless_inside bytes kind h v =
       let key = no_bytes bytes 3 v.key in
       let type = no_bytes bytes 5 v.type in
-      let size = size_none (word_at words i Word.width) (word_at words i Word.height) v.width in
-      rw (key, type, ← value_none (key_class (word_at words i Word.kind)) [] refl, ← size, ← value_none Class.type [] refl)
-
-  pub values_parts : (bytes : List ℕ)
-      → value_inside (key_class (word_at words i Word.kind)) (string_at words bytes i Word.key_offset)
-      ++ (size_inside (word_at words i Word.width) (word_at words i Word.height) ++ value_inside Class.type (string_at words bytes i Word.type_offset))
-      ≡ node_values words bytes i
-  unfolding node_values values_inside
-  values_parts bytes = refl
+      let size = size_none (word_at words i Word.width) h v.width in
+      rw (key, type, ← value_none (key_class kind) [] refl, ← size, ← value_none Class.type [] refl)

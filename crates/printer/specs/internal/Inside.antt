@@ -5,7 +5,7 @@ use Rattle.base.specs.rules.Limits.{missing}
 use Rattle.document.specs.rules.Record as Word
 use Rattle.document.specs.rules.Document.{Trees, empty, Nodes, childless, child}
 use Rattle.document.specs.rules.Canonical.{layout_all, value_before, size_before, key_class, inside_before}
-use Rattle.table.specs.Stored.{word_at, string_at}
+use Rattle.table.specs.Stored.{word_at}
 
 -- Trees inside an element, a space before each.
 unfoldable pub trees_inside : Trees → List ℕ
@@ -23,12 +23,6 @@ size_inside w h = trees_inside (size_before w h empty)
 -- The values of an element: "id before type", with an image's size between target and type.
 unfoldable pub values_inside : ℕ → List ℕ → List ℕ → ℕ → ℕ → List ℕ
 values_inside k key type w h = value_inside (key_class k) key ++ (size_inside w h ++ value_inside Class.type type)
-
--- The values of node i of a table.
-unfoldable pub node_values : List ℕ → List ℕ → ℕ → List ℕ
-node_values words bytes i =
-    values_inside (word_at words i Word.kind) (string_at words bytes i Word.key_offset) (string_at words bytes i Word.type_offset)
-    (word_at words i Word.width) (word_at words i Word.height)
 
 -- The record of node i has no value: its key and its type have no bytes, and its width is missing.
 pub record Valueless (words : List ℕ) (i : ℕ) : Type 0 where

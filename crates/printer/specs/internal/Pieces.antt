@@ -1,6 +1,5 @@
 -- Numbers by which the code picks a piece: definitions that serve the contracts of private functions.
-use Rattle.std.specs.Prelude.{ℕ, cond, List, [], ◌∷◌, ◌++◌, eqb, ltb}
-use Rattle.elements.specs.rules.Class.{name_of}
+use Rattle.std.specs.Prelude.{ℕ, cond, eqb, ltb}
 
 -- What follows the backslash in `\" \n \r \t`; 0 for any other byte.
 unfoldable pub letter_of : ℕ → ℕ
@@ -17,7 +16,3 @@ leading_of n =
     (cond (ltb n 100) 3
     (cond (ltb n 1000) 2
     (cond (ltb n 10000) 1 0)))
-
--- What opens a value of a class: a space, the bracket, its name and a space.
-unfoldable pub value_open : ℕ → List ℕ
-value_open c = (0x20 ∷ 0x5B ∷ []) ++ (name_of c ++ (0x20 ∷ []))

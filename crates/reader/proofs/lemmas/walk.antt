@@ -5,6 +5,4 @@ pub mod ListItems
 pub mod LoopInvariant
 pub mod OneTurn
 pub mod QuotedStrings
-pub mod ScanLeads
 pub mod SeenExpressions
-pub mod TokenSeen

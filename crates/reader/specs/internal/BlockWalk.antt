@@ -1,22 +1,21 @@
 -- What a walk over the blocks of an imperative text answers. It serves the contracts of private functions.
-use Rattle.std.specs.Prelude.{ℕ, ◌+◌, ◌-◌, ◌≤◌, ◌<◌, ◌≡◌, Bool, true, not, cond, ◌&&◌, ◌||◌, List, eqb, leb}
-use Rattle.base.specs.rules.Limits.{imperative_levels}
+use Rattle.std.specs.Prelude.{ℕ, ◌+◌, ◌≤◌, ◌<◌, ◌≡◌, Bool, true, not, cond, ◌&&◌, ◌||◌, List, eqb, leb, length}
 use Rattle.base.specs.rules.Numbers as Number
 use Rattle.elements.specs.rules.Class as Class
 use Rattle.elements.specs.rules.Inside.{step as stepped, bad}
 use Rattle.inside.specs.Machine.{state_of}
-use Rattle.syntax.specs.rules.Byte.{Bracket}
+use Rattle.syntax.specs.rules.Byte.{Bracket, closing}
 use Rattle.syntax.specs.rules.Expression.{Expr, Exprs, none, and}
 use Rattle.lexer.specs.Token.{the_end, a_list}
 use Rattle.document.specs.rules.Spelling.{is_block_parameter}
 use Rattle.document.specs.rules.Command.{join, in_command}
 use Rattle.document.specs.rules.Lead.{expr_class}
 use Rattle.document.specs.reference.Meaning.{fault, judge}
-use Rattle.reader.specs.internal.RunStands.{RunStands, Bracketed}
-use Rattle.reader.specs.internal.ScanLeads.{Leads, LeadsOut}
+use Rattle.reader.specs.internal.RunStands.{Has, RunStands}
 use Rattle.reader.specs.internal.Counts.{node_count, pool_bytes}
 use Rattle.reader.specs.internal.WalkAnswer.{walked_to}
 use Rattle.reader.specs.internal.Tape.{entered, taped, taped_all}
+use Rattle.reader.specs.internal.TapeWord.{tape_words}
 use Rattle.document.specs.rules.Takes.{Takes}
 use Rattle.reader.specs.internal.Walk.{run_answer, NamedListFirst, StepTakes}
 use Rattle.reader.specs.declared.walk.Walked.{Walked}
@@ -53,7 +52,7 @@ pub record TakenAs (i j c k st j' st' : ℕ) : Type 0 where
 abbrev pub TurnAs : ℕ → ℕ → ℕ → ℕ → ℕ → ℕ → ℕ → ℕ → ℕ → ℕ → ℕ → ℕ → List ℕ → List ℕ → Turn → Type 0
 TurnAs at i sort q j l c k st n p node t z (Done w) = Refuses at i q j c k st w
 TurnAs at i sort q j l c k st n p node t z (Atom j' n' p' st') =
-    TakenAs i j c k st j' st' × (sort ≡ a_list → ⊥) × (n' ≡ n + 1) × (p' ≡ p + l) × (z ≡ entered t n q Class.text node l)
+    TakenAs i j c k st j' st' × (sort ≡ a_list → ⊥) × (n' ≡ n + 1) × (p' ≡ p + l) × (length t ≡ tape_words → z ≡ entered t n q Class.text node (n + 1))
 TurnAs at i sort q j l c k st n p node t z (AList q' c' j' st') = TakenAs i j c k st j' st' × (sort ≡ a_list) × (q' ≡ q) × (c' ≡ c) × (z ≡ t)
 
 -- w is the answer of a block of kind k at `at` that is read so far to state st, with n nodes and p pool bytes counted, where `before` are left of its
@@ -63,23 +62,16 @@ pub record BlockAnswer (s : List ℕ) (at k node st n p : ℕ) (t z : List ℕ) 
   pub rest : Exprs
   pub takes : Takes (Class.significance k) es content rest
   pub same : w ≡ run_answer at k st n p w.next (join before content)
-  pub tapes : w.number ≡ 0 → z ≡ taped_all t n node (join before content)
-  pub goes_on : w.number ≡ 0 → RunStands s imperative_levels w.next rest e
+  pub tapes : w.number ≡ 0 → length t ≡ tape_words → z ≡ taped_all t n node (join before content)
+  pub goes_on : w.number ≡ 0 → RunStands s w.next rest e
 
--- How deep lists nest inside a command's bracket. Outside of it they nest one deeper, also in a block's content.
-abbrev pub command_levels : ℕ
-command_levels = imperative_levels - 1
-
--- w is the answer from place i on, in the command's bracket, and in the content after it; where w accepts, the scan finds no fault up to w's next place.
+-- w is the answer from place i on, in the command's bracket, and in the content after it.
 pub record InCommand (s : List ℕ) (at k node i st n p : ℕ) (t z : List ℕ) (w : Walked) : Type 0 where
-  pub answers : (ps : Exprs) (m : ℕ) (x : Bracket) (es : Exprs) (e : ℕ) → RunStands s command_levels i ps m → Bracketed s imperative_levels at m x
-      → RunStands s imperative_levels (m + 1) es e
+  pub answers : (ps : Exprs) (m : ℕ) (x : Bracket) (es : Exprs) (e : ℕ) → RunStands s i ps m → Has s m (closing x) → RunStands s (m + 1) es e
       → BlockAnswer s at k node st n p t z (in_command ps) es e w
-  pub leads : w.number ≡ 0 → LeadsOut s command_levels at i w.next
 
 pub record InContent (s : List ℕ) (at k node i st n p : ℕ) (t z : List ℕ) (w : Walked) : Type 0 where
-  pub answers : (es : Exprs) (e : ℕ) → RunStands s imperative_levels i es e → BlockAnswer s at k node st n p t z none es e w
-  pub leads : w.number ≡ 0 → Leads s imperative_levels i w.next
+  pub answers : (es : Exprs) (e : ℕ) → RunStands s i es e → BlockAnswer s at k node st n p t z none es e w
 
 -- A list led by a name of class c may stand in the content of a block of kind k: as a block of lesser significance, or as itself.
 pub record Belongs (k c : ℕ) : Type 0 where
@@ -94,10 +86,9 @@ pub record ChildAnswer (s : List ℕ) (k c n p node : ℕ) (t z : List ℕ) (es 
   pub takes : (content rest : Exprs) → Takes (Class.significance k) after content rest → Takes (Class.significance k) es (and one content) rest
   pub of_class : expr_class one ≡ c
   pub same : w ≡ walked_to w.next (n + node_count one) (p + pool_bytes one) (judge k one)
-  pub tapes : w.number ≡ 0 → z ≡ taped t n node one
-  pub goes_on : w.number ≡ 0 → RunStands s imperative_levels w.next after e
+  pub tapes : w.number ≡ 0 → length t ≡ tape_words → z ≡ taped t n node one
+  pub goes_on : w.number ≡ 0 → RunStands s w.next after e
 
 -- w is the answer of a list at `at`, led by a name of class c that is followed by what starts at j, in the content of a block of kind k.
 pub record JudgesChild (s : List ℕ) (at j k c n p node : ℕ) (t z : List ℕ) (w : Walked) : Type 0 where
-  pub counted : (es : Exprs) (e : ℕ) → NamedListFirst s imperative_levels at c j es e → ChildAnswer s k c n p node t z es e w
-  pub leads : w.number ≡ 0 → LeadsOut s command_levels at j w.next
+  pub counted : (es : Exprs) (e : ℕ) → NamedListFirst s at c j es e → ChildAnswer s k c n p node t z es e w

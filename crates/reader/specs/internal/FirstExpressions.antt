@@ -1,11 +1,9 @@
 -- The first two expressions of a nested text, which numbers 7 to 12 are about. It serves the contracts of private functions.
-use Rattle.std.specs.Prelude.{ℕ, ◌≤◌, ◌≡◌, Bool, true, false, List, length}
-use Rattle.base.specs.rules.Limits.{nested_levels}
+use Rattle.std.specs.Prelude.{ℕ, ◌≡◌, List, length}
 use Rattle.base.specs.rules.Numbers as Number
 use Rattle.syntax.specs.rules.Expression.{Exprs, none, and, place}
 use Rattle.document.specs.reference.Meaning.{fault, judge_root}
 use Rattle.reader.specs.internal.RunStands.{RunStands}
-use Rattle.reader.specs.internal.ScanLeads.{Leads}
 use Rattle.reader.specs.internal.Counts.{node_count, pool_bytes}
 use Rattle.reader.specs.internal.WalkAnswer.{walked_to}
 use Rattle.reader.specs.declared.walk.Walked.{Walked}
@@ -23,9 +21,4 @@ second_place n (and x es) = first_place n es
 -- w is the answer of the first expression of a text, whatever follows it: from w's next place on, where it has no fault.
 abbrev pub FirstJudged : List ℕ → Exprs → Walked → Type 0
 FirstJudged s none w = w ≡ walked_to 0 0 0 (fault Number.not_one_expression (length s))
-FirstJudged s (and x es) w = (w ≡ walked_to w.next (node_count x) (pool_bytes x) (judge_root x)) × (w.number ≡ 0 → RunStands s nested_levels w.next es (length s))
-
--- More than white space follows the expression that w is the answer of, which was accepted: r says whether.
-pub record Unfinished (s : List ℕ) (w : Walked) (r : Bool) : Type 0 where
-  pub more : r ≡ true → (w.number ≡ 0) × ((d : ℕ) → RunStands s d w.next none (length s) → ⊥)
-  pub finished : r ≡ false → w.number ≡ 0 → (j : ℕ) × (length s ≤ j) × ((d : ℕ) → Leads s d w.next j)
+FirstJudged s (and x es) w = (w ≡ walked_to w.next (node_count x) (pool_bytes x) (judge_root x)) × (w.number ≡ 0 → RunStands s w.next es (length s))

@@ -1,5 +1,5 @@
 -- The first groups of a read's answer in numbers. It serves the contracts of private functions.
-use Rattle.std.specs.Prelude.{ℕ, ◌≤◌, ◌/◌, min, ◌≡◌, cond, List, ltb, length}
+use Rattle.std.specs.Prelude.{ℕ, ◌/◌, min, cond, List, ltb, length}
 use Rattle.base.specs.rules.Limits.{most_bytes, most_nodes}
 use Rattle.base.specs.rules.Numbers as Number
 use Rattle.utf8.specs.reference.Sequence.{valid_up_to}
@@ -16,12 +16,6 @@ group_number levels text =
 unfoldable pub group_place : ℕ → List ℕ → ℕ
 group_place levels text =
     cond (ltb most_bytes (length text)) most_bytes (cond (ltb (valid_up_to text) (length text)) (valid_up_to text) (scan_place (scan levels text)))
-
--- n at place p are the groups 1 and 2: they are the answer whatever levels there are, or the text is within the limit and what the scan finds is the answer.
-pub record TextGroups (text : List ℕ) (n p : ℕ) : Type 0 where
-  pub refuses : (n ≡ 0 → ⊥) → (levels : ℕ) → (n ≡ group_number levels text) × (p ≡ group_place levels text)
-  pub short : n ≡ 0 → length text ≤ most_bytes
-  pub passes : n ≡ 0 → (levels : ℕ) → (group_number levels text ≡ scan_number (scan levels text)) × (group_place levels text ≡ scan_place (scan levels text))
 
 -- 13, 14 or 0, from the lengths of the lent node words, place list and pool, and the counts of nodes and pool bytes.
 unfoldable pub room_number : ℕ → ℕ → ℕ → ℕ → ℕ → ℕ

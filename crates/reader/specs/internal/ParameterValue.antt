@@ -6,8 +6,8 @@ use Rattle.atoms.specs.Atom.{atom_value}
 use Rattle.lexer.specs.Token.{a_symbol, a_string}
 use Rattle.document.specs.reference.Meaning.{only_one, text_bytes, symbol_bytes, number_of}
 use Rattle.reader.specs.internal.RunStands.{RunStands}
-use Rattle.reader.specs.internal.ScanLeads.{Leads}
 use Rattle.reader.specs.internal.Tape.{value_place, noted}
+use Rattle.reader.specs.internal.TapeWord.{tape_words}
 use Rattle.reader.specs.declared.walk.Walked.{Walked}
 use Rattle.reader.specs.declared.value.One.{One}
 use Rattle.reader.specs.declared.value.Number.{Number}
@@ -31,17 +31,16 @@ pub record Alone (c : ℕ) (es : Exprs) (m q : ℕ) (v : List ℕ) (l e : ℕ) :
 -- What a parameter of class c holds from place i on is what r says, or nothing that counts.
 pub record HoldsOne (s : List ℕ) (i c : ℕ) (r : One) : Type 0 where
   pub within : r.good ≡ true → (i + r.length ≤ r.end) × (r.end ≤ length s) × (r.place ≤ length s)
-  pub nothing : r.good ≡ false → (d : ℕ) (es : Exprs) (m : ℕ) → RunStands s d i es m → held_bytes c es ≡ []
-  pub alone : r.good ≡ true → (d : ℕ) (es : Exprs) (m : ℕ) → RunStands s d i es m → Alone c es m r.place (atom_value (drop r.place s)) r.length r.end
-  pub leads : r.good ≡ true → (d : ℕ) → Leads s d i r.end
+  pub nothing : r.good ≡ false → (es : Exprs) (m : ℕ) → RunStands s i es m → held_bytes c es ≡ []
+  pub alone : r.good ≡ true → (es : Exprs) (m : ℕ) → RunStands s i es m → Alone c es m r.place (atom_value (drop r.place s)) r.length r.end
 
 -- The expressions es begin with a number n, and the others stand from place j on.
-pub record BeginsWithNumber (s : List ℕ) (d : ℕ) (es : Exprs) (m n j : ℕ) : Type 0 where
+pub record BeginsWithNumber (s : List ℕ) (es : Exprs) (m n j : ℕ) : Type 0 where
   pub first : Expr
   pub others : Exprs
   pub made : es ≡ and first others
   pub is : number_of first ≡ n
-  pub stands : RunStands s d j others m
+  pub stands : RunStands s j others m
 
 -- The largest width or height that a size may have.
 abbrev pub most_number : ℕ
@@ -55,12 +54,9 @@ Unfit (and e es) = most_number < number_of e
 -- A number of a size stands at place i, or none that a size may have.
 pub record ReadsNumber (s : List ℕ) (i : ℕ) (r : Number) : Type 0 where
   pub within : r.number ≤ most_number → (i ≤ r.next) × (r.next ≤ length s)
-  pub begins : r.number ≤ most_number → (d : ℕ) (es : Exprs) (m : ℕ) → RunStands s d i es m → BeginsWithNumber s d es m r.number r.next
-  pub unfit : most_number < r.number → (d : ℕ) (es : Exprs) (m : ℕ) → RunStands s d i es m → Unfit es
-  pub leads : r.number ≤ most_number → (d : ℕ) → Leads s d i r.next
+  pub begins : r.number ≤ most_number → (es : Exprs) (m : ℕ) → RunStands s i es m → BeginsWithNumber s es m r.number r.next
+  pub unfit : most_number < r.number → (es : Exprs) (m : ℕ) → RunStands s i es m → Unfit es
 
--- Where what stands from place i on is the value of a parameter of class c, z is the tape t with that value noted of a node; and the scan
--- finds no fault in it.
+-- Where what stands from place i on is the value of a parameter of class c, z is the tape t with that value noted of a node. A tape has `tape_words` words.
 pub record Notes (s : List ℕ) (i c node : ℕ) (t : List ℕ) (r : Walked) (z : List ℕ) : Type 0 where
-  pub notes : (d : ℕ) (es : Exprs) (m : ℕ) → RunStands s d i es m → r.number ≡ 0 → z ≡ noted t node c es
-  pub leads : r.number ≡ 0 → (d : ℕ) → Leads s d i r.next
+  pub notes : (es : Exprs) (m : ℕ) → RunStands s i es m → r.number ≡ 0 → length t ≡ tape_words → z ≡ noted t node c es

@@ -15,20 +15,14 @@ pub data Ends (s : List ℕ) (i : ℕ) : Type 0 where
   at_bracket : (x : Bracket) → Has s i (closing x) → Ends s i
   at_end : i ≡ length s → Ends s i
 
--- From place i on stand the expressions es, whose lists nest at most d deep, and the run ends at e.
-pub data RunStands (s : List ℕ) : ℕ → ℕ → Exprs → ℕ → Type 0 where
-  ended : {d i : ℕ} → Ends s i → RunStands s d i none i
-  after_blank : {d i e : ℕ} {es : Exprs} → Has s i blank → RunStands s d (i + 1) es e → RunStands s d i es e
-  after_line_end : {d i e : ℕ} {es : Exprs} → Has s i return → get_or s (i + 1) 0 ≡ 0x0A → RunStands s d (i + 2) es e → RunStands s d i es e
-  a_symbol : {d i e : ℕ} {es : Exprs} → Has s i ordinary → RunStands s d (i + length (ordinary_run (drop i s))) es e
-      → RunStands s d i (and (symbol i (ordinary_run (drop i s))) es) e
-  a_string : {d i e : ℕ} {es : Exprs} → Has s i quote → (string_at i (drop i s)).number ≡ 0 → RunStands s d (string_at i (drop i s)).next es e
-      → RunStands s d i (and (quoted i (atom_value (drop i s))) es) e
-  a_list : {d d' i m e : ℕ} {x : Bracket} {inner es : Exprs} → d' < d → Has s i (opening x) → RunStands s d' (i + 1) inner m → Has s m (closing x)
-      → RunStands s d (m + 1) es e → RunStands s d i (and (list i inner) es) e
-
--- A list from q to its partner at m, of which there may be one where lists nest d deep.
-pub record Bracketed (s : List ℕ) (d q m : ℕ) (x : Bracket) : Type 0 where
-  pub room : 0 < d
-  pub opened : Has s q (opening x)
-  pub closed : Has s m (closing x)
+-- From place i on stand the expressions es, and the run ends at e.
+pub data RunStands (s : List ℕ) : ℕ → Exprs → ℕ → Type 0 where
+  ended : {i : ℕ} → Ends s i → RunStands s i none i
+  after_blank : {i e : ℕ} {es : Exprs} → Has s i blank → RunStands s (i + 1) es e → RunStands s i es e
+  after_line_end : {i e : ℕ} {es : Exprs} → Has s i return → get_or s (i + 1) 0 ≡ 0x0A → RunStands s (i + 2) es e → RunStands s i es e
+  a_symbol : {i e : ℕ} {es : Exprs} → Has s i ordinary → RunStands s (i + length (ordinary_run (drop i s))) es e
+      → RunStands s i (and (symbol i (ordinary_run (drop i s))) es) e
+  a_string : {i e : ℕ} {es : Exprs} → Has s i quote → (string_at i (drop i s)).number ≡ 0 → RunStands s (string_at i (drop i s)).next es e
+      → RunStands s i (and (quoted i (atom_value (drop i s))) es) e
+  a_list : {i m e : ℕ} {x : Bracket} {inner es : Exprs} → Has s i (opening x) → RunStands s (i + 1) inner m → Has s m (closing x) → RunStands s (m + 1) es e
+      → RunStands s i (and (list i inner) es) e

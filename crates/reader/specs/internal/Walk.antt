@@ -1,18 +1,18 @@
 -- One turn of a walk, and what a walk that has got somewhere still has to answer. It serves the contracts of private functions.
-use Rattle.std.specs.Prelude.{ℕ, suc, ◌+◌, ◌-◌, ◌≤◌, ◌<◌, ◌≡◌, cond, ◌&&◌, List, eqb, ltb, length, get_or}
+use Rattle.std.specs.Prelude.{ℕ, suc, ◌+◌, ◌≤◌, ◌<◌, ◌≡◌, cond, List, eqb, leb, length}
 use Rattle.base.specs.rules.Numbers as Number
 use Rattle.elements.specs.rules.Class.{is_element}
 use Rattle.elements.specs.rules.Inside.{step as stepped, start, go}
 use Rattle.inside.specs.Machine.{state_of}
-use Rattle.syntax.specs.rules.Byte.{Bracket, opening}
+use Rattle.syntax.specs.rules.Byte.{Bracket, closing}
 use Rattle.syntax.specs.rules.Expression.{Expr, list, Exprs, and}
 use Rattle.document.specs.rules.Lead.{lead_class}
 use Rattle.document.specs.reference.Meaning.{Verdict, fine, fault, finish, run, judge_value, value_tree}
-use Rattle.reader.specs.internal.RunStands.{Has, RunStands, Bracketed}
-use Rattle.reader.specs.internal.ScanLeads.{Leads}
+use Rattle.reader.specs.internal.RunStands.{Has, RunStands}
 use Rattle.reader.specs.internal.Counts.{node_count_in, pool_bytes_in, value_size}
 use Rattle.reader.specs.internal.WalkAnswer.{walked_to, PoolBound, Bounded}
 use Rattle.reader.specs.internal.Tape.{entered, left, noted, taped_all}
+use Rattle.reader.specs.internal.TapeWord.{tape_words}
 use Rattle.reader.specs.declared.walk.Walked.{Walked}
 use Rattle.reader.specs.declared.walk.Turn.{Turn}
 use Rattle.reader.specs.declared.walk.Turn.TheVariants.{Done, Atom, List as AList}
@@ -22,37 +22,35 @@ use Rattle.reader.specs.declared.walk.Turn.TheVariants.{Done, Atom, List as ALis
 unfoldable pub run_answer : ℕ → ℕ → ℕ → ℕ → ℕ → ℕ → Exprs → Walked
 run_answer at k st n p e es = walked_to e (n + node_count_in es) (p + pool_bytes_in es) (finish at k (run at k (state_of k st) es))
 
--- z is the tape t after the expressions from place i on, whose lists nest at most d deep, in the element with number `node`, unless w refuses them.
-abbrev pub TapedFrom : List ℕ → ℕ → ℕ → ℕ → ℕ → List ℕ → List ℕ → Walked → Type 0
-TapedFrom s d i n node t z w = (es : Exprs) (e : ℕ) → RunStands s d i es e → w.number ≡ 0 → z ≡ taped_all t n node es
+-- z is the tape t after the expressions from place i on, in the element with number `node`, unless w refuses them. A tape has `tape_words` words.
+abbrev pub TapedFrom : List ℕ → ℕ → ℕ → ℕ → List ℕ → List ℕ → Walked → Type 0
+TapedFrom s i n node t z w = (es : Exprs) (e : ℕ) → RunStands s i es e → w.number ≡ 0 → length t ≡ tape_words → z ≡ taped_all t n node es
 
--- w is the answer from place i on, and z the tape; where w accepts, the scan finds no fault up to w's next place.
-pub record AnswersFrom (s : List ℕ) (d at k i st n p node : ℕ) (t z : List ℕ) (w : Walked) : Type 0 where
-  pub answers : (es : Exprs) (e : ℕ) → RunStands s d i es e → w ≡ run_answer at k st n p e es
-  pub tapes : TapedFrom s d i n node t z w
-  pub leads : w.number ≡ 0 → Leads s d i w.next
+-- w is the answer from place i on, and z the tape.
+pub record AnswersFrom (s : List ℕ) (at k i st n p node : ℕ) (t z : List ℕ) (w : Walked) : Type 0 where
+  pub answers : (es : Exprs) (e : ℕ) → RunStands s i es e → w ≡ run_answer at k st n p e es
+  pub tapes : TapedFrom s i n node t z w
 
 -- The same from an element's first state on.
-abbrev pub Finishes : List ℕ → ℕ → ℕ → ℕ → ℕ → ℕ → ℕ → ℕ → List ℕ → List ℕ → Walked → Type 0
-Finishes s d at k i n p node t z w =
-    ((es : Exprs) (e : ℕ) → RunStands s d i es e → w ≡ walked_to e (n + node_count_in es) (p + pool_bytes_in es) (finish at k (run at k (start k) es)))
-    × (TapedFrom s d i n node t z w × (w.number ≡ 0 → Leads s d i w.next))
+abbrev pub Finishes : List ℕ → ℕ → ℕ → ℕ → ℕ → ℕ → ℕ → List ℕ → List ℕ → Walked → Type 0
+Finishes s at k i n p node t z w =
+    ((es : Exprs) (e : ℕ) → RunStands s i es e → w ≡ walked_to e (n + node_count_in es) (p + pool_bytes_in es) (finish at k (run at k (start k) es)))
+    × TapedFrom s i n node t z w
 
 -- Of the expressions es, which end at e, those from place j on are left, and the answer and the tape are those from there, in the state and with the
 -- counts and the tape there.
-pub record Remaining (s : List ℕ) (d at k st n p node : ℕ) (t : List ℕ) (j st' n' p' : ℕ) (t' : List ℕ) (es : Exprs) (e : ℕ) : Type 0 where
+pub record Remaining (s : List ℕ) (at k st n p node : ℕ) (t : List ℕ) (j st' n' p' : ℕ) (t' : List ℕ) (es : Exprs) (e : ℕ) : Type 0 where
   pub others : Exprs
-  pub stands : RunStands s d j others e
+  pub stands : RunStands s j others e
   pub same : run_answer at k st' n' p' e others ≡ run_answer at k st n p e es
-  pub kept : taped_all t' n' node others ≡ taped_all t n node es
+  pub kept : length t ≡ tape_words → taped_all t' n' node others ≡ taped_all t n node es
 
--- From place i on a walk has gone to place j, and the scan finds no fault up to there.
-pub record Goes (s : List ℕ) (d at k i st n p node : ℕ) (t : List ℕ) (j st' n' p' : ℕ) (t' : List ℕ) : Type 0 where
-  pub left : (es : Exprs) (e : ℕ) → RunStands s d i es e → Remaining s d at k st n p node t j st' n' p' t' es e
-  pub leads : Leads s d i j
+-- From place i on a walk has gone to place j.
+pub record Goes (s : List ℕ) (at k i st n p node : ℕ) (t : List ℕ) (j st' n' p' : ℕ) (t' : List ℕ) : Type 0 where
+  pub left : (es : Exprs) (e : ℕ) → RunStands s i es e → Remaining s at k st n p node t j st' n' p' t' es e
 
 -- Of the expressions es, which end at e, the first is a list at `place`, led by a name of class c that is followed by what starts at j.
-pub record NamedListFirst (s : List ℕ) (d place c j : ℕ) (es : Exprs) (e : ℕ) : Type 0 where
+pub record NamedListFirst (s : List ℕ) (place c j : ℕ) (es : Exprs) (e : ℕ) : Type 0 where
   pub lead : Expr
   pub rest : Exprs
   pub others : Exprs
@@ -60,63 +58,51 @@ pub record NamedListFirst (s : List ℕ) (d place c j : ℕ) (es : Exprs) (e : �
   pub bracket : Bracket
   pub made : es ≡ and (list place (and lead rest)) others
   pub of_class : lead_class lead ≡ c
-  pub follows : RunStands s (d - 1) j rest end
-  pub brackets : Bracketed s d place end bracket
-  pub goes_on : RunStands s d (end + 1) others e
+  pub follows : RunStands s j rest end
+  pub closed : Has s end (closing bracket)
+  pub goes_on : RunStands s (end + 1) others e
 
 -- In an element of kind k, an expression of class c is taken.
 abbrev pub StepTakes : ℕ → ℕ → ℕ → ℕ → Type 0
 StepTakes k st c st' = stepped k (state_of k st) c ≡ go (state_of k st')
 
--- From place i on such a list stands first, and it is taken. The scan finds no fault up to its bracket, nor from there to the place after the name.
-pub record TakesList (s : List ℕ) (d k i st place c j st' : ℕ) : Type 0 where
+-- From place i on such a list stands first, and it is taken.
+pub record TakesList (s : List ℕ) (k i st place c j st' : ℕ) : Type 0 where
   pub taken : StepTakes k st c st'
-  pub opened : (es : Exprs) (e : ℕ) → RunStands s d i es e → NamedListFirst s d place c j es e
-  pub level : 0 < d
-  pub bracket : Bracket
-  pub has : Has s place (opening bracket)
-  pub to_bracket : Leads s d i place
-  pub past_name : Leads s (d - 1) (place + 1) j
+  pub opened : (es : Exprs) (e : ℕ) → RunStands s i es e → NamedListFirst s place c j es e
 
 -- A symbol or string is taken and passed.
-pub record TakesAtom (s : List ℕ) (d at k i st n p node : ℕ) (t : List ℕ) (j st' n' p' : ℕ) (t' : List ℕ) : Type 0 where
+pub record TakesAtom (s : List ℕ) (at k i st n p node : ℕ) (t : List ℕ) (j st' n' p' : ℕ) (t' : List ℕ) : Type 0 where
   pub class : ℕ
   pub taken : StepTakes k st class st'
-  pub goes : Goes s d at k i st n p node t j st' n' p' t'
+  pub goes : Goes s at k i st n p node t j st' n' p' t'
 
 -- A list is not yet on the tape.
-abbrev pub TurnFrom : List ℕ → ℕ → ℕ → ℕ → ℕ → ℕ → ℕ → ℕ → ℕ → List ℕ → List ℕ → Turn → Type 0
-TurnFrom s d at k i st n p node t z (Done w) = AnswersFrom s d at k i st n p node t z w
-TurnFrom s d at k i st n p node t z (Atom j n' p' st') = TakesAtom s d at k i st n p node t j st' n' p' z
-TurnFrom s d at k i st n p node t z (AList place c j st') = TakesList s d k i st place c j st' × (z ≡ t)
+abbrev pub TurnFrom : List ℕ → ℕ → ℕ → ℕ → ℕ → ℕ → ℕ → ℕ → List ℕ → List ℕ → Turn → Type 0
+TurnFrom s at k i st n p node t z (Done w) = AnswersFrom s at k i st n p node t z w
+TurnFrom s at k i st n p node t z (Atom j n' p' st') = TakesAtom s at k i st n p node t j st' n' p' z
+TurnFrom s at k i st n p node t z (AList place c j st') = TakesList s k i st place c j st' × (z ≡ t)
 
 -- A turn goes forward, within the text, and counts no more than it passes, whatever the text holds.
 abbrev pub TurnWithin : List ℕ → ℕ → Turn → Type 0
 TurnWithin s i (Done w) = Bounded s i w
 TurnWithin s i (Atom j n p st) = (i < j) × (j ≤ length s) × (n ≤ j) × PoolBound p j
-TurnWithin s i (AList place c j st) = (i < j) × (j ≤ length s) × (place < length s)
+TurnWithin s i (AList place c j st) = (i < j) × (j ≤ length s) × (place ≤ length s)
 
 -- What is to be answered of a list at `at` led by a name of class c, in an element of kind k, where es follow the name.
 unfoldable pub verdict_of : ℕ → ℕ → ℕ → Exprs → Verdict
 verdict_of k at c es = cond (is_element c) (finish at c (run at c (start c) es)) (judge_value k at (value_tree c es))
 
--- w is the answer of a list at `at`, where j is the place after the name that leads it and lists inside nest at most d deep, and z the tape with the element or value
--- that it is; where w accepts, the scan finds no fault from j to w's next place.
-pub record JudgesList (s : List ℕ) (d at j k c n p node : ℕ) (t z : List ℕ) (w : Walked) : Type 0 where
-  pub judged : (es : Exprs) (e : ℕ) → RunStands s d j es e
+-- w is the answer of a list at `at`, where j is the place after the name that leads it, and z the tape with the element or value that it is.
+pub record JudgesList (s : List ℕ) (at j k c n p node : ℕ) (t z : List ℕ) (w : Walked) : Type 0 where
+  pub judged : (es : Exprs) (e : ℕ) → RunStands s j es e
       → w ≡ walked_to e (n + cond (is_element c) (suc (node_count_in es)) 0) (p + cond (is_element c) (pool_bytes_in es) (value_size c es)) (verdict_of k at c es)
-  pub tapes : (es : Exprs) (e : ℕ) → RunStands s d j es e → w.number ≡ 0
+  pub tapes : (es : Exprs) (e : ℕ) → RunStands s j es e → w.number ≡ 0 → length t ≡ tape_words
       → z ≡ cond (is_element c) (left (taped_all (entered t n at c node 0) (n + 1) n es) n (n + 1 + node_count_in es)) (noted t node c es)
-  pub leads : w.number ≡ 0 → Leads s d j w.next
 
--- The byte that closes what an opening bracket opens.
-unfoldable pub partner_of : ℕ → ℕ
-partner_of b = cond (eqb b 0x28) 0x29 0x5D
-
--- The answer of a list at `at`, and then the place after its closing bracket, if that is the partner.
-unfoldable pub past_bracket : List ℕ → ℕ → Walked → Walked
-past_bracket s at w =
+-- The answer of a list, and then the place after its closing bracket, in a text of m bytes.
+unfoldable pub past_bracket : ℕ → Walked → Walked
+past_bracket m w =
     cond (eqb w.number 0)
-    (cond (ltb w.next (length s) && eqb (get_or s w.next 0) (partner_of (get_or s at 0))) (walked_to (w.next + 1) w.nodes w.pool fine)
-    (walked_to 0 0 0 (fault Number.not_allowed w.next)))
+    (cond (leb m w.next) (walked_to 0 0 0 (fault Number.not_allowed w.next)) (walked_to (w.next + 1) w.nodes w.pool fine))
     w

@@ -4,6 +4,7 @@ use Rattle.base.specs.rules.Limits.{most_bytes}
 use Rattle.document.specs.reference.Meaning.{Verdict, fine, fault}
 use Rattle.document.specs.reference.Outcome.{Reading, refused, read}
 use Rattle.reader.specs.declared.walk.Walked.{Walked}
+use Rattle.reader.specs.internal.TapeWord.{most_word}
 use Rattle.reader.specs.internal.Counts.{node_count, pool_bytes}
 
 -- With no fault: the place where the run ends, and the counts of nodes and pool bytes so far. With a fault: its number and place.
@@ -16,13 +17,13 @@ abbrev pub PoolBound : ℕ → ℕ → Type 0
 PoolBound p i = p ≤ i
 
 -- A walk may go on at place i with n nodes and p pool bytes counted, in the element with number `node`: no more are counted than bytes were passed, the text is
--- within the limit, and so is the number.
+-- within the limit, and the number is a word.
 abbrev pub MayStart : List ℕ → ℕ → ℕ → ℕ → ℕ → Type 0
-MayStart s i n p node = (i ≤ length s) × (n ≤ i) × PoolBound p i × (length s ≤ most_bytes) × (node ≤ most_bytes)
+MayStart s i n p node = (i ≤ length s) × (n ≤ i) × PoolBound p i × (length s ≤ most_bytes) × (node ≤ most_word)
 
 -- The same of a list at `at`, which may be one node more.
 abbrev pub MayEnter : List ℕ → ℕ → ℕ → ℕ → ℕ → ℕ → Type 0
-MayEnter s at i n p node = (i ≤ length s) × (n < i) × PoolBound p i × (length s ≤ most_bytes) × (node ≤ most_bytes) × (at < length s)
+MayEnter s at i n p node = (i ≤ length s) × (n < i) × PoolBound p i × (length s ≤ most_bytes) × (node ≤ most_word) × (at ≤ length s)
 
 -- Where a walk that started at place i has got to, whatever the text holds: not past the end, and with no more nodes and pool bytes than bytes.
 pub record Bounded (s : List ℕ) (i : ℕ) (r : Walked) : Type 0 where

@@ -5,7 +5,5 @@ pub mod ValuePlaces
 pub mod LawfulNodes
 -- The walk over an element's children: the end, one child, and the values.
 pub mod ChildWalk
--- The pool of a draft is UTF-8.
-pub mod PoolUtf8
 -- A table is that of a draft where a lawful document node stands in it, and nothing else.
 pub mod DraftRoot

@@ -1,12 +1,11 @@
 -- The walk that judges a table's records: definitions that serve the contracts of private functions.
-use Rattle.std.specs.Prelude.{ℕ, ◌+◌, ◌*◌, ◌≤◌, ◌<◌, ◌≡◌, Bool, true, false, not, cond, ◌&&◌, List, T, eqb, length}
+use Rattle.std.specs.Prelude.{ℕ, ◌+◌, ◌*◌, ◌≤◌, ◌<◌, ◌≡◌, Bool, true, cond, ◌&&◌, List, T, eqb, length}
 use Rattle.elements.specs.rules.Class as Class
 use Rattle.document.specs.rules.Record as Word
 use Rattle.elements.specs.rules.Rules.{rule_of}
 use Rattle.elements.specs.rules.Inside.{State, go, step, start}
 use Rattle.inside.specs.Machine.{state_of}
-use Rattle.base.specs.rules.Limits.{missing, most_bytes}
-use Rattle.utf8.specs.rules.Scalar.{IsUtf8}
+use Rattle.base.specs.rules.Limits.{missing}
 use Rattle.document.specs.rules.Document.{Trees, Node, Nodes, says, say_all}
 use Rattle.document.specs.reference.RulesTest.{keeps_rules, keep_rules}
 use Rattle.document.specs.rules.Record.{record_length}
@@ -23,27 +22,6 @@ pub record Decided (P : Type 0) (answer : Bool) : Type 0 where
 pub record DecidesNext (P : ℕ → ℕ → Type 0) (ok : Bool) (next pool : ℕ) : Type 0 where
   pub sound : ok ≡ true → P next pool
   pub complete : (e q : ℕ) → P e q → (ok ≡ true) × (next ≡ e) × (pool ≡ q)
-
--- No place: what is refused leaves none behind it.
-abbrev pub refused : ℕ
-refused = 18446744073709551615
-
-abbrev pub reached : ℕ → Bool
-reached p = not (eqb p refused)
-
--- No state: a value that is refused leaves none behind it.
-abbrev pub no_state : ℕ
-no_state = 256
-
-abbrev pub held : ℕ → Bool
-held s = not (eqb s no_state)
-
--- The record of node i is there, and p is a place of a pool that may be a draft's: short enough, and UTF-8.
-pub record Ready (words bytes : List ℕ) (i p : ℕ) : Type 0 where
-  pub whole : record_length * i + record_length ≤ length words
-  pub within : p ≤ length bytes
-  pub short : length bytes ≤ most_bytes
-  pub utf8 : IsUtf8 bytes
 
 -- "A missing string is 0, 0": the offset of n bytes that would stand at p.
 unfoldable pub offset_of : ℕ → ℕ → ℕ
@@ -78,36 +56,6 @@ pub record TextAlone (words : List ℕ) (i parent end : ℕ) : Type 0 where
   pub no_width : word_at words i Word.width ≡ missing
   pub no_height : word_at words i Word.height ≡ missing
 
--- A record has no string and no size.
-pub record BareAt (words : List ℕ) (i : ℕ) : Type 0 where
-  pub no_key_at : word_at words i Word.key_offset ≡ 0
-  pub no_key : word_at words i Word.key_length ≡ 0
-  pub no_type_at : word_at words i Word.type_offset ≡ 0
-  pub no_type : word_at words i Word.type_length ≡ 0
-  pub no_text_at : word_at words i Word.text_offset ≡ 0
-  pub no_text : word_at words i Word.text_length ≡ 0
-  pub no_width : word_at words i Word.width ≡ missing
-  pub no_height : word_at words i Word.height ≡ missing
-
--- A record has this parent and a kind.
-pub record KindAt (words : List ℕ) (i parent : ℕ) : Type 0 where
-  pub under : word_at words i Word.parent ≡ parent
-  pub kind_low : Class.document ≤ word_at words i Word.kind
-  pub kind_high : word_at words i Word.kind ≤ Class.cell
-
--- The strings of an element stand from p on, within a pool of that size; it has no text, and width and height are missing together.
-pub record StringsAt (words : List ℕ) (i p size : ℕ) : Type 0 where
-  pub key_stands : NamesStringAt words i Word.key_offset p size
-  pub type_at : NamesStringAt words i Word.type_offset (p + word_at words i Word.key_length) size
-  pub no_text_at : word_at words i Word.text_offset ≡ 0
-  pub no_text : word_at words i Word.text_length ≡ 0
-  pub sized : word_at words i Word.width ≡ missing → word_at words i Word.height ≡ missing
-
--- The answer q is where they end, or no place where they do not stand there.
-pub record StringsEnd (words : List ℕ) (i p size q : ℕ) : Type 0 where
-  pub sound : reached q ≡ true → StringsAt words i p size × (q ≡ p + word_at words i Word.key_length + word_at words i Word.type_length)
-  pub complete : StringsAt words i p size → reached q ≡ true
-
 -- The levels of an element's values.
 unfoldable pub value_levels : List ℕ → ℕ → ℕ
 value_levels words i = cond (eqb (word_at words i Word.key_length) 0 && (eqb (word_at words i Word.type_length) 0 && eqb (word_at words i Word.width) missing)) 0 1
@@ -141,13 +89,6 @@ pub record ValuesLead (words bytes : List ℕ) (k i end : ℕ) (ok due : Bool) (
       → keep_rules k (start k) (place_values (node_first (rule_of k).parameters) (node_values words bytes k i) (layout_all ns))
       ≡ ok && keep_rules k (state_of k state) (behind_first due (node_values words bytes k i) (layout_all ns))
   pub before_child : due ≡ true → i + 1 < end
-
--- The strings of node i, an element of kind k whose children end at `end`, stand from p on up to `after`, and its values nest fewer than `left` levels;
--- the values are taken and lead to the state, or are due. Where one of these fails, `after` is no place.
-pub record Opens (words bytes : List ℕ) (k i end p left after : ℕ) (due : Bool) (state : ℕ) : Type 0 where
-  pub sound : reached after ≡ true → StringsAt words i p (length bytes) × (value_levels words i < left)
-      × (after ≡ p + word_at words i Word.key_length + word_at words i Word.type_length) × ValuesLead words bytes k i end true due state
-  pub complete : reached after ≡ false → StringsAt words i p (length bytes) → value_levels words i < left → ValuesLead words bytes k i end false false 0
 
 -- A node keeps the rules, its layout says it, and nests at most `left` levels.
 pub record LawfulWithin (left : ℕ) (n : Node) : Type 0 where

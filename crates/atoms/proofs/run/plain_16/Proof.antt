@@ -1,6 +1,6 @@
 -- `run::plain_16` meets its contract.
-use Rattle.atoms.proofs.run.PlainRuns.{plain_blocks}
 use borrow.Author.Rules.{rules}
+use Rattle.atoms.proofs.run.PlainRuns.{plain_blocks}
 use Rattle.atoms.proofs.run.plain_16.Statement.{statement}
 use Rattle.atoms.proofs.run.plain_16.Tie as tie
 

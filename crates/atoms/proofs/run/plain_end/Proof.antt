@@ -1,41 +1,41 @@
 -- `run::plain_end` meets its contract. The loop's invariant: from `i` on the run ends where it ends from `from` on.
-use mathlib.Core.Path.{◌≡◌, refl, sym, ◌∙◌}
-use Prim.Native.Nat.{◌+◌, ◌-◌, ◌≤◌}
+use mathlib.Core.Path.{◌≡◌, sym, ◌∙◌}
+use Prim.Native.Nat.{◌+◌, ◌-◌}
 use native.Mathlib.Omega.{arith}
 use borrow.Author.Rules.{rules}
 use lib.ListN.{length}
-use borrow.Author.Tests.{not-true, not-false, leb-false}
-use Rattle.atoms.proofs.run.PlainRuns.{plains, plain_passed, plain_past}
+use borrow.Author.Tests.{not-true, not-false}
+use Rattle.atoms.proofs.run.PlainRuns.{plains, plain_passed, plain_past, plain_one, plain_stop}
 use Rattle.atoms.proofs.run.plain_end.Statement.{statement}
 use Rattle.atoms.proofs.run.plain_end.Tie as tie
 
 abbrev invariant-loop : tie.invariant-loop
-invariant-loop text from i₀ i = (i ≤ length text) × (i + plains text i ≡ from + plains text from)
+invariant-loop text from i₀ i = i + plains text i ≡ from + plains text from
 
 abbrev decreases-loop : tie.decreases-loop
 decreases-loop text from i₀ i = length text - i
 
-returns : tie.Need-returns invariant-loop decreases-loop
-returns c = omega (arith, plain_past c.before.before.args.text.now c.before.before.args.from (omega arith))
-
 loop-holds : tie.Need-loop-init invariant-loop decreases-loop
-loop-holds c = (search rules, refl)
+loop-holds c = c.block-end.ensures ∙ c.before.blocks-end.ensures
 
-end-in-16-requires : tie.Need-end-in-16-requires invariant-loop decreases-loop
-end-in-16-requires c κs = (omega arith, leb-false 16 _ (sym c.before.plain-16.ensures ∙ not-true _ c.if2.true))
-
-returns-2 : tie.Need-returns-2 invariant-loop decreases-loop
-returns-2 c = c.end-in-16.ensures ∙ c.before.before.before.before.loop.invariant.1
+returns : tie.Need-returns invariant-loop decreases-loop
+returns c =
+    omega (
+      arith,
+      plain_stop c.before.before.before.before.before.before.before.before.args.text.now c.before.before.before.before.loop.i
+          c.before.before.before.loop-test.true (sym c.before.plain.ensures ∙ not-true _ c.if1.true),
+      c.before.before.before.before.loop.invariant,
+    )
 
 loop-again : tie.Need-loop-preserved invariant-loop decreases-loop
-loop-again c = (
-  search rules,
-  plain_passed c.before.before.before.before.before.before.args.text.now c.before.before.before.loop.i 16
-      (sym c.before.plain-16.ensures ∙ not-false _ c.if2.false) ∙ c.before.before.before.loop.invariant.1,
-)
+loop-again c =
+    plain_passed c.before.before.before.before.before.before.before.before.args.text.now c.before.before.before.before.loop.i 1
+    (sym (plain_one c.before.before.before.before.before.before.before.before.args.text.now c.before.before.before.before.loop.i
+    c.before.before.before.loop-test.true) ∙ sym c.before.plain.ensures ∙ not-false _ c.if1.false)
+    ∙ c.before.before.before.before.loop.invariant
 
-returns-3 : tie.Need-returns-3 invariant-loop decreases-loop
-returns-3 c = c.last-end.ensures ∙ c.before.before.loop.invariant.1
+returns-2 : tie.Need-returns-2 invariant-loop decreases-loop
+returns-2 c = omega (arith, plain_past c.before.before.before.before.before.args.text.now c.before.loop.i c.loop-test.false, c.before.loop.invariant)
 
 pub plain-end-spec : {M : Type 1} → statement M
 plain-end-spec =
@@ -43,14 +43,13 @@ plain-end-spec =
     (tie.spec
     invariant-loop
     decreases-loop
-    returns
+    (λ c κs. search rules)
+    (λ c κs. search rules)
     loop-holds
     (λ c. search rules)
     (λ c κs. search rules)
-    end-in-16-requires
-    returns-2
+    returns
     (λ c. search rules)
     (λ c. search rules)
     loop-again
-    (λ c κs. search rules)
-    returns-3)
+    returns-2)

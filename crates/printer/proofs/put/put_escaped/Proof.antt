@@ -8,7 +8,7 @@ use Rattle.document.specs.rules.Canonical.{bytes_before}
 use Rattle.base.specs.Adds.{Adds}
 use Rattle.base.proofs.Adding.{adds_as, adds_none, adds_join, adds_put}
 use Rattle.printer.proofs.put.Pieces.{bytes_more, bytes_all}
-use Rattle.printer.proofs.raw.RawBytes.{adds_raw}
+use Rattle.printer.proofs.put.RawBytes.{adds_raw}
 use Rattle.printer.proofs.put.put_escaped.Statement.{statement}
 use Rattle.printer.proofs.put.put_escaped.Tie as tie
 

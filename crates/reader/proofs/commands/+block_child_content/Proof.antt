@@ -1,13 +1,13 @@
 -- The walks over blocks meet their contracts. The invariant of each loop is `Gone`; each way through a loop's body is one law of `BlockLoops`.
 -- The measure is twice the bytes left, and one for `child`, which hands them on to `block`.
-use mathlib.Core.Path.{◌≡◌, refl, sym, ◌∙◌}
+use mathlib.Core.Path.{sym, ◌∙◌}
 use Prim.Native.Nat.{◌+◌, ◌*◌, ◌-◌}
 use native.Mathlib.Omega.{arith}
 use borrow.Author.Rules.{rules}
 use lib.ListN.{length}
 use Rattle.reader.specs.internal.BlockWalk.{InCommand, InContent}
 use Rattle.reader.proofs.lemmas.commands.CommandClasses.{not_ended}
-use Rattle.reader.proofs.lemmas.commands.BlockLoops.{Gone, begun, answered, gone_on, later, place_from, place_inside, past_bounded}
+use Rattle.reader.proofs.lemmas.commands.BlockLoops.{Gone, begun, answered, gone_on, later, place_from, place_within, past_bounded}
 use Rattle.reader.proofs.lemmas.commands.BlockLoops.{command_end, command_cut, content_end}
 use Rattle.reader.proofs.lemmas.commands.BlockLoops.{turn_fits, atom_forward, list_forward, refused_bounded, command_refused, content_refused, command_atom, content_atom}
 use Rattle.reader.proofs.lemmas.commands.BlockLoops.{taken_forward, fewer, parameter_stopped, parameter_passed, belongs, child_stopped, child_passed}
@@ -34,7 +34,6 @@ use Rattle.reader.proofs.tape.enter.Reads as enter-reads
 use Rattle.reader.proofs.walk.at_end.Reads as at-end-reads
 use Rattle.reader.proofs.walk.inside.Reads as inside-reads
 use Rattle.reader.proofs.walk.leave.Reads as leave-reads
-use Rattle.reader.proofs.walk.partner.Reads as partner-reads
 use Rattle.reader.proofs.walk.past_bracket.Reads as past-bracket-reads
 use Rattle.reader.proofs.walk.refusal.Reads as refusal-reads
 use Rattle.reader.proofs.commands.+block_child_content.{statement}
@@ -73,8 +72,6 @@ block-claims t = (
   look-reads.Learnt,
   refusal-reads.Asked,
   refusal-reads.Learnt,
-  partner-reads.Asked,
-  partner-reads.Learnt,
   content_below t,
   content.Post,
   in-command-reads.Asked,
@@ -89,212 +86,165 @@ block-claims t = (
 
 abbrev block-Inv-loop : block-lts.invariant-loop
 block-Inv-loop text at from kind nodes pool node tape₀ i₀ state₀ n₀ p₀ tape i state n p = Gone (InCommand text at kind node)
-    (length text) from 0 nodes pool tape₀ i state n p tape × (length tape ≡ length tape₀)
+    (length text) from 0 nodes pool tape₀ i state n p tape
 
 abbrev block-μ-loop : block-lts.decreases-loop
 block-μ-loop text at from kind nodes pool node tape₀ i₀ state₀ n₀ p₀ tape i state n p = length text - i
 
 block-loop-holds : (t : ℕ) → block-lts.Need-loop-init (block-claims t) (block_at t) block.Post block-Inv-loop block-μ-loop
 block-loop-holds t c =
-    let pre = c.before.before.requires in
-    (begun pre.1.0.0 pre.1.0.1 pre.1.0.2, refl)
+    let pre = c.before.requires in
+    begun pre.1.0 pre.1.1 pre.1.2
 
 block-returns : (t : ℕ) → block-lts.Need-returns (block-claims t) (block_at t) block.Post block-Inv-loop block-μ-loop
 block-returns t c =
-    let a = command_cut c.before.before.before.before.look.ensures c.before.before.if1.true (λ inside e. omega (arith, inside, c.before.if2.true)) c.refusal.ensures in
-    answered c.before.before.before.before.before.loop.invariant.0 a.0 a.1
-
-block-returns-2 : (t : ℕ) → block-lts.Need-returns-2 (block-claims t) (block_at t) block.Post block-Inv-loop block-μ-loop
-block-returns-2 t c =
-    let c₁ = c.before.before.before.before.before.before.before.before in
-    let partner = c.before.before.partner in
-    let if1 = c.before.before.before.before.before.before.if1 in
-    let look = c₁.look in
-    let loop = c₁.before.loop in
-    let a = command_cut look.ensures if1.true (λ inside e. c.before.if3.true (e ∙ sym partner.ensures)) c.refusal2.ensures in
-    answered loop.invariant.0 a.0 a.1
+    let a = command_cut c.before.before.before.before.look.ensures c.before.before.if1.true c.before.if2.true
+    c.refusal.ensures in
+    answered c.before.before.before.before.before.loop.invariant a.0 a.1
 
 block-content-requires : (t : ℕ) → block-lts.Need-content-requires (block-claims t) (block_at t) block.Post block-Inv-loop block-μ-loop
 block-content-requires t c κs =
-    let pre = c.before.before.before.before.before.before.before.before.before.before.before.before.requires in
-    let inv = c.before.before.before.before.before.before.before.before.before.loop.invariant.0 in
-    let h = place_from _ _ c.before.before.before.before.before.before.before.before.look.ensures inv.within in (
+    let pre = c.before.before.before.before.before.before.before.requires in
+    let inv = c.before.before.before.before.before.loop.invariant in
+    let h = place_from _ _ c.before.before.before.before.look.ensures inv.within in (
       omega (arith, h, pre.0, inv.forward),
       (
-        omega (arith, c.before.before.before.before.before.if2.false),
+        omega (arith, c.before.if2.false),
         omega (arith, h, inv.nodes_within),
         omega (arith, h, inv.pool_within),
-        pre.1.0.3,
-        pre.1.0.4,
+        pre.1.3,
+        pre.1.4,
       ),
+    )
+
+block-returns-2 : (t : ℕ) → block-lts.Need-returns-2 (block-claims t) (block_at t) block.Post block-Inv-loop block-μ-loop
+block-returns-2 t c =
+    let look = c.before.before.before.before.before.look in
+    let inv = c.before.before.before.before.before.before.loop.invariant in
+    let h = place_from _ _ look.ensures inv.within in
+    answered inv (later (omega (arith, h)) c.content.ensures.0)
+    (command_end look.ensures c.before.before.before.if1.true c.content.ensures.1)
+
+block-turn-as-requires : (t : ℕ) → block-lts.Need-turn-as-requires (block-claims t) (block_at t) block.Post block-Inv-loop block-μ-loop
+block-turn-as-requires t c κs =
+    let pre = c.before.before.before.before.before.before.before.requires in
+    let look = c.before.before.before.before.look in
+    let inv = c.before.before.before.before.before.loop.invariant in (
+      inv.nodes_within,
+      turn_fits _ _ look.ensures inv.within c.before.before.if1.false inv.pool_within,
+      omega (arith, inv.within, pre.1),
+      omega (
+        arith,
+        place_within _ _ look.ensures
+            inv.within,
+        pre.1,
+      ),
+      pre.1.4,
     )
 
 block-returns-3 : (t : ℕ) → block-lts.Need-returns-3 (block-claims t) (block_at t) block.Post block-Inv-loop block-μ-loop
 block-returns-3 t c =
-    let c₁ = c.before.before.before.before.before.before.before.before in
-    let content = c.before.before.content in
-    let if3 = c.before.before.before.before.if3 in
-    let partner = c.before.before.before.before.before.partner in
-    let if2 = c₁.if2 in
-    let if1 = c₁.before.if1 in
-    let look = c₁.before.before.before.look in
-    let loop = c₁.before.before.before.before.loop in
-    let inv = loop.invariant.0 in
-    let h = place_from _ _ look.ensures inv.within in
-    answered inv (later (omega (arith, h)) content.ensures.0)
-    (command_end look.ensures if1.true if2.false (if3.false ∙ partner.ensures) content.ensures.1)
-
-block-turn-as-requires : (t : ℕ) → block-lts.Need-turn-as-requires (block-claims t) (block_at t) block.Post block-Inv-loop block-μ-loop
-block-turn-as-requires t c κs =
-    let pre = c.before.before.before.before.before.before.before.before.requires in
-    let look = c.before.before.before.before.look in
-    let inv = c.before.before.before.before.before.loop.invariant.0 in (
-      inv.nodes_within,
-      turn_fits _ _ look.ensures inv.within c.before.before.if1.false inv.pool_within,
-      omega (arith, inv.within, pre.1.0),
-    )
-
-block-returns-4 : (t : ℕ) → block-lts.Need-returns-4 (block-claims t) (block_at t) block.Post block-Inv-loop block-μ-loop
-block-returns-4 t c =
-    let inv = c.before.before.before.before.before.before.before.before.before.before.before.loop.invariant.0 in
-    let turned = rw (c.before.t.given.1, c.before.before.before.before.before.before.before.in_command_lem.ensures) at
-    c.before.before.before.before.before.turn-as.ensures in
+    let inv = c.before.before.before.before.before.before.before.before.before.loop.invariant in
+    let turned = rw (c.before.t.given.1, c.before.before.before.before.before.in_command_lem.ensures) at
+    c.before.before.before.turn-as.ensures in
     answered inv (refused_bounded turned)
-    (command_refused _ _ c.before.before.before.before.before.before.before.before.before.before.look.ensures inv.within
-    c.before.before.before.before.before.before.before.before.if1.false turned)
+    (command_refused _ _ c.before.before.before.before.before.before.before.before.look.ensures inv.within
+    c.before.before.before.before.before.before.if1.false turned)
 
 block-loop-less : (t : ℕ) → block-lts.Need-loop-smaller (block-claims t) (block_at t) block.Post block-Inv-loop block-μ-loop
 block-loop-less t c =
-    let inv = c.before.before.before.before.before.before.before.before.before.before.before.loop.invariant.0 in
-    let turned = rw (c.before.t2.given.1, c.before.before.before.before.before.before.before.in_command_lem.ensures) at
-    c.before.before.before.before.before.turn-as.ensures in
+    let inv = c.before.before.before.before.before.before.before.before.before.loop.invariant in
+    let turned = rw (c.before.t2.given.1, c.before.before.before.before.before.in_command_lem.ensures) at
+    c.before.before.before.turn-as.ensures in
     omega (
       arith,
-      list_forward _ _ c.before.before.before.before.before.before.before.before.before.before.look.ensures inv.within
-          c.before.before.before.before.before.before.before.before.if1.false turned.0,
+      list_forward _ _ c.before.before.before.before.before.before.before.before.look.ensures inv.within
+          c.before.before.before.before.before.before.if1.false turned.0,
     )
 
 block-loop-again : (t : ℕ) → block-lts.Need-loop-preserved (block-claims t) (block_at t) block.Post block-Inv-loop block-μ-loop
 block-loop-again t c =
-    let look = c.before.before.before.before.before.before.before.before.before.before.look in
-    let if1 = c.before.before.before.before.before.before.before.before.if1 in
-    let inv = c.before.before.before.before.before.before.before.before.before.before.before.loop.invariant.0 in
-    let turned = rw (c.before.t2.given.1, c.before.before.before.before.before.before.before.in_command_lem.ensures) at
-    c.before.before.before.before.before.turn-as.ensures in (
-      gone_on inv (atom_forward _ _ look.ensures inv.within
-          if1.false turned.0 inv.nodes_within inv.pool_within turned.2 turned.3)
-          (command_atom _ _ look.ensures inv.within
-          if1.false turned.0 turned.1),
-      c.before.before.before.before.before.turn-as.auto.1.1.1.1.1.1.1.1.1.0 ∙ c.before.before.before.before.before.before.before.before.before.before.before.loop.invariant.1,
-    )
+    let look = c.before.before.before.before.before.before.before.before.look in
+    let if1 = c.before.before.before.before.before.before.if1 in
+    let inv = c.before.before.before.before.before.before.before.before.before.loop.invariant in
+    let turned = rw (c.before.t2.given.1, c.before.before.before.before.before.in_command_lem.ensures) at
+    c.before.before.before.turn-as.ensures in
+    gone_on inv (atom_forward _ _ look.ensures inv.within
+    if1.false turned.0 inv.nodes_within inv.pool_within turned.2 turned.3)
+    (command_atom _ _ look.ensures inv.within
+    if1.false turned.0 turned.1)
 
 block-inside-requires : (t : ℕ) → block-lts.Need-inside-requires (block-claims t) (block_at t) block.Post block-Inv-loop block-μ-loop
 block-inside-requires t c κs =
-    let pre = c.before.before.before.before.before.before.before.before.before.before.before.before.before.before.before.requires in
-    let look = c.before.before.before.before.before.before.before.before.before.before.before.look in
-    let inv = c.before.before.before.before.before.before.before.before.before.before.before.before.loop.invariant.0 in
-    let turned = rw (c.before.before.t3.given.1, c.before.before.before.before.before.before.before.before.in_command_lem.ensures) at
-    c.before.before.before.before.before.before.turn-as.ensures in
+    let pre = c.before.before.before.before.before.before.before.before.before.before.before.before.requires in
+    let look = c.before.before.before.before.before.before.before.before.before.look in
+    let inv = c.before.before.before.before.before.before.before.before.before.before.loop.invariant in
+    let turned = rw (c.before.before.t3.given.1, c.before.before.before.before.before.before.in_command_lem.ensures) at
+    c.before.before.before.before.turn-as.ensures in
     let h = list_forward _ _ look.ensures inv.within
-    c.before.before.before.before.before.before.before.before.before.if1.false turned.0 in (
+    c.before.before.before.before.before.before.before.if1.false turned.0 in (
       h.1,
       omega (arith, h, inv.nodes_within),
       omega (arith, h, inv.pool_within),
-      pre.1.0.3,
-      pre.1.0.4,
-      omega (arith, turned.2, place_inside _ _ look.ensures inv.within c.before.before.before.before.before.before.before.before.before.if1.false turned.0.forward),
+      pre.1.3,
+      pre.1.4,
+      omega (
+        arith,
+        turned.2,
+        place_within _ _ look.ensures
+            inv.within,
+      ),
     )
 
-block-returns-5 : (t : ℕ) → block-lts.Need-returns-5 (block-claims t) (block_at t) block.Post block-Inv-loop block-μ-loop
-block-returns-5 t c =
-    let look = c.before.before.before.before.before.before.before.before.before.before.before.before.before.before.before.before.before.look in
-    let if1 = c.before.before.before.before.before.before.before.before.before.before.before.before.before.before.before.if1 in
-    let inside = c.before.before.before.before.before.inside in
+block-returns-4 : (t : ℕ) → block-lts.Need-returns-4 (block-claims t) (block_at t) block.Post block-Inv-loop block-μ-loop
+block-returns-4 t c =
+    let look = c.before.before.before.before.before.before.before.before.before.before.before.before.before.look in
+    let if1 = c.before.before.before.before.before.before.before.before.before.before.before.if1 in
+    let inside = c.before.before.before.inside in
     let past-bracket = c.before.before.past-bracket in
-    let inv = c.before.before.before.before.before.before.before.before.before.before.before.before.before.before.before.before.before.before.loop.invariant.0 in
+    let inv = c.before.before.before.before.before.before.before.before.before.before.before.before.before.before.loop.invariant in
     let turned = rw (
-      c.before.before.before.before.before.before.before.before.t3.given.1,
-      c.before.before.before.before.before.before.before.before.before.before.before.before.before.before.in_command_lem.ensures,
+      c.before.before.before.before.before.before.t3.given.1,
+      c.before.before.before.before.before.before.before.before.before.before.in_command_lem.ensures,
     ) at
-    c.before.before.before.before.before.before.before.before.before.before.before.before.turn-as.ensures in
+    c.before.before.before.before.before.before.before.before.turn-as.ensures in
     let h = list_forward _ _
     look.ensures inv.within
     if1.false turned.0 in
-    answered inv (later (omega (arith, h)) (past_bounded _ inside.ensures.0 past-bracket.ensures))
+    answered inv (later (omega (arith, h)) (past_bounded inside.ensures.0 past-bracket.ensures))
     (parameter_stopped _ _ look.ensures
     inv.within if1.false turned.0 turned.1
     inside.ensures.0
-    (rw (turned.2, turned.3, turned.4) at inside.ensures.1) (rw turned.2 at past-bracket.ensures)
-    c.if4.true)
+    (rw (turned.2, turned.3, turned.4) at inside.ensures.1) past-bracket.ensures
+    c.if3.true)
 
 block-loop-less-2 : (t : ℕ) → block-lts.Need-loop-smaller-2 (block-claims t) (block_at t) block.Post block-Inv-loop block-μ-loop
 block-loop-less-2 t c =
     let turned = rw (
-      c.before.before.before.before.before.before.before.before.t3.given.1,
-      c.before.before.before.before.before.before.before.before.before.before.before.before.before.before.in_command_lem.ensures,
+      c.before.before.before.before.before.before.t3.given.1,
+      c.before.before.before.before.before.before.before.before.before.before.in_command_lem.ensures,
     ) at
-    c.before.before.before.before.before.before.before.before.before.before.before.before.turn-as.ensures in
-    fewer (taken_forward turned.0 (past_bounded _ c.before.before.before.before.before.inside.ensures.0 c.before.before.past-bracket.ensures)
-    c.if4.false)
+    c.before.before.before.before.before.before.before.before.turn-as.ensures in
+    fewer (taken_forward turned.0 (past_bounded c.before.before.before.inside.ensures.0 c.before.before.past-bracket.ensures)
+    c.if3.false)
 
 block-loop-again-2 : (t : ℕ) → block-lts.Need-loop-preserved-2 (block-claims t) (block_at t) block.Post block-Inv-loop block-μ-loop
 block-loop-again-2 t c =
-    let inside = c.before.before.before.before.before.inside in
+    let inside = c.before.before.before.inside in
     let past-bracket = c.before.before.past-bracket in
-    let inv = c.before.before.before.before.before.before.before.before.before.before.before.before.before.before.before.before.before.before.loop.invariant.0 in
+    let inv = c.before.before.before.before.before.before.before.before.before.before.before.before.before.before.loop.invariant in
     let turned = rw (
-      c.before.before.before.before.before.before.before.before.t3.given.1,
-      c.before.before.before.before.before.before.before.before.before.before.before.before.before.before.in_command_lem.ensures,
+      c.before.before.before.before.before.before.t3.given.1,
+      c.before.before.before.before.before.before.before.before.before.before.in_command_lem.ensures,
     ) at
-    c.before.before.before.before.before.before.before.before.before.before.before.before.turn-as.ensures in (
-      gone_on inv (taken_forward turned.0 (past_bounded _ inside.ensures.0 past-bracket.ensures)
-          c.if4.false)
-          (parameter_passed _ _ c.before.before.before.before.before.before.before.before.before.before.before.before.before.before.before.before.before.look.ensures
-          inv.within c.before.before.before.before.before.before.before.before.before.before.before.before.before.before.before.if1.false turned.0 turned.1
-          inside.ensures.0
-          (rw (turned.2, turned.3, turned.4) at inside.ensures.1) (rw turned.2 at past-bracket.ensures)
-          c.if4.false),
-      c.before.before.before.before.before.inside.auto.1.1.1.1.1.1.1.1.0
-          ∙ c.before.before.before.before.before.before.before.before.before.before.before.before.turn-as.auto.1.1.1.1.1.1.1.1.1.0
-          ∙ c.before.before.before.before.before.before.before.before.before.before.before.before.before.before.before.before.before.before.loop.invariant.1,
-    )
-
-block-past-bracket-requires : (t : ℕ) → block-lts.Need-past-bracket-requires (block-claims t) (block_at t) block.Post block-Inv-loop block-μ-loop
-block-past-bracket-requires t c κs =
-    let c₁ = c.before.before.before.before.before.before.before.before in
-    let t3 = c.before.before.before.before.before.t3 in
-    let turn-as = c₁.before.turn-as in
-    let in_command_lem = c₁.before.before.before.in_command_lem in
-    let if1 = c₁.before.before.before.before.if1 in
-    let look = c₁.before.before.before.before.before.before.look in
-    let loop = c₁.before.before.before.before.before.before.before.loop in
-    let turned = rw (t3.given.1, in_command_lem.ensures) at turn-as.ensures in
-    omega (arith, turned.2, place_inside _ _ look.ensures loop.invariant.0.within if1.false turned.0.forward)
-
-block-same-length : (t : ℕ) → block-lts.Need-same-length (block-claims t) (block_at t) block.Post block-Inv-loop block-μ-loop
-block-same-length t c = c.before.before.before.before.before.loop.invariant.1
-
-block-same-length-2 : (t : ℕ) → block-lts.Need-same-length-2 (block-claims t) (block_at t) block.Post block-Inv-loop block-μ-loop
-block-same-length-2 t c = c.before.before.before.before.before.before.before.before.before.loop.invariant.1
-
-block-same-length-3 : (t : ℕ) → block-lts.Need-same-length-3 (block-claims t) (block_at t) block.Post block-Inv-loop block-μ-loop
-block-same-length-3 t c = c.before.before.content.auto.1.1.1.1.1.1.1.1.0 ∙ c.before.before.before.before.before.before.before.before.before.before.before.before.loop.invariant.1
-
-block-same-length-4 : (t : ℕ) → block-lts.Need-same-length-4 (block-claims t) (block_at t) block.Post block-Inv-loop block-μ-loop
-block-same-length-4 t c =
-    let c₁ = c.before.before.before.before.before.before.before.before in
-    let turn-as = c.before.before.before.before.before.turn-as in
-    let loop = c₁.before.before.before.loop in
-    turn-as.auto.1.1.1.1.1.1.1.1.1.0 ∙ loop.invariant.1
-
-block-same-length-5 : (t : ℕ) → block-lts.Need-same-length-5 (block-claims t) (block_at t) block.Post block-Inv-loop block-μ-loop
-block-same-length-5 t c =
-    let c₁ = c.before.before.before.before.before.before.before.before in
-    let c₂ = c₁.before.before.before.before.before.before.before.before in
-    let inside = c.before.before.before.before.before.inside in
-    let turn-as = c₁.before.before.before.before.turn-as in
-    let loop = c₂.before.before.loop in
-    inside.auto.1.1.1.1.1.1.1.1.0 ∙ turn-as.auto.1.1.1.1.1.1.1.1.1.0 ∙ loop.invariant.1
+    c.before.before.before.before.before.before.before.before.turn-as.ensures in
+    gone_on inv (taken_forward turned.0 (past_bounded inside.ensures.0 past-bracket.ensures)
+    c.if3.false)
+    (parameter_passed _ _ c.before.before.before.before.before.before.before.before.before.before.before.before.before.look.ensures
+    inv.within c.before.before.before.before.before.before.before.before.before.before.before.if1.false turned.0 turned.1
+    inside.ensures.0
+    (rw (turned.2, turned.3, turned.4) at inside.ensures.1) past-bracket.ensures
+    c.if3.false)
 
 abbrev child-claims : ℕ → child-lts.Claims
 child-claims t = (
@@ -313,52 +263,58 @@ child-claims t = (
 )
 
 child-enter-requires : (t : ℕ) → child-lts.Need-enter-requires (child-claims t) (child-at t) child.Post
-child-enter-requires t c κs = omega (arith, c.before.before.before.before.before.requires.1.0)
+child-enter-requires t c κs =
+    let pre = c.before.before.before.before.requires in
+    (omega (arith, pre.1.0), pre.1.0.4, omega arith)
 
 child-add-block : (t : ℕ) → child-lts.Need-overflow-add-block (child-claims t) (child-at t) child.Post
-child-add-block t c = omega (arith, c.before.before.before.before.before.before.before.before.requires.1.0, c.before.before.before.before.before.before.before.before.well-formed)
+child-add-block t c = omega (arith, c.before.before.before.before.before.requires.1.0, c.before.before.before.before.before.well-formed)
 
 child-block-requires : (t : ℕ) → child-lts.Need-block-requires (child-claims t) (child-at t) child.Post
 child-block-requires t c κs =
-    let pre = c.before.before.before.before.before.before.before.before.before.requires in (
+    let pre = c.before.before.before.before.before.before.requires in (
       omega (arith, pre.0),
       (
-        (pre.1.0.0, omega (arith, pre.1.0), pre.1.0.2, pre.1.0.3, omega (arith, pre.1.0)),
-        pre.1.0.5,
+        pre.1.0.0,
+        omega (arith, pre.1.0),
+        pre.1.0.2,
+        pre.1.0.3,
+        omega (arith, pre.1.0),
       ),
     )
 
 child-leave-requires : (t : ℕ) → child-lts.Need-leave-requires (child-claims t) (child-at t) child.Post
-child-leave-requires t c κs = omega (arith, c.before.before.before.before.before.before.before.before.before.before.before.before.before.requires.1.0)
+child-leave-requires t c κs = λ y. omega (
+  arith,
+  c.before.block.ensures.0.bounds y,
+  c.before.before.before.before.before.before.before.before.requires.1.0,
+)
 
 child-returns : (t : ℕ) → child-lts.Need-returns (child-claims t) (child-at t) child.Post
 child-returns t c =
-    let pre = c.before.before.before.before.before.before.before.before.before.before.before.before.before.before.before.before.requires in
-    let block = c.before.before.before.before.before.before.block in (
+    let pre = c.before.before.before.before.before.before.before.before.before.requires in
+    let block = c.before.before.block in (
       block.ensures.0,
-      command_child (sym c.before.before.before.before.before.before.before.before.before.before.before.before.before.is_command_lem.ensures
-          ∙ c.before.before.before.before.before.before.before.before.before.before.before.before.if1.true)
+      command_child (sym c.before.before.before.before.before.before.before.is_command_lem.ensures
+          ∙ c.before.before.before.before.before.before.if1.true)
           pre.1.1
           (omega (arith, pre.1.0))
           block.ensures.0
-          block.ensures.1 c.before.before.before.before.before.before.before.before.before.before.enter.ensures c.before.before.leave.ensures,
+          block.ensures.1 c.before.before.before.before.enter.ensures c.leave.ensures,
     )
 
 child-inside-requires : (t : ℕ) → child-lts.Need-inside-requires (child-claims t) (child-at t) child.Post
-child-inside-requires t c κs = c.before.before.before.before.before.requires.1.0
+child-inside-requires t c κs = c.before.before.before.before.requires.1.0
 
 child-returns-2 : (t : ℕ) → child-lts.Need-returns-2 (child-claims t) (child-at t) child.Post
 child-returns-2 t c =
-    let pre = c.before.before.before.before.before.before.before.before.before.requires in
-    let inside = c.before.before.before.inside in (
-      past_bounded _ inside.ensures.0 c.past-bracket.ensures,
-      inside_child (sym c.before.before.before.before.before.before.is_command_lem.ensures ∙ c.before.before.before.before.before.if1.false)
+    let pre = c.before.before.before.before.before.before.requires in
+    let inside = c.before.inside in (
+      past_bounded inside.ensures.0 c.past-bracket.ensures,
+      inside_child (sym c.before.before.before.before.is_command_lem.ensures ∙ c.before.before.before.if1.false)
           pre.1.1 inside.ensures.0 inside.ensures.1
           c.past-bracket.ensures (omega (arith, pre.1.0)),
     )
-
-child-past-bracket-requires : (t : ℕ) → child-lts.Need-past-bracket-requires (child-claims t) (child-at t) child.Post
-child-past-bracket-requires t c κs = c.before.before.before.before.before.before.before.before.requires.1.0.5
 
 abbrev content-claims : ℕ → content-lts.Claims
 content-claims t = (
@@ -378,82 +334,87 @@ content-claims t = (
 
 abbrev content-Inv-loop : content-lts.invariant-loop
 content-Inv-loop text at from kind read nodes pool node tape₀ i₀ state₀ n₀ p₀ tape i state n p = Gone (InContent text at kind node)
-    (length text) from read nodes pool tape₀ i state n p tape × (length tape ≡ length tape₀)
+    (length text) from read nodes pool tape₀ i state n p tape
 
 abbrev content-μ-loop : content-lts.decreases-loop
 content-μ-loop text at from kind read nodes pool node tape₀ i₀ state₀ n₀ p₀ tape i state n p = length text - i
 
 content-loop-holds : (t : ℕ) → content-lts.Need-loop-init (content-claims t) (content_at t) content.Post content-Inv-loop content-μ-loop
 content-loop-holds t c =
-    let pre = c.before.before.requires in
-    (begun pre.1.0 pre.1.1 pre.1.2, refl)
+    let pre = c.before.requires in
+    begun pre.1.0 pre.1.1 pre.1.2
 
 content-returns : (t : ℕ) → content-lts.Need-returns (content-claims t) (content_at t) content.Post content-Inv-loop content-μ-loop
 content-returns t c =
-    let inv = c.before.before.before.before.loop.invariant.0 in
+    let inv = c.before.before.before.before.loop.invariant in
     let a = content_end c.before.before.before.look.ensures inv.within inv.nodes_within inv.pool_within
     (sym c.before.before.ends.ensures ∙ c.before.if1.true) c.at_end.ensures in
     answered inv a.0 a.1
 
 content-turn-as-requires : (t : ℕ) → content-lts.Need-turn-as-requires (content-claims t) (content_at t) content.Post content-Inv-loop content-μ-loop
 content-turn-as-requires t c κs =
-    let pre = c.before.before.before.before.before.before.before.before.requires in
+    let pre = c.before.before.before.before.before.before.before.requires in
     let look = c.before.before.before.before.look in
-    let inv = c.before.before.before.before.before.loop.invariant.0 in
+    let inv = c.before.before.before.before.before.loop.invariant in
     let goes_on = not_ended _ _ _ (sym c.before.before.before.ends.ensures ∙ c.before.before.if1.false) in (
       inv.nodes_within,
       turn_fits _ _ look.ensures inv.within goes_on.0 inv.pool_within,
       omega (arith, inv.within, pre.1),
+      omega (
+        arith,
+        place_within _ _ look.ensures
+            inv.within,
+        pre.1,
+      ),
+      pre.1.4,
     )
 
 content-returns-2 : (t : ℕ) → content-lts.Need-returns-2 (content-claims t) (content_at t) content.Post content-Inv-loop content-μ-loop
 content-returns-2 t c =
-    let inv = c.before.before.before.before.before.before.before.before.before.before.before.loop.invariant.0 in
-    let goes_on = not_ended _ _ _ (sym c.before.before.before.before.before.before.before.before.before.ends.ensures
-    ∙ c.before.before.before.before.before.before.before.before.if1.false) in
-    let turned = rw (c.before.t.given.1, c.before.before.before.before.before.before.before.loose.ensures) at
-    c.before.before.before.before.before.turn-as.ensures in
+    let inv = c.before.before.before.before.before.before.before.before.before.loop.invariant in
+    let goes_on = not_ended _ _ _ (sym c.before.before.before.before.before.before.before.ends.ensures
+    ∙ c.before.before.before.before.before.before.if1.false) in
+    let turned = rw (c.before.t.given.1, c.before.before.before.before.before.loose.ensures) at
+    c.before.before.before.turn-as.ensures in
     answered inv (refused_bounded turned)
-    (content_refused _ _ c.before.before.before.before.before.before.before.before.before.before.look.ensures inv.within goes_on.0
+    (content_refused _ _ c.before.before.before.before.before.before.before.before.look.ensures inv.within goes_on.0
     goes_on.1 turned)
 
 content-loop-less : (t : ℕ) → content-lts.Need-loop-smaller (content-claims t) (content_at t) content.Post content-Inv-loop content-μ-loop
 content-loop-less t c =
-    let inv = c.before.before.before.before.before.before.before.before.before.before.before.loop.invariant.0 in
-    let goes_on = not_ended _ _ _ (sym c.before.before.before.before.before.before.before.before.before.ends.ensures
-    ∙ c.before.before.before.before.before.before.before.before.if1.false) in
-    let turned = rw (c.before.t2.given.1, c.before.before.before.before.before.before.before.loose.ensures) at
-    c.before.before.before.before.before.turn-as.ensures in
+    let inv = c.before.before.before.before.before.before.before.before.before.loop.invariant in
+    let goes_on = not_ended _ _ _ (sym c.before.before.before.before.before.before.before.ends.ensures
+    ∙ c.before.before.before.before.before.before.if1.false) in
+    let turned = rw (c.before.t2.given.1, c.before.before.before.before.before.loose.ensures) at
+    c.before.before.before.turn-as.ensures in
     omega (
       arith,
-      list_forward _ _ c.before.before.before.before.before.before.before.before.before.before.look.ensures inv.within goes_on.0
+      list_forward _ _ c.before.before.before.before.before.before.before.before.look.ensures inv.within goes_on.0
           turned.0,
     )
 
 content-loop-again : (t : ℕ) → content-lts.Need-loop-preserved (content-claims t) (content_at t) content.Post content-Inv-loop content-μ-loop
 content-loop-again t c =
-    let look = c.before.before.before.before.before.before.before.before.before.before.look in
-    let inv = c.before.before.before.before.before.before.before.before.before.before.before.loop.invariant.0 in
-    let goes_on = not_ended _ _ _ (sym c.before.before.before.before.before.before.before.before.before.ends.ensures
-    ∙ c.before.before.before.before.before.before.before.before.if1.false) in
-    let turned = rw (c.before.t2.given.1, c.before.before.before.before.before.before.before.loose.ensures) at
-    c.before.before.before.before.before.turn-as.ensures in (
-      gone_on inv (atom_forward _ _ look.ensures inv.within goes_on.0
-          turned.0 inv.nodes_within inv.pool_within turned.2 turned.3)
-          (content_atom _ _ look.ensures inv.within goes_on.0 turned.0
-          turned.1 turned.2 turned.3 turned.4),
-      c.before.before.before.before.before.turn-as.auto.1.1.1.1.1.1.1.1.1.0 ∙ c.before.before.before.before.before.before.before.before.before.before.before.loop.invariant.1,
-    )
+    let look = c.before.before.before.before.before.before.before.before.look in
+    let inv = c.before.before.before.before.before.before.before.before.before.loop.invariant in
+    let goes_on = not_ended _ _ _ (sym c.before.before.before.before.before.before.before.ends.ensures
+    ∙ c.before.before.before.before.before.before.if1.false) in
+    let turned = rw (c.before.t2.given.1, c.before.before.before.before.before.loose.ensures) at
+    c.before.before.before.turn-as.ensures in
+    gone_on inv (atom_forward _ _ look.ensures inv.within goes_on.0
+    turned.0 inv.nodes_within inv.pool_within turned.2 turned.3)
+    (content_atom _ _ look.ensures inv.within goes_on.0 turned.0
+    turned.1 turned.2 turned.3 turned.4)
 
 content-child-requires : (t : ℕ) → content-lts.Need-child-requires (content-claims t) (content_at t) content.Post content-Inv-loop content-μ-loop
 content-child-requires t c κs =
-    let pre = c.before.before.before.before.before.before.before.before.before.before.before.before.before.before.before.requires in
-    let look = c.before.before.before.before.before.before.before.before.before.before.before.look in
-    let inv = c.before.before.before.before.before.before.before.before.before.before.before.before.loop.invariant.0 in
-    let goes_on = not_ended _ _ _ (sym c.before.before.before.before.before.before.before.before.before.before.ends.ensures
-    ∙ c.before.before.before.before.before.before.before.before.before.if1.false) in
-    let turned = rw (c.before.before.t3.given.1, c.before.before.before.before.before.before.before.before.loose.ensures) at
-    c.before.before.before.before.before.before.turn-as.ensures in
+    let pre = c.before.before.before.before.before.before.before.before.before.before.before.before.requires in
+    let look = c.before.before.before.before.before.before.before.before.before.look in
+    let inv = c.before.before.before.before.before.before.before.before.before.before.loop.invariant in
+    let goes_on = not_ended _ _ _ (sym c.before.before.before.before.before.before.before.before.ends.ensures
+    ∙ c.before.before.before.before.before.before.before.if1.false) in
+    let turned = rw (c.before.before.t3.given.1, c.before.before.before.before.before.before.loose.ensures) at
+    c.before.before.before.before.turn-as.ensures in
     let h = list_forward _ _ look.ensures inv.within goes_on.0
     turned.0 in (
       omega (arith, h, pre.0, inv.forward),
@@ -464,7 +425,12 @@ content-child-requires t c κs =
           omega (arith, h, inv.pool_within),
           pre.1.3,
           pre.1.4,
-          omega (arith, turned.2, place_inside _ _ look.ensures inv.within goes_on.0 turned.0.forward),
+          omega (
+            arith,
+            turned.2,
+            place_within _ _ look.ensures
+                inv.within,
+          ),
         ),
         rw turned.3 (belongs _ _ look.ensures inv.within
             goes_on.0 turned.0 goes_on.1),
@@ -473,16 +439,16 @@ content-child-requires t c κs =
 
 content-returns-3 : (t : ℕ) → content-lts.Need-returns-3 (content-claims t) (content_at t) content.Post content-Inv-loop content-μ-loop
 content-returns-3 t c =
-    let look = c.before.before.before.before.before.before.before.before.before.before.before.before.before.before.before.before.look in
-    let child = c.before.before.before.before.child in
-    let inv = c.before.before.before.before.before.before.before.before.before.before.before.before.before.before.before.before.before.loop.invariant.0 in
-    let goes_on = not_ended _ _ _ (sym c.before.before.before.before.before.before.before.before.before.before.before.before.before.before.before.ends.ensures
-    ∙ c.before.before.before.before.before.before.before.before.before.before.before.before.before.before.if1.false) in
+    let look = c.before.before.before.before.before.before.before.before.before.before.before.before.look in
+    let child = c.before.before.child in
+    let inv = c.before.before.before.before.before.before.before.before.before.before.before.before.before.loop.invariant in
+    let goes_on = not_ended _ _ _ (sym c.before.before.before.before.before.before.before.before.before.before.before.ends.ensures
+    ∙ c.before.before.before.before.before.before.before.before.before.before.if1.false) in
     let turned = rw (
-      c.before.before.before.before.before.before.before.t3.given.1,
-      c.before.before.before.before.before.before.before.before.before.before.before.before.before.loose.ensures,
+      c.before.before.before.before.before.t3.given.1,
+      c.before.before.before.before.before.before.before.before.before.loose.ensures,
     ) at
-    c.before.before.before.before.before.before.before.before.before.before.before.turn-as.ensures in
+    c.before.before.before.before.before.before.before.turn-as.ensures in
     let h = list_forward _ _ look.ensures
     inv.within goes_on.0 turned.0 in
     answered inv (later (omega (arith, h)) child.ensures.0)
@@ -493,50 +459,27 @@ content-returns-3 t c =
 content-loop-less-2 : (t : ℕ) → content-lts.Need-loop-smaller-2 (content-claims t) (content_at t) content.Post content-Inv-loop content-μ-loop
 content-loop-less-2 t c =
     let turned = rw (
-      c.before.before.before.before.before.before.before.t3.given.1,
-      c.before.before.before.before.before.before.before.before.before.before.before.before.before.loose.ensures,
+      c.before.before.before.before.before.t3.given.1,
+      c.before.before.before.before.before.before.before.before.before.loose.ensures,
     ) at
-    c.before.before.before.before.before.before.before.before.before.before.before.turn-as.ensures in
-    fewer (taken_forward turned.0 c.before.before.before.before.child.ensures.0 c.if2.false)
+    c.before.before.before.before.before.before.before.turn-as.ensures in
+    fewer (taken_forward turned.0 c.before.before.child.ensures.0 c.if2.false)
 
 content-loop-again-2 : (t : ℕ) → content-lts.Need-loop-preserved-2 (content-claims t) (content_at t) content.Post content-Inv-loop content-μ-loop
 content-loop-again-2 t c =
-    let child = c.before.before.before.before.child in
-    let inv = c.before.before.before.before.before.before.before.before.before.before.before.before.before.before.before.before.before.loop.invariant.0 in
-    let goes_on = not_ended _ _ _ (sym c.before.before.before.before.before.before.before.before.before.before.before.before.before.before.before.ends.ensures
-    ∙ c.before.before.before.before.before.before.before.before.before.before.before.before.before.before.if1.false) in
+    let child = c.before.before.child in
+    let inv = c.before.before.before.before.before.before.before.before.before.before.before.before.before.loop.invariant in
+    let goes_on = not_ended _ _ _ (sym c.before.before.before.before.before.before.before.before.before.before.before.ends.ensures
+    ∙ c.before.before.before.before.before.before.before.before.before.before.if1.false) in
     let turned = rw (
-      c.before.before.before.before.before.before.before.t3.given.1,
-      c.before.before.before.before.before.before.before.before.before.before.before.before.before.loose.ensures,
+      c.before.before.before.before.before.t3.given.1,
+      c.before.before.before.before.before.before.before.before.before.loose.ensures,
     ) at
-    c.before.before.before.before.before.before.before.before.before.before.before.turn-as.ensures in (
-      gone_on inv (taken_forward turned.0 child.ensures.0 c.if2.false)
-          (child_passed _ _ c.before.before.before.before.before.before.before.before.before.before.before.before.before.before.before.before.look.ensures
-          inv.within goes_on.0 turned.0 turned.1 child.ensures.0
-          (rw (turned.2, turned.3, turned.4) at child.ensures.1) c.if2.false),
-      c.before.before.before.before.child.auto.1.1.1.1.1.1.1.1.0
-          ∙ c.before.before.before.before.before.before.before.before.before.before.before.turn-as.auto.1.1.1.1.1.1.1.1.1.0
-          ∙ c.before.before.before.before.before.before.before.before.before.before.before.before.before.before.before.before.before.loop.invariant.1,
-    )
-
-content-same-length : (t : ℕ) → content-lts.Need-same-length (content-claims t) (content_at t) content.Post content-Inv-loop content-μ-loop
-content-same-length t c = c.before.before.before.before.loop.invariant.1
-
-content-same-length-2 : (t : ℕ) → content-lts.Need-same-length-2 (content-claims t) (content_at t) content.Post content-Inv-loop content-μ-loop
-content-same-length-2 t c =
-    let c₁ = c.before.before.before.before.before.before.before.before in
-    let turn-as = c.before.before.before.before.before.turn-as in
-    let loop = c₁.before.before.before.loop in
-    turn-as.auto.1.1.1.1.1.1.1.1.1.0 ∙ loop.invariant.1
-
-content-same-length-3 : (t : ℕ) → content-lts.Need-same-length-3 (content-claims t) (content_at t) content.Post content-Inv-loop content-μ-loop
-content-same-length-3 t c =
-    let c₁ = c.before.before.before.before.before.before.before.before in
-    let c₂ = c₁.before.before.before.before.before.before.before.before in
-    let child = c.before.before.before.before.child in
-    let turn-as = c₁.before.before.before.turn-as in
-    let loop = c₂.before.loop in
-    child.auto.1.1.1.1.1.1.1.1.0 ∙ turn-as.auto.1.1.1.1.1.1.1.1.1.0 ∙ loop.invariant.1
+    c.before.before.before.before.before.before.before.turn-as.ensures in
+    gone_on inv (taken_forward turned.0 child.ensures.0 c.if2.false)
+    (child_passed _ _ c.before.before.before.before.before.before.before.before.before.before.before.before.look.ensures
+    inv.within goes_on.0 turned.0 turned.1 child.ensures.0
+    (rw (turned.2, turned.3, turned.4) at child.ensures.1) c.if2.false)
 
 pub +block-child-content-spec : {M : Type 1} → statement M
 +block-child-content-spec = close μ-block μ-child μ-content (λ t. block-lts.spec (block-claims t) (block_at t)
@@ -546,31 +489,21 @@ pub +block-child-content-spec : {M : Type 1} → statement M
     (block-loop-holds t)
     (λ c κs. search rules)
     (λ c κs. search rules)
-    (block-same-length t)
     (block-returns t)
     (λ c. search rules)
-    (λ c. search rules)
-    (λ c κs. search rules)
-    (λ c κs. search rules)
-    (block-same-length-2 t)
-    (block-returns-2 t)
-    (λ c. search rules)
     (block-content-requires t)
-    (block-same-length-3 t)
-    (block-returns-3 t)
+    (block-returns-2 t)
     (λ c κs. search rules)
     (block-turn-as-requires t)
     (λ c. search rules)
-    (block-same-length-4 t)
-    (block-returns-4 t)
+    (block-returns-3 t)
     (λ c. search rules)
     (block-loop-less t)
     (block-loop-again t)
     (λ c. search rules)
     (block-inside-requires t)
-    (block-past-bracket-requires t)
-    (block-same-length-5 t)
-    (block-returns-5 t)
+    (λ c κs. search rules)
+    (block-returns-4 t)
     (block-loop-less-2 t)
     (block-loop-again-2 t))
     (λ t. child-lts.spec (child-claims t) (child-at t)
@@ -580,11 +513,9 @@ pub +block-child-content-spec : {M : Type 1} → statement M
     (child-add-block t)
     (child-block-requires t)
     (child-leave-requires t)
-    (λ c. search rules)
     (child-returns t)
     (child-inside-requires t)
-    (child-past-bracket-requires t)
-    (λ c. search rules)
+    (λ c κs. search rules)
     (child-returns-2 t))
     λ t. content-lts.spec (content-claims t) (content_at t)
     content.Post
@@ -594,19 +525,16 @@ pub +block-child-content-spec : {M : Type 1} → statement M
     (λ c κs. search rules)
     (λ c κs. search rules)
     (λ c κs. search rules)
-    (content-same-length t)
     (content-returns t)
     (λ c κs. search rules)
     (content-turn-as-requires t)
     (λ c. search rules)
-    (content-same-length-2 t)
     (content-returns-2 t)
     (λ c. search rules)
     (content-loop-less t)
     (content-loop-again t)
     (λ c. search rules)
     (content-child-requires t)
-    (content-same-length-3 t)
     (content-returns-3 t)
     (content-loop-less-2 t)
     (content-loop-again-2 t)

@@ -33,26 +33,26 @@ returns-3 c = (
   refl,
 )
 
-add-t21 : tie.Need-overflow-add-t21
-add-t21 c = omega (
+add-t20 : tie.Need-overflow-add-t20
+add-t20 c = omega (
   arith,
-  c.before.before.before.before.before.before.before.before.before.before.before.before.requires.1
-      c.before.before.before.before.before.before.before.if2.false,
-  c.before.before.before.before.before.before.before.before.before.before.before.before.well-formed,
+  c.before.before.before.before.before.before.before.before.before.requires.1
+      c.before.before.before.before.before.if2.false,
+  c.before.before.before.before.before.before.before.before.before.well-formed,
 )
 
 returns-4 : tie.Need-returns-4
 returns-4 c = (
   record {
-    taken = step_goes _ _ _ _ c.before.before.before.before.before.before.before.before.if1.false
-        c.before.before.before.before.before.before.before.before.before.before.step.ensures.stands;
-    forward = c.before.before.before.before.before.before.before.if2.false;
+    taken = step_goes _ _ _ _ c.before.before.before.before.before.before.if1.false
+        c.before.before.before.before.before.before.before.before.step.ensures.stands;
+    forward = c.before.before.before.before.before.if2.false;
     next = refl;
   },
-  c.before.before.before.before.before.if3.false,
+  c.before.before.before.if3.false,
   refl,
   refl,
-  c.before.before.before.enter.ensures,
+  c.before.enter.ensures,
 )
 
 pub turn-as-spec : {M : Type 1} → statement M
@@ -65,8 +65,8 @@ turn-as-spec =
     (λ c κs. search rules)
     returns-2
     returns-3
+    (λ c. search rules)
     (λ c κs. search rules)
     (λ c. search rules)
-    add-t21
-    (λ c. search rules)
+    add-t20
     returns-4)

@@ -8,23 +8,21 @@ use Rattle.reader.proofs.fill.element_row.Tie as tie
 
 returns : tie.Need-returns
 returns c =
-    let g = c.before.before.before.before.before.before.before.before.before.before.before.before.before.before.before.before.before.before.before.before.before.args in
-    let key = c.before.before.before.before.before.before.before.before.before.before.before.before.before.put-key in
-    let type = c.before.before.before.before.before.before.before.before.put-held in
-    let offset_word = c.before.before.before.before.offset_word in
-    let offset-word2 = c.before.before.before.offset-word2 in
+    let record-put = c.before.before in
+    let type_put = record-put.before.before.before.before.before.before in
+    let key-put = type_put.before.before.before.before in
+    let g = key-put.before.before.before.before.before.before.args in
     let a : Filling = record { node = g.node; bytes = g.bytes; words = g.nodes.now; places = g.places.now; pool = g.pool.now } in
-    element_rowed g.text.now g.e a key.result type.result offset_word.result offset-word2.result _ _ _ _
-    key.ensures.1 type.ensures.1 offset_word.ensures offset-word2.ensures c.before.before.put_record.ensures refl key.ensures.2 type.ensures.2
+    element_rowed g.text.now g.e a key-put.put-held.result type_put.put-held2.result record-put.before.before.offset_word.result
+    record-put.before.offset-word2.result _ _ _ _ key-put.put-held.ensures.1 type_put.put-held2.ensures.1
+    record-put.before.before.offset_word.ensures record-put.before.offset-word2.ensures record-put.put_record.ensures refl
+    key-put.put-held.ensures.2 type_put.put-held2.ensures.2
 
 pub element-row-spec : {M : Type 1} → statement M
 element-row-spec =
     tie.close
     (tie.spec
-    (λ c. search rules)
-    (λ c. search rules)
     (λ c κs. search rules)
-    (λ c. search rules)
     (λ c. search rules)
     (λ c κs. search rules)
     (λ c. search rules)

@@ -48,7 +48,7 @@ loop-less c = omega arith
 loop-again : tie.Need-loop-preserved invariant-loop decreases-loop
 loop-again c =
     let c₁ = c.before.before.before.before.before.before.before.before in
-    let c₂ = c₁.before.before.before.before.before.before.before.before.before in
+    let c₂ = c₁.before.before.before.before.before.before.before.before in
     let g = c₂.before.args in
     let v = c₁.before.before.before.before.loop in
     let o = c.before.before.before.before.before.before.row in
@@ -87,11 +87,11 @@ same-length-3 c = c.before.loop.invariant.3
 
 returns : tie.Need-returns invariant-loop decreases-loop
 returns c =
-    let g = c.before.before.before.before.before.before.before.args in
+    let g = c.before.before.before.before.before.before.args in
     let v = c.before.loop in
     let a : Filling = record { node = 0; bytes = 0; words = g.nodes.now; places = g.places.now; pool = g.pool.now } in
     let z : Filling = record { node = v.k; bytes = v.b; words = v.nodes; places = v.places; pool = v.pool } in
-    λ e t o f is n. filled_whole g.text.now g.tape.now v.k a z refl refl (omega arith) (omega arith) (omega arith) v.invariant.5 e t o f is (omega arith)
+    λ e t o f l is n. filled_whole g.text.now g.tape.now v.k a z refl refl (omega arith) v.invariant.5 e t o f l is (omega arith)
 
 pub fill_spec : {M : Type 1} → statement M
 fill_spec =

@@ -17,24 +17,13 @@ returns c =
 returns-2 : tie.Need-returns-2
 unfolding held_at
 returns-2 c =
-    let put = c.before.before.put-atom in
-    let some = ne_eqb _ 0 c.before.before.before.before.if1.false in (
-      omega (
-        arith,
-        put.ensures.0,
-        atom_within c.before.before.before.before.before.before.before.args.text.now
-            c.before.before.before.before.before.before.before.args.place,
-        c.before.before.before.before.before.before.before.requires,
-      ),
-      rw some put.ensures.0,
-      rw some put.ensures.1,
+    let call = c.before.before in
+    let start = call.before.before.before.before.before in
+    let some = ne_eqb _ 0 call.before.before.if1.false in (
+      omega (arith, call.put-atom.ensures.0, atom_within start.args.text.now start.args.place, start.requires),
+      rw some call.put-atom.ensures.0,
+      rw some call.put-atom.ensures.1,
     )
 
 pub put-held-spec : {M : Type 1} → statement M
-put-held-spec =
-    tie.close
-    (tie.spec
-    returns
-    (λ c κs. search rules)
-    (λ c. search rules)
-    returns-2)
+put-held-spec = tie.close (tie.spec returns (λ c κs. search rules) (λ c. search rules) returns-2)

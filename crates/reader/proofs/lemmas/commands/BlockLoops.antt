@@ -7,15 +7,14 @@ use native.Mathlib.Omega.{arith}
 use native.Mathlib.Nat.{add-zero, suc-add, add-suc}
 use native.Mathlib.Numerals.{add-one}
 use lib.Dec.{eqb, leb}
-use lib.ListN.{length, drop, get_or}
+use lib.ListN.{length, drop}
 use borrow.Author.Tests.{eqb-true, eqb-false, leb-true}
 use Rattle.base.proofs.Booleans.{cond_case, bool_case, both, true_T, T_true}
 use Rattle.elements.specs.rules.Class as Class
 use Rattle.elements.specs.rules.Inside.{ended}
 use Rattle.inside.specs.Machine.{state_of}
 use Rattle.inside.proofs.Steps.{start_state}
-use Rattle.base.specs.rules.Limits.{imperative_levels}
-use Rattle.syntax.specs.rules.Byte.{Bracket, opening}
+use Rattle.syntax.specs.rules.Byte.{Bracket, closing}
 use Rattle.syntax.specs.rules.Expression.{Expr, list, Exprs, none, and, place}
 use Rattle.lexer.specs.Token.{Seen, seen}
 use Rattle.document.specs.rules.Spelling.{is_block_parameter}
@@ -24,21 +23,19 @@ use Rattle.document.specs.rules.Command.{is_command, block}
 use Rattle.document.specs.rules.Lead.{lead_class, expr_class, list_class}
 use Rattle.document.specs.reference.Meaning.{Verdict, fine, fault, finish, run, judge}
 use Rattle.document.proofs.BlockExpressions.{block_element}
-use Rattle.reader.specs.internal.RunStands.{Has, RunStands, Bracketed}
-use Rattle.reader.specs.internal.ScanLeads.{Leads}
+use Rattle.reader.specs.internal.RunStands.{Has, RunStands}
 use Rattle.reader.specs.internal.Counts.{node_count, node_count_in, pool_bytes, pool_bytes_in}
 use Rattle.reader.specs.internal.WalkAnswer.{walked_to, Bounded, PoolBound}
 use Rattle.reader.specs.internal.Tape.{entered, left, taped, taped_all}
 use Rattle.document.specs.rules.Takes.{Takes, at_end, at_command, expression, a_block}
-use Rattle.reader.specs.internal.Walk.{run_answer, NamedListFirst, JudgesList, verdict_of, partner_of, past_bracket, StepTakes}
-use Rattle.reader.specs.internal.BlockWalk.{command_levels, command_class, loose_class, leads_command, ends_at, Refuses, by_step, stuck, TakenAs}
+use Rattle.reader.specs.internal.Walk.{run_answer, NamedListFirst, JudgesList, verdict_of, past_bracket, StepTakes}
+use Rattle.reader.specs.internal.BlockWalk.{command_class, loose_class, leads_command, ends_at, Refuses, by_step, stuck, TakenAs}
 use Rattle.reader.specs.internal.BlockWalk.{BlockAnswer, InCommand, InContent, Belongs, ChildAnswer, JudgesChild}
 use Rattle.reader.specs.declared.walk.Walked.{Walked}
 use Rattle.reader.proofs.lemmas.walk.SeenExpressions.{SeenAs, saw_end, saw_symbol, saw_string, saw_list, look_stands, seen_bounds}
-use Rattle.reader.proofs.lemmas.walk.OneTurn.{Looked, none_taken, run_bad, run_fine, run_fault, seen_forward, opened_first, seen_within}
+use Rattle.reader.proofs.lemmas.walk.OneTurn.{Looked, none_taken, run_bad, run_fine, run_fault, seen_forward, open_list, seen_within}
 use Rattle.reader.proofs.lemmas.tape.AfterWalk.{taped_on, element_tape_lem, taped_element}
-use Rattle.reader.proofs.lemmas.walk.LoopInvariant.{past_none, past_fault, past_fine, list_passed, nodes_counted}
-use Rattle.reader.proofs.lemmas.walk.ScanLeads.{stay, and_on, seen_leads, partners, are_partners, leads_out, before_out, out_on, list_leads}
+use Rattle.reader.proofs.lemmas.walk.LoopInvariant.{past_none, past_fault, past_fine, nodes_counted}
 use Rattle.document.proofs.BlockContents.{taken}
 use Rattle.reader.proofs.lemmas.commands.CommandClasses.{command_itself, parameter_class, loose_itself, loose_same, as_parameter, parameter_of_class, parameter_place}
 use Rattle.reader.proofs.lemmas.commands.CommandClasses.{first_taken, FirstSeen, first_seen, AtomSeen, atom_seen}
@@ -89,9 +86,8 @@ later h b = record { bounds = λ y. omega (arith, b.bounds y) }
 pub place_from : (s : List ℕ) (i : ℕ) {sort q c j l : ℕ} → Looked s i sort q c j l → i ≤ length s → i ≤ q
 place_from s i looked within = omega (arith, (seen_bounds s i within).place_from, looked.1)
 
-pub place_inside : (s : List ℕ) (i : ℕ) {sort q c j l : ℕ} → Looked s i sort q c j l → i ≤ length s → (sort ≡ 0 → ⊥) → i < j → q < length s
-place_inside s i looked within some h =
-    omega (arith, (seen_bounds s i within).forward (λ e. some (looked.0 ∙ e)) (rw looked.3 at h), looked.1)
+pub place_within : (s : List ℕ) (i : ℕ) {sort q c j l : ℕ} → Looked s i sort q c j l → i ≤ length s → q ≤ length s
+place_within s i looked within = omega (arith, (seen_bounds s i within).place_within, looked.1)
 
 -- What an answer says depends on its place only where there is no fault.
 next_same : (e n p : ℕ) (v : Verdict) → walked_to e n p v ≡ walked_to (walked_to e n p v).next n p v
@@ -101,44 +97,44 @@ next_same e n p (fault f q) = refl
 
 -- ---- a list that an element's walk goes past: w is its answer, and r that past its closing bracket
 
-module _ {s : List ℕ} {j : ℕ} {w r : Walked} (q : ℕ) (bounded : Bounded s j w) (past-it : r ≡ past_bracket s q w) where
+module _ {s : List ℕ} {j : ℕ} {w r : Walked} (bounded : Bounded s j w) (past-it : r ≡ past_bracket (length s) w) where
   pub past_bounded : Bounded s j r
   unfolding walked_to
   past_bounded =
-      record { bounds = λ y. let h = past_none s q w r past-it y in rw h.is (omega (arith, bounded.bounds h.fine_before, h.inside)) }
+      record { bounds = λ y. let h = past_none (length s) w r past-it y in rw h.2 (omega (arith, bounded.bounds h.0, h.1)) }
 
-  pub past_by : (m a b : ℕ) (v : Verdict) → w ≡ walked_to m a b v → {lv : ℕ} {x : Bracket} → Bracketed s lv q m x → 0 < j
+  pub past_by : (m a b : ℕ) (v : Verdict) → w ≡ walked_to m a b v → m < length s → 0 < j
       → (r ≡ walked_to r.next a b v) × (r.number ≡ 0 → r.next ≡ m + 1)
   unfolding walked_to
   past_by m a b fine e h o =
-      let g : r ≡ walked_to (m + 1) a b fine = past-it ∙ ap (past_bracket s q) e ∙ past_fine s q m a b h.closed.inside (are_partners h) in
+      let g : r ≡ walked_to (m + 1) a b fine = past-it ∙ ap (past_bracket (length s)) e ∙ past_fine (length s) m a b h in
       (g ∙ rw g, λ z. ap (λ (w : Walked). w.next) g)
-  past_by m a b (fault f p) e h o =
+  past_by m a b (fault f q) e h o =
       let z : w.number ≡ 0 → ⊥ = λ z. omega (arith, bounded.bounds z, ap (λ (w : Walked). w.next) e) in
-      let g : r ≡ w = past-it ∙ past_fault s q w z in
+      let g : r ≡ w = past-it ∙ past_fault (length s) w z in
       (g ∙ e, λ y. absurd (z (sym (ap (λ (w : Walked). w.number) g) ∙ y)))
 
 -- The list that is opened.
-abbrev pub listed : {s : List ℕ} {lv q c j : ℕ} {es : Exprs} {m : ℕ} → NamedListFirst s lv q c j es m → Expr
-listed {q = q} o = list q (and o.lead o.rest)
+abbrev pub listed : {s : List ℕ} {q c j : ℕ} {es : Exprs} {m : ℕ} → NamedListFirst s q c j es m → Expr
+listed {q} o = list q (and o.lead o.rest)
 
-pub list_answer : {s t z : List ℕ} {lv q j k c n p node : ℕ} {w r : Walked} → Bounded s j w → JudgesList s (lv - 1) q j k c n p node t z w
-    → r ≡ past_bracket s q w → 0 < j
-    → {es : Exprs} {m : ℕ} (o : NamedListFirst s lv q c j es m)
-    → (r ≡ walked_to r.next (n + node_count (listed o)) (p + pool_bytes (listed o)) (judge k (listed o))) × (r.number ≡ 0 → RunStands s lv r.next o.others m)
+pub list_answer : {s t z : List ℕ} {q j k c n p node : ℕ} {w r : Walked} → Bounded s j w → JudgesList s q j k c n p node t z w
+    → r ≡ past_bracket (length s) w → 0 < j
+    → {es : Exprs} {m : ℕ} (o : NamedListFirst s q c j es m)
+    → (r ≡ walked_to r.next (n + node_count (listed o)) (p + pool_bytes (listed o)) (judge k (listed o))) × (r.number ≡ 0 → RunStands s r.next o.others m)
 unfolding verdict_of node_count pool_bytes judge
-list_answer {q = q} {k = k} {n = n} {p = p} {w = w} bounded judged past-it h o =
+list_answer {k = k} {n = n} {p = p} {w = w} bounded judged past-it h o =
     let e : w ≡ walked_to o.end (n + node_count (listed o)) (p + pool_bytes (listed o)) (judge k (listed o))
     = rw o.of_class (judged.judged o.rest o.end o.follows) in
-    let (same, next) = past_by q bounded past-it o.end (n + node_count (listed o)) (p + pool_bytes (listed o)) (judge k (listed o)) e o.brackets h in
+    let (same, next) = past_by bounded past-it o.end (n + node_count (listed o)) (p + pool_bytes (listed o)) (judge k (listed o)) e o.closed.inside h in
     (same, λ z. rw (next z) o.goes_on)
 
 -- The list is on the tape.
-pub list_tape : {s t z : List ℕ} {lv q j k c n p node : ℕ} {w r : Walked} → JudgesList s (lv - 1) q j k c n p node t z w → r ≡ past_bracket s q w
-    → {es : Exprs} {m : ℕ} (o : NamedListFirst s lv q c j es m) → r.number ≡ 0 → z ≡ taped t n node (listed o)
+pub list_tape : {s t z : List ℕ} {q j k c n p node : ℕ} {w r : Walked} → JudgesList s q j k c n p node t z w → r ≡ past_bracket (length s) w
+    → {es : Exprs} {m : ℕ} (o : NamedListFirst s q c j es m) → r.number ≡ 0 → length t ≡ 32768 → z ≡ taped t n node (listed o)
 unfolding taped
-list_tape {s = s} {q = q} {w = w} {r = r} judged past-it o y =
-    rw o.of_class (judged.tapes o.rest o.end o.follows (past_none s q w r past-it y).fine_before)
+list_tape {s = s} {w = w} {r = r} judged past-it o y full =
+    rw o.of_class (judged.tapes o.rest o.end o.follows (past_none (length s) w r past-it y).0 full)
 
 -- ---- an expression that is taken: `one` is what it counts as
 
@@ -147,7 +143,7 @@ content_passed : {s t t' z : List ℕ} {at k node st n p st' : ℕ} {es after : 
     → StepTakes k st (expr_class one) st'
     → judge k one ≡ fine
     → ((content rest : Exprs) → Takes (Class.significance k) after content rest → Takes (Class.significance k) es (and one content) rest)
-    → t' ≡ taped t n node one → BlockAnswer s at k node st' (n + node_count one) (p + pool_bytes one) t' z none after e w
+    → (length t ≡ 32768 → t' ≡ taped t n node one) → BlockAnswer s at k node st' (n + node_count one) (p + pool_bytes one) t' z none after e w
     → BlockAnswer s at k node st n p t z none es e w
 unfolding join
 content_passed {t = t} {t' = t'} {z = z} {at = at} {k = k} {node = node} {st = st} {n = n} {p = p} {st' = st'} {w = w} one u f takes stored a =
@@ -172,14 +168,14 @@ content_stopped {at = at} {k = k} {st = st} st' n p after e {w = w} one f q u h 
       rest = r.rest;
       takes = takes r.content r.rest r.takes;
       same = g ∙ run_fault at k st n p w.next one r.content st' f q m a b u h;
-      tapes = λ y. absurd (x y);
+      tapes = λ y full. absurd (x y);
       goes_on = λ y. absurd (x y);
     }
 
 -- In a command's bracket it is a parameter.
 command_passed : {s t t' z : List ℕ} {at k node st n p st' : ℕ} (ps : Exprs) {es : Exprs} {e : ℕ} {w : Walked} (one : Expr)
     → is_block_parameter (expr_class one) ≡ true → StepTakes k st (expr_class one) st' → judge k one ≡ fine
-    → t' ≡ taped t n node one
+    → (length t ≡ 32768 → t' ≡ taped t n node one)
     → BlockAnswer s at k node st' (n + node_count one) (p + pool_bytes one) t' z (in_command ps) es e w
     → BlockAnswer s at k node st n p t z (in_command (and one ps)) es e w
 unfolding join in_command
@@ -189,7 +185,7 @@ command_passed {t = t} {t' = t'} {z = z} {at = at} {k = k} {node = node} {st = s
       rest = a.rest;
       takes = a.takes;
       same = rw i (a.same ∙ run_fine at k st n p w.next one (join (in_command ps) a.content) st' u f);
-      tapes = λ y. rw i (taped_on t t' z n node one (join (in_command ps) a.content) stored (a.tapes y));
+      tapes = λ y full. rw i (taped_on t t' z n node one (join (in_command ps) a.content) stored (a.tapes y) full);
       goes_on = a.goes_on;
     }
 
@@ -204,53 +200,46 @@ command_stopped {at = at} {k = k} {st = st} st' n p ps es e {w = w} one f q i u 
       rest = r.rest;
       takes = r.takes;
       same = rw i (g ∙ run_fault at k st n p w.next one (join (in_command ps) r.content) st' f q m a b u h);
-      tapes = λ y. absurd (x y);
+      tapes = λ y full. absurd (x y);
       goes_on = λ y. absurd (x y);
     }
 
 -- ---- the end
 
 -- At the end of a command's bracket the answer is that of the content after it.
-pub command_end : {s t y : List ℕ} {at k node i st n p sort q c j l : ℕ} {w : Walked} → Looked s i sort q c j l → sort ≡ 0 → q < length s
-    → get_or s q 0 ≡ partner_of (get_or s at 0) → InContent s at k node (q + 1) st n p t y w → InCommand s at k node i st n p t y w
+pub command_end : {s t y : List ℕ} {at k node i st n p sort q c j l : ℕ} {w : Walked} → Looked s i sort q c j l → sort ≡ 0
+    → InContent s at k node (q + 1) st n p t y w → InCommand s at k node i st n p t y w
 unfolding in_command
-command_end {s = s} {t = t} {y = y} {at = at} {k = k} {node = node} {i = i} {st = st} {n = n} {p = p} {q = q} {w = w} looked z inside partner a =
-    record {
-      answers = λ ps m x es e t h u. by (look_stands s i m ps t) (sym looked.0 ∙ z) u;
-      leads = λ v. out_on (leads_out (rw looked.1 (seen_leads s command_levels i).blank_leads) (partners inside partner)) (a.leads v);
-    }
+command_end {s = s} {t = t} {y = y} {at = at} {k = k} {node = node} {i = i} {st = st} {n = n} {p = p} {q = q} {w = w} looked z a =
+    record { answers = λ ps m x es e t h u. by (look_stands s i m ps t) (sym looked.0 ∙ z) u }
   where
-    by : {ps es : Exprs} {m e : ℕ} → SeenAs s command_levels (seen i (drop i s)) ps m → (seen i (drop i s)).sort ≡ 0 → RunStands s imperative_levels (m + 1) es e
+    by : {ps es : Exprs} {m e : ℕ} → SeenAs s (seen i (drop i s)) ps m → (seen i (drop i s)).sort ≡ 0 → RunStands s (m + 1) es e
         → BlockAnswer s at k node st n p t y (in_command ps) es e w
     by {es} {e} (saw_end h) z u = a.answers es e (rw looked.1 u)
     by (saw_symbol h c l f t) z u = let o : ◌≡◌ {A = ℕ} 0 1 = cc in absurd (omega arith)
     by (saw_string h c l f t) z u = let o : ◌≡◌ {A = ℕ} 0 1 = cc in absurd (omega arith)
     by (saw_list x h c f t d b v) z u = let o : ◌≡◌ {A = ℕ} 0 1 = cc in absurd (omega arith)
 
--- Where a command's bracket is not closed by its partner, no expressions stand.
-pub command_cut : {s t y : List ℕ} {at k node i st n p sort q c j l : ℕ} {w : Walked} → Looked s i sort q c j l → sort ≡ 0
-    → (q < length s → get_or s q 0 ≡ partner_of (get_or s at 0) → ⊥) → w ≡ walked_to 0 0 0 (fault 8 q) → Bounded s i w × InCommand s at k node i st n p t y w
+-- Where a command's bracket is not closed, no expressions stand.
+pub command_cut : {s t y : List ℕ} {at k node i st n p sort q c j l : ℕ} {w : Walked} → Looked s i sort q c j l → sort ≡ 0 → length s ≤ q
+    → w ≡ walked_to 0 0 0 (fault 8 q) → Bounded s i w × InCommand s at k node i st n p t y w
 unfolding walked_to
-command_cut {s = s} {at = at} {i = i} {q = q} {w = w} looked z cut g = (
+command_cut {s = s} {i = i} {q = q} {w = w} looked z l g = (
   record { bounds = λ y. omega (arith, y, ap (λ (w : Walked). w.number) g) },
-  record {
-    answers = λ ps m x es e t h u. absurd (by (look_stands s i m ps t) (sym looked.0 ∙ z) h.closed.inside (are_partners h));
-    leads = λ y. omega (arith, y, ap (λ (w : Walked). w.number) g);
-  },
+  record { answers = λ ps m x es e t h u. absurd (by (look_stands s i m ps t) (sym looked.0 ∙ z) h.inside) },
 )
   where
-    by : {ps : Exprs} {m : ℕ} → SeenAs s command_levels (seen i (drop i s)) ps m → (seen i (drop i s)).sort ≡ 0 → m < length s
-        → get_or s m 0 ≡ partner_of (get_or s at 0) → ⊥
-    by (saw_end h) z u v = cut (rw looked.1 u) (rw looked.1 v)
-    by (saw_symbol h c l f t) z u v = let o : ◌≡◌ {A = ℕ} 0 1 = cc in omega arith
-    by (saw_string h c l f t) z u v = let o : ◌≡◌ {A = ℕ} 0 1 = cc in omega arith
-    by (saw_list x h c f t d b a) z u v = let o : ◌≡◌ {A = ℕ} 0 1 = cc in omega arith
+    by : {ps : Exprs} {m : ℕ} → SeenAs s (seen i (drop i s)) ps m → (seen i (drop i s)).sort ≡ 0 → m < length s → ⊥
+    by (saw_end h) z u = omega (arith, looked.1)
+    by (saw_symbol h c l f t) z u = let o : ◌≡◌ {A = ℕ} 0 1 = cc in omega arith
+    by (saw_string h c l f t) z u = let o : ◌≡◌ {A = ℕ} 0 1 = cc in omega arith
+    by (saw_list x h c f t d b v) z u = let o : ◌≡◌ {A = ℕ} 0 1 = cc in omega arith
 
 -- A block's content ends where nothing is seen, or before a command of no lesser significance.
-ended_takes : {s : List ℕ} {lv : ℕ} {r : Seen} {es : Exprs} {e : ℕ} (k : ℕ) → SeenAs s lv r es e → ends_at k r.sort r.class ≡ true
+ended_takes : {s : List ℕ} {r : Seen} {es : Exprs} {e : ℕ} (k : ℕ) → SeenAs s r es e → ends_at k r.sort r.class ≡ true
     → Takes (Class.significance k) es none es
 unfolding ends_at is_command leads_command
-ended_takes {r = r} {es = es} k t h =
+ended_takes {r} {es} k t h =
     bool_case (eqb r.sort 0)
     (λ z. by t (eqb-true r.sort 0 z))
     (λ z.
@@ -260,7 +249,7 @@ ended_takes {r = r} {es = es} k t h =
     (at_command {s = Class.significance k} {x = f.one} (rw f.of_class (T_true (leads_command r.class) a))
     (rw f.of_class (leb-true (Class.significance k) (Class.significance r.class) (T_true _ b)))))
   where
-    by : {s : List ℕ} {lv : ℕ} {r : Seen} {es : Exprs} {e : ℕ} → SeenAs s lv r es e → r.sort ≡ 0 → Takes (Class.significance k) es none es
+    by : {s : List ℕ} {r : Seen} {es : Exprs} {e : ℕ} → SeenAs s r es e → r.sort ≡ 0 → Takes (Class.significance k) es none es
     by (saw_end h) z = at_end
     by (saw_symbol h c l f t) z = let o : ◌≡◌ {A = ℕ} 0 1 = cc in absurd (omega arith)
     by (saw_string h c l f t) z = let o : ◌≡◌ {A = ℕ} 0 1 = cc in absurd (omega arith)
@@ -293,10 +282,9 @@ content_end {s = s} {t = t} {at = at} {k = k} {node = node} {i = i} {st = st} {n
                 rest = es;
                 takes = ended_takes k (look_stands s i e es u) (rw (looked.0, looked.2) at h);
                 same = end_same at k st n p i v d;
-                tapes = λ y. refl;
+                tapes = λ y full. refl;
                 goes_on = λ y. rw (next y) u;
               };
-          leads = λ y. rw (next y) stay;
         }
 
 -- ---- what is seen counts as an expression of some class
@@ -343,14 +331,14 @@ module _ (s : List ℕ) (i : ℕ) {sort q c j l : ℕ} (looked : Looked s i sort
   pub list_forward : {d k st j' st' : ℕ} → TakenAs i j d k st j' st' → (i < j') × (j' ≤ length s)
   list_forward h = omega (arith, turn_within h.forward, h.forward, h.next)
 
-  first_of : {lv : ℕ} {es : Exprs} {e : ℕ} → RunStands s lv i es e → FirstSeen (seen i (drop i s)) es
-  first_of {es = es} {e = e} t = first_seen (look_stands s i e es t) (λ z. some (looked.0 ∙ z))
+  first_of : {es : Exprs} {e : ℕ} → RunStands s i es e → FirstSeen (seen i (drop i s)) es
+  first_of {es} {e} t = first_seen (look_stands s i e es t) (λ z. some (looked.0 ∙ z))
 
   -- It is refused: the answer of a run in which what it counts as is the first.
-  refused_first : {at k st d : ℕ} {w : Walked} {lv : ℕ} {es : Exprs} {e : ℕ} (n p m : ℕ) → Refuses at i q j d k st w → RunStands s lv i es e → (one : Expr) (rest : Exprs)
+  refused_first : {at k st d : ℕ} {w : Walked} {es : Exprs} {e : ℕ} (n p m : ℕ) → Refuses at i q j d k st w → RunStands s i es e → (one : Expr) (rest : Exprs)
       → expr_class one ≡ d → place one ≡ q → w ≡ run_answer at k st n p m (and one rest)
   refused_first {at} {k} {st} n p m (by_step f z h g) t one rest a b = g ∙ rw (← b) (run_bad at k st n p m one rest f (rw a h))
-  refused_first {es = es} {e = e} n p m (stuck h g) t one rest a b =
+  refused_first {es} {e} n p m (stuck h g) t one rest a b =
       absurd (omega (arith, (seen_bounds s i within).place_from, looked.3, seen_forward (look_stands s i e es t) (λ z. some (looked.0 ∙ z))))
 
   pub command_refused : {at k node st n p : ℕ} {t z : List ℕ} {w : Walked} → Refuses at i q j (command_class c) k st w
@@ -368,10 +356,9 @@ module _ (s : List ℕ) (i : ℕ) {sort q c j l : ℕ} (looked : Looked s i sort
               takes = d.takes;
               same = refused_first n p w.next r t (as_parameter f.one) (join (in_command f.others) d.content)
                   (parameter_of_class f.one ∙ ap command_class (f.of_class ∙ sym looked.2)) (parameter_place f.one ∙ f.placed ∙ sym looked.1);
-              tapes = λ y. absurd (refused_number r y);
+              tapes = λ y full. absurd (refused_number r y);
               goes_on = λ y. absurd (refused_number r y);
             });
-        leads = λ y. absurd (refused_number r y);
       }
 
   pub content_refused : {at k node st n p : ℕ} {t z : List ℕ} {w : Walked} → (leads_command c ≡ true → Class.significance c < Class.significance k)
@@ -392,33 +379,16 @@ module _ (s : List ℕ) (i : ℕ) {sort q c j l : ℕ} (looked : Looked s i sort
               takes = d.takes;
               same = rw b.made
                   (refused_first n p w.next r t b.one b.others (b.of_class ∙ ap loose_class same_class) (b.placed ∙ f.placed ∙ sym looked.1));
-              tapes = λ y. absurd (refused_number r y);
+              tapes = λ y full. absurd (refused_number r y);
               goes_on = λ y. absurd (refused_number r y);
             });
-        leads = λ y. absurd (refused_number r y);
       }
 
   -- A symbol or string is seen.
-  atom_of : (sort ≡ 3 → ⊥) → {lv : ℕ} {es : Exprs} {e : ℕ} → RunStands s lv i es e → AtomSeen s lv (seen i (drop i s)) es e
-  atom_of a {es = es} {e = e} t = atom_seen (look_stands s i e es t) (λ z. some (looked.0 ∙ z)) (λ z. a (looked.0 ∙ z))
+  atom_of : (sort ≡ 3 → ⊥) → {es : Exprs} {e : ℕ} → RunStands s i es e → AtomSeen s (seen i (drop i s)) es e
+  atom_of a {es} {e} t = atom_seen (look_stands s i e es t) (λ z. some (looked.0 ∙ z)) (λ z. a (looked.0 ∙ z))
 
-  atom_leads : {lv d k st j' st' : ℕ} → TakenAs i j d k st j' st' → (sort ≡ 3 → ⊥) → Leads s lv i j'
-  atom_leads {lv} h a =
-      rw (h.next, looked.3)
-      ((seen_leads s lv i).atom_leads (λ z. some (looked.0 ∙ z)) (λ z. a (looked.0 ∙ z)) (omega (arith, h.forward, looked.3)))
-
-  -- Up to a list's bracket, and from there on.
-  list_from : {lv d k st j' st' m : ℕ} → TakenAs i j d k st j' st' → sort ≡ 3
-      → ((x : Bracket) → Has s q (opening x) → Leads s (lv - 1) (q + 1) j' → Leads s lv q m) → Leads s lv i m
-  list_from {lv} {j' = j'} h z on =
-      let l = seen_leads s lv i in
-      let is_list = sym looked.0 ∙ z in
-      let x : Bracket = (l.bracket is_list).0 in
-      let has : Has s q (opening x) = rw looked.1 (l.bracket is_list).1 in
-      let name : Leads s (lv - 1) (q + 1) j' = rw (h.next, looked.1, looked.3) (l.name is_list (lv - 1)) in
-      and_on (rw looked.1 l.blank_leads) (on x has name)
-
-  to_next : {lv j' e : ℕ} {others : Exprs} → j' ≡ j → RunStands s lv (seen i (drop i s)).next others e → RunStands s lv j' others e
+  to_next : {j' e : ℕ} {others : Exprs} → j' ≡ j → RunStands s (seen i (drop i s)).next others e → RunStands s j' others e
   to_next h t = rw (h, looked.3) t
 
   -- It is no parameter.
@@ -426,14 +396,11 @@ module _ (s : List ℕ) (i : ℕ) {sort q c j l : ℕ} (looked : Looked s i sort
       → (z : List ℕ) (w : Walked) → InCommand s at k node j' st' n' p' t' z w → InCommand s at k node i st n p t z w
   unfolding command_class is_block_parameter
   command_atom {k = k} {st = st} {st' = st'} h a z w b =
-      record {
-        answers = λ ps m x es e u g v. absurd (none_taken k st st' (rw (looked.2 ∙ (atom_of a u).text) at h.taken));
-        leads = λ y. before_out (atom_leads h a) (b.leads y);
-      }
+      record { answers = λ ps m x es e u g v. absurd (none_taken k st st' (rw (looked.2 ∙ (atom_of a u).text) at h.taken)) }
 
   pub content_atom : {at k node st n p j' st' n' p' : ℕ} {t t' : List ℕ} → TakenAs i j (loose_class c) k st j' st' → (sort ≡ 3 → ⊥) → n' ≡ n + 1
       → p' ≡ p + l
-      → t' ≡ entered t n q Class.text node l
+      → (length t ≡ 32768 → t' ≡ entered t n q Class.text node (n + 1))
       → (z : List ℕ) (w : Walked) → InContent s at k node j' st' n' p' t' z w → InContent s at k node i st n p t z w
   unfolding loose_class is_block_parameter
   content_atom {k = k} {node = node} {n = n} {st' = st'} {t = t} {t' = t'} h a nodes pool stored z w b =
@@ -444,21 +411,21 @@ module _ (s : List ℕ) (i : ℕ) {sort q c j l : ℕ} (looked : Looked s i sort
             (content_passed {t = t} {t' = t'} {st' = st'} {after = d.others} d.one (rw d.of_class (rw (looked.2 ∙ d.text) at h.taken))
             (d.judged k)
             (λ content rest v. rw d.itself at (expression d.no_command v))
-            (rw (d.on_tape t n node, ← looked.1, ← looked.4) stored)
+            (λ full. rw (d.on_tape t n node, ← looked.1) (stored full))
             (rw (d.nodes, d.bytes, ← looked.4, ← nodes, ← pool)
             (b.answers d.others e (to_next h.next d.stands))));
-        leads = λ y. and_on (atom_leads h a) (b.leads y);
       }
 
   -- A list is seen, and it counts as itself.
-  opened : {k st j' st' d : ℕ} → TakenAs i j d k st j' st' → d ≡ c → sort ≡ 3 → {lv : ℕ} {es : Exprs} {e : ℕ} → RunStands s lv i es e
-      → NamedListFirst s lv q d j' es e
-  opened {k} {st} {st' = st'} h same z {es = es} {e = e} t = rw (same, h.next) (opened_first k st st' looked (rw same at h.taken) z es e t)
+  opened : {k st j' st' d : ℕ} → TakenAs i j d k st j' st' → d ≡ c → sort ≡ 3 → {es : Exprs} {e : ℕ} → RunStands s i es e → NamedListFirst s q d j' es e
+  opened {k} {st} {st' = st'} {d} h same z {es} {e} t =
+      rw (same, h.next, looked.1, looked.2, looked.3)
+      (open_list (look_stands s i e es t) (sym looked.0 ∙ z) (λ y. none_taken k st st' (rw (same ∙ looked.2 ∙ y) at h.taken)))
 
   -- A parameter: w is its answer, and r that past its closing bracket.
   module _ {k node st n p j' st' : ℕ} {t t' : List ℕ} {w r : Walked} (taking : TakenAs i j (command_class c) k st j' st') (z : sort ≡ 3)
       (bounded : Bounded s j' w)
-      (judged : JudgesList s (command_levels - 1) q j' k (command_class c) n p node t t' w) (past-it : r ≡ past_bracket s q w) where
+      (judged : JudgesList s q j' k (command_class c) n p node t t' w) (past-it : r ≡ past_bracket (length s) w) where
     counts : command_class c ≡ 0 → ⊥
     counts y = none_taken k st st' (rw y at taking.taken)
 
@@ -471,35 +438,28 @@ module _ (s : List ℕ) (i : ℕ) {sort q c j l : ℕ} (looked : Looked s i sort
     before : 0 < j'
     before = omega (arith, taking.forward, taking.next)
 
-    by_outcome : {ps : Exprs} {m : ℕ} (o : NamedListFirst s command_levels q (command_class c) j' ps m) → ChildVerdict k n p (listed o) r
-    by_outcome o = child_verdict s j' k n p (listed o) r (past_bounded q bounded past-it) before (list_answer bounded judged past-it before o).0
+    by_outcome : {ps : Exprs} {m : ℕ} (o : NamedListFirst s q (command_class c) j' ps m) → ChildVerdict k n p (listed o) r
+    by_outcome o = child_verdict s j' k n p (listed o) r (past_bounded bounded past-it) before (list_answer bounded judged past-it before o).0
 
     pub parameter_stopped : {at : ℕ} {z : List ℕ} → (r.number ≡ 0 → ⊥) → InCommand s at k node i st n p t z r
     unfolding expr_class list_class
     parameter_stopped {at} {z = z'} y =
-        record {
-          answers = λ ps m x es e u g v. let o = opened taking same z u in rw o.made (by es e o (by_outcome o));
-          leads = λ x. absurd (y x);
-        }
+        record { answers = λ ps m x es e u g v. let o = opened taking same z u in rw o.made (by es e o (by_outcome o)) }
       where
-        by : (es : Exprs) (e : ℕ) {ps : Exprs} {m : ℕ} (o : NamedListFirst s command_levels q (command_class c) j' ps m) → ChildVerdict k n p (listed o) r
+        by : (es : Exprs) (e : ℕ) {ps : Exprs} {m : ℕ} (o : NamedListFirst s q (command_class c) j' ps m) → ChildVerdict k n p (listed o) r
             → BlockAnswer s at k node st n p t z' (in_command (and (listed o) o.others)) es e r
         by es e o (passed d x a b) = absurd (y x)
         by es e o (stopped f v d x g) =
             command_stopped st' n p o.others es e (listed o) f v (rw (o.of_class, same) is_parameter) (rw o.of_class taking.taken) d x _ _ _ g
 
-    pub parameter_passed : {at : ℕ} → r.number ≡ 0 → (z : List ℕ) (v : Walked) → InCommand s at k node r.next st' r.nodes r.pool t' z v
-        → InCommand s at k node i st n p t z v
+    pub parameter_passed : {at : ℕ} → r.number ≡ 0 → (z : List ℕ) (w : Walked) → InCommand s at k node r.next st' r.nodes r.pool t' z w
+        → InCommand s at k node i st n p t z w
     unfolding expr_class list_class
-    parameter_passed {at} y z' v b =
-        record {
-          answers = λ ps m x es e u g v. let o = opened taking same z u in rw o.made (by x es e o (by_outcome o) g v);
-          leads = λ u.
-              before_out (list_from taking z (λ x has name. list_passed w r (omega arith) has name judged.leads past-it y)) (b.leads u);
-        }
+    parameter_passed {at} y z' w b =
+        record { answers = λ ps m x es e u g v. let o = opened taking same z u in rw o.made (by x es e o (by_outcome o) g v) }
       where
-        by : (x : Bracket) (es : Exprs) (e : ℕ) {ps : Exprs} {m : ℕ} (o : NamedListFirst s command_levels q (command_class c) j' ps m) → ChildVerdict k n p (listed o) r
-            → Bracketed s imperative_levels at m x → RunStands s imperative_levels (m + 1) es e → BlockAnswer s at k node st n p t z' (in_command (and (listed o) o.others)) es e v
+        by : (x : Bracket) (es : Exprs) (e : ℕ) {ps : Exprs} {m : ℕ} (o : NamedListFirst s q (command_class c) j' ps m) → ChildVerdict k n p (listed o) r → Has s m (closing x)
+            → RunStands s (m + 1) es e → BlockAnswer s at k node st n p t z' (in_command (and (listed o) o.others)) es e w
         by x es e {m} o (passed d v nodes pool) g u =
             command_passed {st' = st'} o.others (listed o) (rw (o.of_class, same) is_parameter) (rw o.of_class taking.taken) d
             (list_tape judged past-it o y)
@@ -520,8 +480,7 @@ module _ (s : List ℕ) (i : ℕ) {sort q c j l : ℕ} (looked : Looked s i sort
       by_child d = child_verdict s j' k n p d.one r bounded (omega (arith, taking.forward, taking.next)) d.same
 
       pub child_stopped : {at : ℕ} {z : List ℕ} → (r.number ≡ 0 → ⊥) → InContent s at k node i st n p t z r
-      child_stopped {at} {z = z'} y =
-          record { answers = λ es e u. let d = child.counted es e (opened taking itself z u) in by d (by_child d); leads = λ x. absurd (y x) }
+      child_stopped {at} {z = z'} y = record { answers = λ es e u. let d = child.counted es e (opened taking itself z u) in by d (by_child d) }
         where
           by : {es : Exprs} {e : ℕ} (d : ChildAnswer s k (loose_class c) n p node t t' es e r) → ChildVerdict k n p d.one r
               → BlockAnswer s at k node st n p t z' none es e r
@@ -530,13 +489,7 @@ module _ (s : List ℕ) (i : ℕ) {sort q c j l : ℕ} (looked : Looked s i sort
 
       pub child_passed : {at : ℕ} → r.number ≡ 0 → (z : List ℕ) (w : Walked) → InContent s at k node r.next st' r.nodes r.pool t' z w
           → InContent s at k node i st n p t z w
-      child_passed {at} y z' w b =
-          record {
-            answers = λ es e u. let d = child.counted es e (opened taking itself z u) in by d (by_child d);
-            leads = λ v.
-                and_on (list_from {lv = imperative_levels} {m = r.next} taking z (λ x has name. list_leads {d = command_levels} has (before_out name (child.leads y))))
-                (b.leads v);
-          }
+      child_passed {at} y z' w b = record { answers = λ es e u. let d = child.counted es e (opened taking itself z u) in by d (by_child d) }
         where
           by : {es : Exprs} {e : ℕ} (d : ChildAnswer s k (loose_class c) n p node t t' es e r) → ChildVerdict k n p d.one r
               → BlockAnswer s at k node st n p t z' none es e w
@@ -555,24 +508,24 @@ block_same q c k n p m lead es e h g = rw (e, h) (g ∙ rw (start_state c, add-o
 -- And it is on the tape: its node is entered before the block is walked, and left after it.
 pub block_tape : {s t₁ t₂ z : List ℕ} {j : ℕ} {w : Walked} (t : List ℕ) (q c n node p m : ℕ) (lead : Expr) (es : Exprs) → lead_class lead ≡ c
     → Class.is_element c ≡ true
-    → Bounded s j w → 0 < j → w ≡ run_answer q c 0 (n + 1) p m es → t₁ ≡ entered t n q c node 0
-    → t₂ ≡ taped_all t₁ (n + 1) n es → z ≡ left t₂ n w.nodes → w.number ≡ 0
+    → Bounded s j w → 0 < j → w ≡ run_answer q c 0 (n + 1) p m es → (length t ≡ 32768 → t₁ ≡ entered t n q c node 0)
+    → (length t₁ ≡ 32768 → t₂ ≡ taped_all t₁ (n + 1) n es) → (length t₂ ≡ 32768 → z ≡ left t₂ n w.nodes) → w.number ≡ 0 → length t ≡ 32768
     → z ≡ taped t n node (list q (and lead es))
 unfolding run_answer
-block_tape {t₁ = t₁} {t₂ = t₂} {z = z} {w = w} t q c n node p m lead es e h bounded some g before walked after y =
+block_tape {t₁ = t₁} {t₂ = t₂} {z = z} {w = w} t q c n node p m lead es e h bounded some g before walked after y full =
     element_tape_lem t t₁ t₂ z n node q c w.nodes es before walked after
-    (nodes_counted m (n + 1 + node_count_in es) (p + pool_bytes_in es) (finish q c (run q c (state_of c 0) es)) bounded some g y)
+    (nodes_counted m (n + 1 + node_count_in es) (p + pool_bytes_in es) (finish q c (run q c (state_of c 0) es)) bounded some g y) full
     ∙ sym (taped_element t n node q c lead es e h)
 
 -- A command's block is the child.
 pub command_child : {s t t₁ t₂ z : List ℕ} {q j k c n p node : ℕ} {w : Walked} → leads_command c ≡ true → Belongs k c → 0 < j → Bounded s j w
-    → InCommand s q c n j 0 (n + 1) p t₁ t₂ w → t₁ ≡ entered t n q c node 0
-    → (w.number ≡ 0 → z ≡ left t₂ n w.nodes) → JudgesChild s q j k c n p node t z w
+    → InCommand s q c n j 0 (n + 1) p t₁ t₂ w → (length t ≡ 32768 → t₁ ≡ entered t n q c node 0)
+    → (w.number ≡ 0 → length t₂ ≡ 32768 → z ≡ left t₂ n w.nodes) → JudgesChild s q j k c n p node t z w
 unfolding leads_command is_command expr_class list_class block
 command_child {t = t} {q = q} {k = k} {c = c} {n = n} {p = p} {node = node} {w = w} h b some bounded a before after =
     record {
       counted = λ es e o.
-          let d = a.answers o.rest o.end o.bracket o.others e o.follows o.brackets o.goes_on in
+          let d = a.answers o.rest o.end o.bracket o.others e o.follows o.closed o.goes_on in
           let element = block_element c (both (Class.is_block c) _ (true_T h)).0 in
           rw o.made
           (record {
@@ -583,18 +536,17 @@ command_child {t = t} {q = q} {k = k} {c = c} {n = n} {p = p} {node = node} {w =
                 (rw o.of_class (b.lesser h)) (rw o.of_class d.takes) u;
             of_class = o.of_class;
             same = block_same q c k n p w.next o.lead _ o.of_class element d.same;
-            tapes = λ y. block_tape t q c n node p w.next o.lead _ o.of_class element bounded some d.same before (d.tapes y)
-                (after y) y;
+            tapes = λ y full. block_tape t q c n node p w.next o.lead _ o.of_class element bounded some d.same before (d.tapes y)
+                (after y) y full;
             goes_on = d.goes_on;
           });
-      leads = a.leads;
     }
 
 -- Any other list is itself the child.
 pub inside_child : {s t z : List ℕ} {q j k c n p node : ℕ} {w r : Walked} → leads_command c ≡ false → Belongs k c → Bounded s j w
-    → JudgesList s command_levels q j k c n p node t z w → r ≡ past_bracket s q w → 0 < j → JudgesChild s q j k c n p node t z r
-unfolding leads_command is_command expr_class list_class walked_to
-inside_child {s = s} {q = q} {w = w} {r = r} h b bounded judged past-it some =
+    → JudgesList s q j k c n p node t z w → r ≡ past_bracket (length s) w → 0 < j → JudgesChild s q j k c n p node t z r
+unfolding leads_command is_command expr_class list_class
+inside_child h b bounded judged past-it some =
     record {
       counted = λ es e o.
           let (same, on) = list_answer bounded judged past-it some o in
@@ -605,10 +557,7 @@ inside_child {s = s} {q = q} {w = w} {r = r} h b bounded judged past-it some =
             takes = λ content rest u. rw (loose_same (listed o) (rw o.of_class b.itself)) at (expression {x = listed o} (rw o.of_class h) u);
             of_class = o.of_class;
             same = same;
-            tapes = λ y. list_tape judged past-it o y;
+            tapes = λ y full. list_tape judged past-it o y full;
             goes_on = on;
           });
-      leads = λ y.
-          let g = past_none s q w r past-it y in
-          rw g.is (leads_out (judged.leads g.fine_before) (partners g.inside g.partner));
     }

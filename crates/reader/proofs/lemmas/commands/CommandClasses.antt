@@ -134,7 +134,7 @@ pub record FirstSeen (r : Seen) (es : Exprs) : Type 0 where
   pub placed : place one ≡ r.place
   pub of_class : expr_class one ≡ r.class
 
-pub first_seen : {s : List ℕ} {d : ℕ} {r : Seen} {es : Exprs} {e : ℕ} → SeenAs s d r es e → (r.sort ≡ 0 → ⊥) → FirstSeen r es
+pub first_seen : {s : List ℕ} {r : Seen} {es : Exprs} {e : ℕ} → SeenAs s r es e → (r.sort ≡ 0 → ⊥) → FirstSeen r es
 unfolding place expr_class
 first_seen (saw_end h) z = absurd (z h)
 first_seen (saw_symbol h c l f t) z = record { one = _; others = _; made = refl; placed = refl; of_class = sym c }
@@ -142,11 +142,11 @@ first_seen (saw_string h c l f t) z = record { one = _; others = _; made = refl;
 first_seen (saw_list x h c f t d b u) z = record { one = _; others = _; made = refl; placed = refl; of_class = sym c }
 
 -- Where a symbol or a string is seen, it is the first of the expressions.
-pub record AtomSeen (s : List ℕ) (d : ℕ) (r : Seen) (es : Exprs) (e : ℕ) : Type 0 where
+pub record AtomSeen (s : List ℕ) (r : Seen) (es : Exprs) (e : ℕ) : Type 0 where
   pub one : Expr
   pub others : Exprs
   pub made : es ≡ and one others
-  pub stands : RunStands s d r.next others e
+  pub stands : RunStands s r.next others e
   pub text : r.class ≡ Class.text
   pub of_class : expr_class one ≡ Class.text
   pub no_command : is_command one ≡ false
@@ -154,12 +154,12 @@ pub record AtomSeen (s : List ℕ) (d : ℕ) (r : Seen) (es : Exprs) (e : ℕ) :
   pub judged : (k : ℕ) → judge k one ≡ fine
   pub nodes : node_count one ≡ 1
   pub bytes : pool_bytes one ≡ r.length
-  pub on_tape : (t : List ℕ) (n node : ℕ) → taped t n node one ≡ entered t n r.place Class.text node r.length
+  pub on_tape : (t : List ℕ) (n node : ℕ) → taped t n node one ≡ entered t n r.place Class.text node (n + 1)
 
-pub atom_seen : {s : List ℕ} {d : ℕ} {r : Seen} {es : Exprs} {e : ℕ} → SeenAs s d r es e → (r.sort ≡ 0 → ⊥) → (r.sort ≡ 3 → ⊥) → AtomSeen s d r es e
+pub atom_seen : {s : List ℕ} {r : Seen} {es : Exprs} {e : ℕ} → SeenAs s r es e → (r.sort ≡ 0 → ⊥) → (r.sort ≡ 3 → ⊥) → AtomSeen s r es e
 unfolding expr_class is_command loose is_block_parameter Class.is_block judge node_count pool_bytes taped
 atom_seen (saw_end h) z a = absurd (z h)
-atom_seen {s} {d} {r} (saw_symbol h c l f t) z a =
+atom_seen {s} {r} (saw_symbol h c l f t) z a =
     record {
       one = symbol r.place (atom_value (drop r.place s));
       others = _;
@@ -172,9 +172,9 @@ atom_seen {s} {d} {r} (saw_symbol h c l f t) z a =
       judged = λ k. refl;
       nodes = refl;
       bytes = sym l;
-      on_tape = λ t n node. rw l;
+      on_tape = λ t n node. refl;
     }
-atom_seen {s} {d} {r} (saw_string h c l f t) z a =
+atom_seen {s} {r} (saw_string h c l f t) z a =
     record {
       one = quoted r.place (atom_value (drop r.place s));
       others = _;
@@ -187,6 +187,6 @@ atom_seen {s} {d} {r} (saw_string h c l f t) z a =
       judged = λ k. refl;
       nodes = refl;
       bytes = sym l;
-      on_tape = λ t n node. rw l;
+      on_tape = λ t n node. refl;
     }
 atom_seen (saw_list x h c f t d b u) z a = absurd (a h)

@@ -4,12 +4,11 @@ use mathlib.Core.Path.{◌≡◌, refl, ap, sym, ◌∙◌}
 use mathlib.Core.List.{List, [], ◌∷◌}
 use native.Mathlib.Nat.{zero-add}
 use native.Mathlib.Omega.{arith}
-use lib.ListN.{length, drop}
+use lib.ListN.{length}
 use borrow.Author.Tests.{le-ltb, ne_eqb}
 use Rattle.elements.specs.rules.Class as Class
-use Rattle.syntax.specs.reference.Scan.{scan}
-use Rattle.syntax.specs.rules.Expression.{Expr, Exprs, none, and, place, depth, depth_all}
-use Rattle.lexer.specs.Token.{Seen, seen, scan_number}
+use Rattle.syntax.specs.rules.Expression.{Expr, Exprs, and, place, depth, depth_all}
+use Rattle.lexer.specs.Token.{Seen}
 use Rattle.document.specs.rules.Spelling.{imperative}
 use Rattle.document.specs.rules.Lead.{expr_class, list_class}
 use Rattle.document.specs.reference.Meaning.{fine, fault, judge, judge_root}
@@ -19,7 +18,6 @@ use Rattle.document.specs.reference.Outcome.{is_too_deep, judged, one_expression
 use Rattle.document.proofs.Regroup.{block_class}
 use Rattle.document.proofs.RegroupedDepth.{depth_regrouped}
 use Rattle.reader.specs.internal.RunStands.{RunStands}
-use Rattle.reader.specs.internal.ScanLeads.{LeadsOut}
 use Rattle.reader.specs.internal.Counts.{node_count, pool_bytes}
 use Rattle.reader.specs.internal.WalkAnswer.{walked_to, Bounded, read_walked}
 use Rattle.reader.specs.internal.Tape.{entered, left, taped}
@@ -27,27 +25,25 @@ use Rattle.document.specs.rules.Takes.{Takes}
 use Rattle.reader.specs.internal.Walk.{NamedListFirst}
 use Rattle.reader.specs.internal.BlockWalk.{InCommand}
 use Rattle.reader.specs.declared.walk.Walked.{Walked}
-use Rattle.reader.proofs.lemmas.walk.ScanLeads.{and_on, seen_leads, before_out, list_leads, whole_leads}
-use Rattle.reader.proofs.lemmas.walk.SeenExpressions.{SeenAs, saw_end, saw_symbol, saw_string, saw_list, look_stands, end_seen, stands_depth}
+use Rattle.reader.proofs.lemmas.walk.SeenExpressions.{SeenAs, saw_end, saw_symbol, saw_string, saw_list, look_stands}
 use Rattle.reader.proofs.lemmas.walk.OneTurn.{Looked, seen_forward, open_list}
-use Rattle.document.proofs.BlockContents.{takes_contents, all_taken}
+use Rattle.document.proofs.BlockContents.{takes_contents}
 use Rattle.reader.proofs.lemmas.commands.CommandClasses.{FirstSeen, first_seen, block_place}
 use Rattle.reader.proofs.lemmas.commands.BlockLoops.{ChildVerdict, passed, stopped, child_verdict, block_same, block_tape, listed}
 
--- w is the answer of a text whose lists nest within the limit, and z the tape t with its document; and the scan finds no fault in a text that is accepted.
+-- w is the answer of a text that was scanned, and z the tape t with its document.
 abbrev pub JudgesImperative : List ℕ → List ℕ → List ℕ → Walked → Type 0
 JudgesImperative s t z w =
-    ((es : Exprs) → RunStands s 59 0 es (length s) → w ≡ read_walked (one_expression imperative (length s) es))
-    × (((e : Expr) (es : Exprs) → RunStands s 59 0 (and e es) (length s) → w.number ≡ 0
-    → z ≡ taped t 0 0 (regroup e es))
-    × (w.number ≡ 0 → scan_number (scan 59 s) ≡ 0))
+    ((es : Exprs) → RunStands s 0 es (length s) → depth_all es ≤ 59 → w ≡ read_walked (one_expression imperative (length s) es))
+    × ((e : Expr) (es : Exprs) → RunStands s 0 (and e es) (length s) → depth_all (and e es) ≤ 59 → w.number ≡ 0 → length t ≡ 32768
+    → z ≡ taped t 0 4294967295 (regroup e es))
 
 -- What a block takes is the content that regrouping gives the document.
 regrouped : {es content rest : Exprs} (x : Expr) → Takes 4 es content rest → regroup x es ≡ block x content
 unfolding regroup innermost Class.significance
 regrouped x t = ap (λ cs. block x (innermost cs)) (takes_contents [] t)
 
-none_judged : {s : List ℕ} {d : ℕ} {r : Seen} {es : Exprs} {e : ℕ} (n : ℕ) → SeenAs s d r es e → r.sort ≡ 0 → walked_to 0 0 0 (fault 7 n) ≡ read_walked (one_expression imperative n es)
+none_judged : {s : List ℕ} {r : Seen} {es : Exprs} {e : ℕ} (n : ℕ) → SeenAs s r es e → r.sort ≡ 0 → walked_to 0 0 0 (fault 7 n) ≡ read_walked (one_expression imperative n es)
 unfolding walked_to read_walked one_expression
 none_judged n (saw_end h) z = refl
 none_judged n (saw_symbol h c l f t) z = cc
@@ -74,15 +70,15 @@ module _ (n : ℕ) (x : Expr) (es : Exprs) where
   fine_answer h d = rw (h, le-ltb 64 (depth (regroup x es)) (depth_regrouped x es h d))
 
 -- Where a document is seen, it is a list that is opened.
-document_opened : {s : List ℕ} {lv : ℕ} {r : Seen} {es : Exprs} {e : ℕ} → SeenAs s lv r es e → (r.sort ≡ 0 → ⊥) → r.class ≡ Class.document
-    → NamedListFirst s lv r.place r.class r.next es e
+document_opened : {s : List ℕ} {r : Seen} {es : Exprs} {e : ℕ} → SeenAs s r es e → (r.sort ≡ 0 → ⊥) → r.class ≡ Class.document
+    → NamedListFirst s r.place r.class r.next es e
 document_opened (saw_end h) z d = absurd (z h)
 document_opened (saw_symbol h c l f t) z d = absurd (omega (arith, c, d))
 document_opened (saw_string h c l f t) z d = absurd (omega (arith, c, d))
 document_opened (saw_list x h c f t g b u) z d = open_list (saw_list x h c f t g b u) h (λ y. omega (arith, y, d))
 
 -- A document's block: the answer is that of its nested form.
-module _ {s t₁ t₂ : List ℕ} {q j e : ℕ} {es : Exprs} {w : Walked} (o : NamedListFirst s 59 q Class.document j es e)
+module _ {s t₁ t₂ : List ℕ} {q j e : ℕ} {es : Exprs} {w : Walked} (o : NamedListFirst s q Class.document j es e)
     (answer : InCommand s q Class.document 0 j 0 1 0 t₁ t₂ w) where
   abbrev nested : Expr
   nested = regroup (listed o) o.others
@@ -90,17 +86,17 @@ module _ {s t₁ t₂ : List ℕ} {q j e : ℕ} {es : Exprs} {w : Walked} (o : N
   document_answer : w ≡ walked_to w.next (0 + node_count nested) (0 + pool_bytes nested) (judge 0 nested)
   unfolding block Class.is_element Class.is_kind Class.significance
   document_answer =
-      let a = answer.answers o.rest o.end o.bracket o.others e o.follows o.brackets o.goes_on in
+      let a = answer.answers o.rest o.end o.bracket o.others e o.follows o.closed o.goes_on in
       rw (regrouped (listed o) a.takes) (block_same q 1 0 0 0 w.next o.lead _ o.of_class refl a.same)
 
   -- Its node is entered before the block is walked, and left after it.
-  document_tape : (t z : List ℕ) → Bounded s j w → 0 < j → t₁ ≡ entered t 0 q 1 0 0
-      → (w.number ≡ 0 → z ≡ left t₂ 0 w.nodes) → w.number ≡ 0 → z ≡ taped t 0 0 nested
+  document_tape : (t z : List ℕ) → Bounded s j w → 0 < j → (length t ≡ 32768 → t₁ ≡ entered t 0 q 1 4294967295 0)
+      → (w.number ≡ 0 → length t₂ ≡ 32768 → z ≡ left t₂ 0 w.nodes) → w.number ≡ 0 → length t ≡ 32768 → z ≡ taped t 0 4294967295 nested
   unfolding block Class.is_element Class.is_kind Class.significance
-  document_tape t z bounded some before after y =
-      let a = answer.answers o.rest o.end o.bracket o.others e o.follows o.brackets o.goes_on in
+  document_tape t z bounded some before after y full =
+      let a = answer.answers o.rest o.end o.bracket o.others e o.follows o.closed o.goes_on in
       rw (regrouped (listed o) a.takes)
-      (block_tape t q 1 0 0 0 w.next o.lead _ o.of_class refl bounded some a.same before (a.tapes y) (after y) y)
+      (block_tape t q 1 0 4294967295 0 w.next o.lead _ o.of_class refl bounded some a.same before (a.tapes y) (after y) y full)
 
   root : judge_root nested ≡ judge 0 nested
   unfolding judge_root regroup expr_class list_class
@@ -125,72 +121,48 @@ same_regrouped : {x y : Expr} {es others : Exprs} → and y es ≡ and x others 
 same_regrouped {x} {y} {es} {others} e = let a : x ≡ y = cc in let b : others ≡ es = cc in rw (a, b)
 
 module _ (s t : List ℕ) {sort q c j l : ℕ} (looked : Looked s 0 sort q c j l) where
-  refused_so : {z : List ℕ} {w : Walked} (f p : ℕ) → 0 < f → w ≡ walked_to 0 0 0 (fault f p)
-      → ((es : Exprs) → RunStands s 59 0 es (length s) → w ≡ read_walked (one_expression imperative (length s) es)) → JudgesImperative s t z w
-  unfolding walked_to
-  refused_so {w = w} f p some g answers =
-      let no_zero : w.number ≡ 0 → ⊥ = λ y. omega (arith, y, ap (λ (w : Walked). w.number) g) in
-      (answers, (λ e es u y. absurd (no_zero y), λ y. absurd (no_zero y)))
-
   pub nothing_seen : {z : List ℕ} {w : Walked} → sort ≡ 0 → w ≡ walked_to 0 0 0 (fault 7 (length s)) → JudgesImperative s t z w
-  nothing_seen z g =
-      refused_so 7 (length s) (omega arith) g (λ es u. g ∙ none_judged (length s) (look_stands s 0 (length s) es u) (sym looked.0 ∙ z))
+  unfolding walked_to
+  nothing_seen z g = (
+    λ es u d. g ∙ none_judged (length s) (look_stands s 0 (length s) es u) (sym looked.0 ∙ z),
+    λ e es u d y full. absurd (omega (arith, y, ap (λ (w : Walked). w.number) g)),
+  )
 
   module _ (some : sort ≡ 0 → ⊥) where
     pub no_document : {z : List ℕ} {w : Walked} → (c ≡ Class.document → ⊥) → w ≡ walked_to 0 0 0 (fault 8 q) → JudgesImperative s t z w
-    no_document h g =
-        refused_so 8 q (omega arith) g
-        (λ es u.
-        g ∙ rw looked.1 (other_judged (length s) (first_seen (look_stands s 0 (length s) es u) (λ z. some (looked.0 ∙ z))) (rw looked.2 at h)))
+    unfolding walked_to
+    no_document h g = (
+      λ es u d.
+          g ∙ rw looked.1 (other_judged (length s) (first_seen (look_stands s 0 (length s) es u) (λ z. some (looked.0 ∙ z)))
+          (rw looked.2 at h)),
+      λ e es u d y full. absurd (omega (arith, y, ap (λ (w : Walked). w.number) g)),
+    )
 
-    pub nothing_passed : {z : List ℕ} {w : Walked} → j < 1 → w ≡ walked_to 0 0 0 (fault 8 q) → JudgesImperative s t z w
-    nothing_passed h g =
-        refused_so 8 q (omega arith) g
-        (λ es u. absurd (omega (arith, looked.3, seen_forward (look_stands s 0 (length s) es u) (λ z. some (looked.0 ∙ z)))))
+    forward_some : {es : Exprs} → RunStands s 0 es (length s) → j < 1 → ⊥
+    forward_some {es} u h = omega (arith, looked.3, seen_forward (look_stands s 0 (length s) es u) (λ z. some (looked.0 ∙ z)))
+
+    pub nothing_passed : {z : List ℕ} {w : Walked} → j < 1 → JudgesImperative s t z w
+    nothing_passed h = (λ es u d. absurd (forward_some u h), λ e es u d y full. absurd (forward_some u h))
 
     -- A document is seen, and w is the answer of its block.
     module _ {t₁ t₂ : List ℕ} {w : Walked} (h : c ≡ Class.document) (forward : 0 < j) (bounded : Bounded s j w)
         (answer : InCommand s q Class.document 0 j 0 1 0 t₁ t₂ w) where
-      opened : {es : Exprs} → RunStands s 59 0 es (length s) → NamedListFirst s 59 q c j es (length s)
+      opened : {es : Exprs} → RunStands s 0 es (length s) → NamedListFirst s q c j es (length s)
       opened {es} u =
           rw (looked.1, looked.2, looked.3) (document_opened (look_stands s 0 (length s) es u) (λ z. some (looked.0 ∙ z)) (sym looked.2 ∙ h))
 
       pub document_fault : {z : List ℕ} → (w.number ≡ 0 → ⊥) → JudgesImperative s t z w
       document_fault y = (
-        λ es u. let o = rw h at (opened u) in document_stopped o answer (length s) (by_outcome o answer bounded forward) y,
-        (λ e es u x. absurd (y x), λ x. absurd (y x)),
+        λ es u d. let o = rw h at (opened u) in document_stopped o answer (length s) (by_outcome o answer bounded forward) y,
+        λ e es u d x full. absurd (y x),
       )
 
-      -- Nothing is left of the text: from the block's end on, this is seen.
-      module _ {sort' q' c' j' l' : ℕ} (y : w.number ≡ 0) (last : Looked s w.next sort' q' c' j' l') where
-        block_ends : {es : Exprs} → RunStands s 59 0 es (length s) → q' ≡ length s
-        unfolding Class.significance
-        block_ends u =
+      pub document_fine : {z : List ℕ} → w.number ≡ 0 → (length t ≡ 32768 → t₁ ≡ entered t 0 q 1 4294967295 0)
+          → (w.number ≡ 0 → length t₂ ≡ 32768 → z ≡ left t₂ 0 w.nodes)
+          → JudgesImperative s t z (record { number = 0; place = 0; next = 0; nodes = w.nodes; pool = w.pool })
+      document_fine {z} y before after = (
+        λ es u d. let o = rw h at (opened u) in document_passed o answer (length s) (by_outcome o answer bounded forward) y d,
+        λ e es u d x full.
             let o = rw h at (opened u) in
-            let a = answer.answers o.rest o.end o.bracket o.others (length s) o.follows o.brackets o.goes_on in
-            let none_left : RunStands s 59 w.next none (length s) = rw (all_taken (omega arith) a.takes) at (a.goes_on y) in
-            last.1 ∙ end_seen (look_stands s w.next (length s) none none_left)
-
-        pub document_unfinished : {z : List ℕ} {r : Walked} → q' < length s → r ≡ walked_to 0 0 0 (fault 8 q') → JudgesImperative s t z r
-        document_unfinished more g = refused_so 8 q' (omega arith) g (λ es u. absurd (omega (arith, block_ends u)))
-
-        scans : length s ≤ q' → scan_number (scan 59 s) ≡ 0
-        scans all =
-            let l = seen_leads s 59 0 in
-            let is_list = l.is_list (λ e. omega (arith, looked.2, e, h)) (λ e. omega (arith, looked.2, e, h)) in
-            let has = (l.bracket is_list).1 in
-            let out : LeadsOut s 58 (seen 0 (drop 0 s)).place j w.next = rw (← looked.1) (answer.leads y) in
-            let document = list_leads has (before_out (rw looked.3 (l.name is_list 58)) out) in
-            whole_leads s 59 q' all (and_on l.blank_leads (and_on document (rw last.1 (seen_leads s 59 w.next).blank_leads)))
-
-        pub document_fine : {z : List ℕ} → length s ≤ q' → t₁ ≡ entered t 0 q 1 0 0 → (w.number ≡ 0 → z ≡ left t₂ 0 w.nodes)
-            → JudgesImperative s t z (record { number = 0; place = 0; next = 0; nodes = w.nodes; pool = w.pool })
-        document_fine {z} all before after = (
-          λ es u. let o = rw h at (opened u) in document_passed o answer (length s) (by_outcome o answer bounded forward) y (stands_depth u),
-          (
-            λ e es u x.
-                let o = rw h at (opened u) in
-                document_tape o answer t z bounded forward before after y ∙ ap (taped t 0 0) (same_regrouped o.made),
-            λ x. scans all,
-          ),
-        )
+            document_tape o answer t z bounded forward before after y full ∙ ap (taped t 0 4294967295) (same_regrouped o.made),
+      )

@@ -16,11 +16,9 @@ use Rattle.base.specs.rules.Limits.{missing}
 use Rattle.document.specs.rules.Record.{record_length}
 use Rattle.document.specs.rules.Table.{offset}
 use Rattle.reader.specs.declared.fill.Entry.{Entry}
-use Rattle.reader.specs.internal.Filling.{Filling, seen_at, key_at, held_at, with_row, entry_at, text_row, element_row, next_row, Rowed}
-use Rattle.base.proofs.Stores.{sets_on}
-use Rattle.reader.proofs.lemmas.fill.Stores.{offset_is}
+use Rattle.reader.specs.internal.Filling.{Filling, held_at, with_row, entry_at, text_row, element_row, next_row, Rowed}
+use Rattle.reader.proofs.lemmas.fill.Stores.{sets_on, offset_is}
 use Rattle.reader.proofs.lemmas.walk.QuotedStrings.{atom_within}
-use Rattle.reader.proofs.lemmas.fill.PlainStrings.{seen_within, key_within}
 
 -- What is written is its parts.
 parts_same : (a : Filling) (n b : ℕ) (w p q : List ℕ) → n ≡ a.node → b ≡ a.bytes → w ≡ a.words → p ≡ a.places → q ≡ a.pool
@@ -29,14 +27,14 @@ parts_same a n b w p q e₁ e₂ e₃ e₄ e₅ = rw (e₁, e₂, e₃, e₄, e�
 
 -- The row of an element, from what is written: its strings have lengths k and t, their offset words are x and y.
 pub element_rowed : (s : List ℕ) (e : Entry) (a : Filling) (k t x y : ℕ) (w p m q : List ℕ)
-    → k ≡ length (key_at s e.key e.length) → t ≡ length (held_at s e.typename) → x ≡ cond (eqb k 0) 0 a.bytes → y ≡ cond (eqb t 0) 0 (a.bytes + k)
+    → k ≡ length (held_at s e.key) → t ≡ length (held_at s e.typename) → x ≡ cond (eqb k 0) 0 a.bytes → y ≡ cond (eqb t 0) 0 (a.bytes + k)
     → w ≡ sets a.words (record_length * a.node) (e.class ∷ e.parent ∷ e.end ∷ x ∷ k ∷ y ∷ t ∷ 0 ∷ 0 ∷ e.width ∷ e.height ∷ [])
     → p ≡ set a.places a.node e.place
-    → m ≡ sets a.pool a.bytes (key_at s e.key e.length) → q ≡ sets m (a.bytes + k) (held_at s e.typename)
+    → m ≡ sets a.pool a.bytes (held_at s e.key) → q ≡ sets m (a.bytes + k) (held_at s e.typename)
     → Rowed (element_row s e) a (record { node = a.node + 1; bytes = a.bytes + k + t; words = w; places = p; pool = q })
 unfolding element_row with_row offset
 element_rowed s e a k t x y w p m q ek et ex ey ew ep em eq =
-    let key : List ℕ = key_at s e.key e.length in
+    let key : List ℕ = held_at s e.key in
     let type : List ℕ = held_at s e.typename in
     let ox : x ≡ offset a.bytes key = ex ∙ rw ek (offset_is a.bytes key) in
     let oy : y ≡ offset (a.bytes + length key) type = ey ∙ rw (et, ek) (offset_is (a.bytes + length key) type) in
@@ -45,14 +43,14 @@ element_rowed s e a k t x y w p m q ek et ex ey ew ep em eq =
 
 -- The row of a text, of length n, with the offset word x.
 pub text_rowed : (s : List ℕ) (e : Entry) (a : Filling) (n x : ℕ) (w p q : List ℕ)
-    → n ≡ length (seen_at s e.place e.length) → x ≡ cond (eqb n 0) 0 a.bytes
+    → n ≡ length (atom_value (drop e.place s)) → x ≡ cond (eqb n 0) 0 a.bytes
     → w ≡ sets a.words (record_length * a.node) (Class.text ∷ e.parent ∷ (a.node + 1) ∷ 0 ∷ 0 ∷ 0 ∷ 0 ∷ x ∷ n ∷ missing ∷ missing ∷ [])
     → p ≡ set a.places a.node e.place
-    → q ≡ sets a.pool a.bytes (seen_at s e.place e.length)
+    → q ≡ sets a.pool a.bytes (atom_value (drop e.place s))
     → Rowed (text_row s e) a (record { node = a.node + 1; bytes = a.bytes + n; words = w; places = p; pool = q })
 unfolding text_row with_row offset
 text_rowed s e a n x w p q en ex ew ep eq =
-    let value : List ℕ = seen_at s e.place e.length in
+    let value : List ℕ = atom_value (drop e.place s) in
     let ox : x ≡ offset a.bytes value = ex ∙ rw en (offset_is a.bytes value) in
     parts_same (text_row s e a) (a.node + 1) (a.bytes + n) w p q refl (rw (add-zero, add-zero) (rw en)) (ew ∙ rw (add-zero, add-zero, ox, en)) ep eq
 
@@ -75,7 +73,7 @@ unfoldable pub rows_of : List ℕ → List ℕ → ℕ → Filling → Filling
 rows_of s t zero a = a
 rows_of s t (suc k) a = next_row s (entry_at t (rows_of s t k a).node) (rows_of s t k a)
 
-pub held_within : (s : List ℕ) (p : ℕ) → length (held_at s p) ≤ length s
+held_within : (s : List ℕ) (p : ℕ) → length (held_at s p) ≤ length s
 unfolding held_at
 held_within s p = cond_case (λ (v : List ℕ). length v ≤ length s) (eqb p 0) (λ c. omega arith) (λ c. atom_within s p)
 
@@ -84,8 +82,7 @@ pub row_grows : (s : List ℕ) (e : Entry) (a : Filling) → ((next_row s e a).n
 unfolding next_row text_row element_row with_row
 row_grows s e a =
     cond_case (λ (z : Filling). (z.node ≡ a.node + 1) × (z.bytes ≤ a.bytes + 2 * length s)) (eqb e.class Class.text)
-    (λ c. (refl, omega (arith, seen_within s e.place e.length)))
-    (λ c. (refl, omega (arith, key_within s e.key e.length, held_within s e.typename)))
+    (λ c. (refl, omega (arith, atom_within s e.place))) (λ c. (refl, omega (arith, held_within s e.key, held_within s e.typename)))
 
 pub rows_node : (s t : List ℕ) (k : ℕ) (a : Filling) → (rows_of s t k a).node ≡ a.node + k
 unfolding rows_of

@@ -20,7 +20,7 @@ use Rattle.document.proofs.Records.{rows_length_all}
 use Rattle.reader.specs.internal.Counts.{node_count_in}
 use Rattle.reader.specs.internal.Filling.{Filling, said_by, with_row}
 use Rattle.reader.proofs.lemmas.walk.Counts.{value_no_node, all_places_lem}
-use Rattle.base.proofs.Stores.{sets_on}
+use Rattle.reader.proofs.lemmas.fill.Stores.{sets_on}
 
 -- Between a and z the run was written, its nodes under this parent.
 pub record WroteRun (parent : ℕ) (es : Exprs) (a z : Filling) : Type 0 where

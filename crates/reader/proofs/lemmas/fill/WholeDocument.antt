@@ -1,5 +1,5 @@
 -- A document's node table, places and pool are what is written from its tape.
-use Prim.Native.Nat.{ℕ, ◌*◌, ◌≤◌}
+use Prim.Native.Nat.{ℕ, ◌≤◌}
 use mathlib.Core.Path.{◌≡◌, refl, ap, ◌∙◌}
 use mathlib.Core.Bool.{true}
 use mathlib.Core.List.{List, append-nil}
@@ -15,10 +15,8 @@ use Rattle.document.specs.reference.Meaning.{fine, judge_root, tree_of, trees_of
 use Rattle.document.specs.rules.Table.{pool, pool_all, rows_all, table_of}
 use Rattle.document.proofs.BlockExpressions.{root_document}
 use Rattle.reader.specs.internal.Counts.{node_count}
-use Rattle.reader.specs.internal.TapeWord.{node_words}
 use Rattle.reader.specs.internal.Tape.{taped, Located}
-use Rattle.reader.specs.internal.Filling.{Filling, parent_word, said_by}
-use Rattle.reader.proofs.lemmas.tape.AfterWalk.{length_taped}
+use Rattle.reader.specs.internal.Filling.{Filling, said_by}
 use Rattle.reader.proofs.lemmas.fill.Rows.{rows_of}
 use Rattle.reader.proofs.lemmas.fill.RunWrites.{WroteRun}
 use Rattle.reader.proofs.lemmas.fill.DocumentRows.{wrote_one}
@@ -48,12 +46,10 @@ root_whole e a z n b c w = (
   w.pool_is ∙ rw (b, root_said e (root_node e c), append-nil),
 )
 
-pub filled_whole : (s T : List ℕ) (k : ℕ) (a z : Filling) → a.node ≡ 0 → a.bytes ≡ 0 → length s ≤ 65536 → k ≤ 4096 → node_words * k ≤ length T
-    → z ≡ rows_of s T k a → (e : Expr) (t : List ℕ) → Located s e → judge_root e ≡ fine → T ≡ taped t 0 0 e → k ≡ node_count e → WroteDocument e a z
-unfolding parent_word
-filled_whole s T k a z n b short few long w e t o f is c =
+pub filled_whole : (s T : List ℕ) (k : ℕ) (a z : Filling) → a.node ≡ 0 → a.bytes ≡ 0 → k ≤ 4096 → z ≡ rows_of s T k a → (e : Expr) (t : List ℕ)
+    → Located s e → judge_root e ≡ fine → length t ≡ 32768 → T ≡ taped t 0 missing e → k ≡ node_count e → WroteDocument e a z
+filled_whole s T k a z n b few w e t o f l is c =
     let r = root_document e f in
-    let l : length T ≡ length t = ap length is ∙ length_taped t 0 0 e in
     let v : WroteRun missing (and e none) a (rows_of s T (node_count e) a) =
-    wrote_one s T short e 0 t 0 0 missing a n (omega arith, omega arith) (omega arith) refl (λ i h h'. ap (λ (u : List ℕ). get_or u i 0) is) o r.1 in
+    wrote_one s T e 0 t 0 missing a n (omega arith) (λ i h h'. ap (λ (u : List ℕ). get_or u i 0) is) o r.1 in
     root_whole e a z n b r.0 (rw (w, c) v)

@@ -1,16 +1,14 @@
 -- The expressions at the top of a text: where a run ends, where its first expression ends, and the answer of the one root.
 use Prim.Native.Nat.{ℕ, suc, ◌+◌, ◌-◌, ◌≤◌, ◌<◌}
 use mathlib.Core.Path.{◌≡◌, refl, sym, ap, ◌∙◌}
-use mathlib.Core.Bool.{Bool, true, false}
 use mathlib.Core.List.{List}
 use native.Mathlib.Omega.{arith}
 use native.Mathlib.Numerals.{add-one}
-use lib.Dec.{ltb}
 use lib.ListN.{length}
-use borrow.Author.Tests.{ne_eqb, ltb-true, ltb-false}
+use borrow.Author.Tests.{ne_eqb}
 use Rattle.elements.specs.rules.Class as Class
 use Rattle.elements.specs.rules.Inside.{start}
-use Rattle.syntax.specs.rules.Byte.{Bracket, opening, closing}
+use Rattle.syntax.specs.rules.Byte.{Bracket, closing}
 use Rattle.syntax.specs.rules.Expression.{Expr, symbol, quoted, list, Exprs, none, and, place}
 use Rattle.lexer.specs.Token.{Seen}
 use Rattle.document.specs.rules.Spelling.{nested}
@@ -18,32 +16,30 @@ use Rattle.document.specs.rules.Lead.{lead_class, list_class, expr_class}
 use Rattle.document.specs.reference.Meaning.{Verdict, fine, fault, finish, run, judge, judge_root}
 use Rattle.document.specs.reference.Outcome.{judged, is_too_deep, one_expression}
 use Rattle.reader.specs.internal.RunStands.{Has, RunStands}
-use Rattle.reader.specs.internal.ScanLeads.{Leads}
 use Rattle.reader.specs.internal.Walk.{NamedListFirst, Finishes, past_bracket}
-use Rattle.reader.specs.internal.FirstExpressions.{first_place, second_place, FirstJudged, Unfinished}
+use Rattle.reader.specs.internal.FirstExpressions.{first_place, second_place, FirstJudged}
 use Rattle.reader.specs.internal.Counts.{node_count, node_count_in, pool_bytes, pool_bytes_in}
 use Rattle.reader.specs.internal.WalkAnswer.{walked_to, Bounded, read_walked}
 use Rattle.reader.specs.internal.Tape.{entered, left, taped}
 use Rattle.reader.specs.declared.walk.Walked.{Walked}
-use Rattle.reader.proofs.lemmas.walk.SeenExpressions.{seen_bounds, SeenAs, saw_end, saw_symbol, saw_string, saw_list, look_stands, end_seen, stands_within}
+use Rattle.reader.proofs.lemmas.walk.SeenExpressions.{seen_bounds, SeenAs, saw_end, saw_symbol, saw_string, saw_list, look_stands, stands_within}
 use Rattle.reader.proofs.lemmas.walk.OneTurn.{Looked}
 use Rattle.reader.proofs.lemmas.tape.AfterWalk.{element_tape_lem, taped_element}
-use Rattle.reader.proofs.lemmas.walk.LoopInvariant.{past_none, list_passed, nodes_counted}
-use Rattle.reader.proofs.lemmas.walk.ScanLeads.{and_on, seen_leads}
+use Rattle.reader.proofs.lemmas.walk.LoopInvariant.{past_none, nodes_counted}
 use Rattle.reader.proofs.lemmas.commands.BlockLoops.{past_by}
 
 -- ---- what was seen, by its number
 
 -- The first of these expressions is a list, which holds `inner` and is closed at `end`.
-record ListFirst (s : List ℕ) (d q : ℕ) (es : Exprs) (e : ℕ) : Type 0 where
+record ListFirst (s : List ℕ) (q : ℕ) (es : Exprs) (e : ℕ) : Type 0 where
   inner : Exprs
   others : Exprs
   end : ℕ
   bracket : Bracket
   made : es ≡ and (list q inner) others
-  holds : RunStands s (d - 1) (q + 1) inner end
+  holds : RunStands s (q + 1) inner end
   closed : Has s end (closing bracket)
-  goes_on : RunStands s d (end + 1) others e
+  goes_on : RunStands s (end + 1) others e
 
 -- The first of these expressions is at q and of class c.
 pub record FirstExpression (q c : ℕ) (es : Exprs) : Type 0 where
@@ -53,48 +49,48 @@ pub record FirstExpression (q c : ℕ) (es : Exprs) : Type 0 where
   pub placed : place first ≡ q
   pub of_class : expr_class first ≡ c
 
-record AtomFirst (s : List ℕ) (d j : ℕ) (es : Exprs) (e : ℕ) : Type 0 where
+record AtomFirst (s : List ℕ) (j : ℕ) (es : Exprs) (e : ℕ) : Type 0 where
   first : Expr
   others : Exprs
   made : es ≡ and first others
-  goes_on : RunStands s d j others e
+  goes_on : RunStands s j others e
 
-module _ {s : List ℕ} {d : ℕ} {r : Seen} where
-  seen_end_lem : {es : Exprs} {e : ℕ} → SeenAs s d r es e → r.sort ≡ 0 → (es ≡ none) × (r.place ≡ e)
+module _ {s : List ℕ} {r : Seen} where
+  seen_end_lem : {es : Exprs} {e : ℕ} → SeenAs s r es e → r.sort ≡ 0 → (es ≡ none) × (r.place ≡ e)
   seen_end_lem (saw_end h) z = (refl, refl)
   seen_end_lem (saw_symbol h c l f t) z = let w : ◌≡◌ {A = ℕ} 0 1 = cc in absurd (omega arith)
   seen_end_lem (saw_string h c l f t) z = let w : ◌≡◌ {A = ℕ} 0 1 = cc in absurd (omega arith)
-  seen_end_lem (saw_list x h c f t o b u) z = let w : ◌≡◌ {A = ℕ} 0 1 = cc in absurd (omega arith)
+  seen_end_lem (saw_list x h c f t d b u) z = let w : ◌≡◌ {A = ℕ} 0 1 = cc in absurd (omega arith)
 
-  seen_first_lem : {es : Exprs} {e : ℕ} → SeenAs s d r es e → (r.sort ≡ 0 → ⊥) → FirstExpression r.place r.class es × (r.place < r.next)
+  seen_first_lem : {es : Exprs} {e : ℕ} → SeenAs s r es e → (r.sort ≡ 0 → ⊥) → FirstExpression r.place r.class es × (r.place < r.next)
   unfolding place expr_class
   seen_first_lem (saw_end h) z = absurd (z h)
   seen_first_lem (saw_symbol {es} h c l f t) z = (record { first = symbol r.place _; others = es; made = refl; placed = refl; of_class = sym c }, f)
   seen_first_lem (saw_string {es} h c l f t) z = (record { first = quoted r.place _; others = es; made = refl; placed = refl; of_class = sym c }, f)
-  seen_first_lem (saw_list {inner} {es} x h c f t o b u) z =
+  seen_first_lem (saw_list {inner} {es} x h c f t d b u) z =
       (record { first = list r.place inner; others = es; made = refl; placed = refl; of_class = sym c }, f)
 
-  seen_atom : {es : Exprs} {e : ℕ} → SeenAs s d r es e → (r.sort ≡ 0 → ⊥) → (r.sort ≡ 3 → ⊥) → AtomFirst s d r.next es e
+  seen_atom : {es : Exprs} {e : ℕ} → SeenAs s r es e → (r.sort ≡ 0 → ⊥) → (r.sort ≡ 3 → ⊥) → AtomFirst s r.next es e
   seen_atom (saw_end h) z a = absurd (z h)
   seen_atom (saw_symbol {es} h c l f t) z a = record { first = symbol r.place _; others = es; made = refl; goes_on = t }
   seen_atom (saw_string {es} h c l f t) z a = record { first = quoted r.place _; others = es; made = refl; goes_on = t }
-  seen_atom (saw_list x h c f t o b u) z a = absurd (a h)
+  seen_atom (saw_list x h c f t d b u) z a = absurd (a h)
 
-  seen_list : {es : Exprs} {e : ℕ} → SeenAs s d r es e → r.sort ≡ 3 → ListFirst s d r.place es e
+  seen_list : {es : Exprs} {e : ℕ} → SeenAs s r es e → r.sort ≡ 3 → ListFirst s r.place es e
   seen_list (saw_end h) z = let w : ◌≡◌ {A = ℕ} 0 1 = cc in absurd (omega arith)
   seen_list (saw_symbol h c l f t) z = let w : ◌≡◌ {A = ℕ} 0 1 = cc in absurd (omega arith)
   seen_list (saw_string h c l f t) z = let w : ◌≡◌ {A = ℕ} 0 1 = cc in absurd (omega arith)
-  seen_list (saw_list {inner} {es} {m} x h c f t o b u) z =
-      record { inner = inner; others = es; end = m; bracket = x; made = refl; holds = t; closed = b.closed; goes_on = u }
+  seen_list (saw_list {inner} {es} {m} x h c f t d b u) z =
+      record { inner = inner; others = es; end = m; bracket = x; made = refl; holds = t; closed = b; goes_on = u }
 
   -- What is of the class `document` is a list led by that name.
-  seen_document : {es : Exprs} {e : ℕ} → SeenAs s d r es e → (r.sort ≡ 0 → ⊥) → r.class ≡ Class.document → NamedListFirst s d r.place r.class r.next es e
+  seen_document : {es : Exprs} {e : ℕ} → SeenAs s r es e → (r.sort ≡ 0 → ⊥) → r.class ≡ Class.document → NamedListFirst s r.place r.class r.next es e
   seen_document (saw_end h) z a = absurd (z h)
   seen_document (saw_symbol h c l f t) z a = absurd (omega arith)
   seen_document (saw_string h c l f t) z a = absurd (omega arith)
-  seen_document (saw_list {inner} {es} {m} x h c f t lead b u) z a =
+  seen_document (saw_list {inner} {es} {m} x h c f t d b u) z a =
       let named : r.class ≡ 0 → ⊥ = λ o. omega arith in
-      let l = lead named in
+      let l = d named in
       let made : inner ≡ and l.lead l.rest = l.made in
       record {
         lead = l.lead;
@@ -105,42 +101,42 @@ module _ {s : List ℕ} {d : ℕ} {r : Seen} where
         made = cc;
         of_class = l.of_class;
         follows = l.follows;
-        brackets = b;
+        closed = b;
         goes_on = u;
       }
 
 -- The same, of what was looked at.
 module _ {s : List ℕ} {i sort q c j l : ℕ} (looked : Looked s i sort q c j l) where
-  pub looked_end : {d : ℕ} {es : Exprs} {e : ℕ} → RunStands s d i es e → sort ≡ 0 → (es ≡ none) × (q ≡ e)
-  looked_end {es = es} {e = e} t z = let r = seen_end_lem (look_stands s i e es t) (sym looked.0 ∙ z) in (r.0, looked.1 ∙ r.1)
+  pub looked_end : {es : Exprs} {e : ℕ} → RunStands s i es e → sort ≡ 0 → (es ≡ none) × (q ≡ e)
+  looked_end {es} {e} t z = let r = seen_end_lem (look_stands s i e es t) (sym looked.0 ∙ z) in (r.0, looked.1 ∙ r.1)
 
-  pub looked_first : {d : ℕ} {es : Exprs} {e : ℕ} → RunStands s d i es e → (sort ≡ 0 → ⊥) → FirstExpression q c es × (q < j)
-  looked_first {es = es} {e = e} t z = rw (looked.1, looked.2, looked.3) (seen_first_lem (look_stands s i e es t) (λ h. z (looked.0 ∙ h)))
+  pub looked_first : {es : Exprs} {e : ℕ} → RunStands s i es e → (sort ≡ 0 → ⊥) → FirstExpression q c es × (q < j)
+  looked_first {es} {e} t z = rw (looked.1, looked.2, looked.3) (seen_first_lem (look_stands s i e es t) (λ h. z (looked.0 ∙ h)))
 
-  looked_atom : {d : ℕ} {es : Exprs} {e : ℕ} → RunStands s d i es e → (sort ≡ 0 → ⊥) → (sort ≡ 3 → ⊥) → AtomFirst s d j es e
-  looked_atom {es = es} {e = e} t z a = rw looked.3 (seen_atom (look_stands s i e es t) (λ h. z (looked.0 ∙ h)) (λ h. a (looked.0 ∙ h)))
+  looked_atom : {es : Exprs} {e : ℕ} → RunStands s i es e → (sort ≡ 0 → ⊥) → (sort ≡ 3 → ⊥) → AtomFirst s j es e
+  looked_atom {es} {e} t z a = rw looked.3 (seen_atom (look_stands s i e es t) (λ h. z (looked.0 ∙ h)) (λ h. a (looked.0 ∙ h)))
 
-  looked_list : {d : ℕ} {es : Exprs} {e : ℕ} → RunStands s d i es e → sort ≡ 3 → ListFirst s d q es e
-  looked_list {es = es} {e = e} t z = rw looked.1 (seen_list (look_stands s i e es t) (sym looked.0 ∙ z))
+  looked_list : {es : Exprs} {e : ℕ} → RunStands s i es e → sort ≡ 3 → ListFirst s q es e
+  looked_list {es} {e} t z = rw looked.1 (seen_list (look_stands s i e es t) (sym looked.0 ∙ z))
 
-  looked_document : {d : ℕ} {es : Exprs} {e : ℕ} → RunStands s d i es e → (sort ≡ 0 → ⊥) → c ≡ Class.document → NamedListFirst s d q c j es e
-  looked_document {es = es} {e = e} t z a =
+  looked_document : {es : Exprs} {e : ℕ} → RunStands s i es e → (sort ≡ 0 → ⊥) → c ≡ Class.document → NamedListFirst s q c j es e
+  looked_document {es} {e} t z a =
       rw (looked.1, looked.2, looked.3) (seen_document (look_stands s i e es t) (λ h. z (looked.0 ∙ h)) (sym looked.2 ∙ a))
 
 -- ---- where a run ends
 
 -- At place i, inside d lists of a run that ends at e.
 pub data Nest (s : List ℕ) (e : ℕ) : ℕ → ℕ → Type 0 where
-  outside : {v i : ℕ} {es : Exprs} → RunStands s v i es e → Nest s e i 0
-  inside : {v i m d : ℕ} {es : Exprs} {x : Bracket} → RunStands s v i es m → Has s m (closing x) → Nest s e (m + 1) d → Nest s e i (suc d)
+  outside : {i : ℕ} {es : Exprs} → RunStands s i es e → Nest s e i 0
+  inside : {i m d : ℕ} {es : Exprs} {x : Bracket} → RunStands s i es m → Has s m (closing x) → Nest s e (m + 1) d → Nest s e i (suc d)
 
 -- The loop's invariant: what began at `from` has got to i, and each list took a byte.
 pub record Running (s : List ℕ) (from i d : ℕ) : Type 0 where
   pub shallow : d ≤ i
-  pub nests : (v : ℕ) (es : Exprs) (e : ℕ) → RunStands s v from es e → Nest s e i d
+  pub nests : (es : Exprs) (e : ℕ) → RunStands s from es e → Nest s e i d
 
 pub running : (s : List ℕ) (from : ℕ) → Running s from from 0
-running s from = record { shallow = omega arith; nests = λ v es e t. outside t }
+running s from = record { shallow = omega arith; nests = λ es e t. outside t }
 
 -- Past the text's end nothing is left.
 nest_over : {s : List ℕ} {e i d : ℕ} → Nest s e i d → length s ≤ i → i ≡ e
@@ -173,36 +169,36 @@ module _ {s : List ℕ} {i sort q c j l : ℕ} (looked : Looked s i sort q c j l
 
   -- The ways through the loop's body, and out of it.
   module _ {from d : ℕ} (running : Running s from i d) where
-    pub run_ends : sort ≡ 0 → d ≡ 0 → (v : ℕ) (es : Exprs) (e : ℕ) → RunStands s v from es e → q ≡ e
-    run_ends z h v es e t = nest_end (running.nests v es e t) z h
+    pub run_ends : sort ≡ 0 → d ≡ 0 → (es : Exprs) (e : ℕ) → RunStands s from es e → q ≡ e
+    run_ends z h es e t = nest_end (running.nests es e t) z h
 
-    pub run_unclosed : sort ≡ 0 → (d ≡ 0 → ⊥) → length s ≤ q → (v : ℕ) (es : Exprs) (e : ℕ) → RunStands s v from es e → q ≡ e
-    run_unclosed z h g v es e t = absurd (omega (arith, (nest_close (running.nests v es e t) z h).0))
+    pub run_unclosed : sort ≡ 0 → (d ≡ 0 → ⊥) → length s ≤ q → (es : Exprs) (e : ℕ) → RunStands s from es e → q ≡ e
+    run_unclosed z h g es e t = absurd (omega (arith, (nest_close (running.nests es e t) z h).0))
 
-    pub run_stuck : i ≤ length s → (sort ≡ 0 → ⊥) → j ≤ i → (v : ℕ) (es : Exprs) (e : ℕ) → RunStands s v from es e → i ≡ e
-    run_stuck within z h v es e t =
-        absurd (omega (arith, nest_forward (running.nests v es e t) z, (seen_bounds s i within).place_from, looked.1))
+    pub run_stuck : i ≤ length s → (sort ≡ 0 → ⊥) → j ≤ i → (es : Exprs) (e : ℕ) → RunStands s from es e → i ≡ e
+    run_stuck within z h es e t =
+        absurd (omega (arith, nest_forward (running.nests es e t) z, (seen_bounds s i within).place_from, looked.1))
 
     pub run_closes : i ≤ length s → sort ≡ 0 → (d ≡ 0 → ⊥) → Running s from (q + 1) (d - 1)
     run_closes within z h =
         record {
           shallow = omega (arith, running.shallow, (seen_bounds s i within).place_from, looked.1);
-          nests = λ v es e t. (nest_close (running.nests v es e t) z h).1;
+          nests = λ es e t. (nest_close (running.nests es e t) z h).1;
         }
 
     pub run_opens : i ≤ length s → sort ≡ 3 → Running s from (q + 1) (d + 1)
     run_opens within z =
         record {
           shallow = omega (arith, running.shallow, (seen_bounds s i within).place_from, looked.1);
-          nests = λ v es e t. rw (add-one d) (nest_list (running.nests v es e t) z);
+          nests = λ es e t. rw (add-one d) (nest_list (running.nests es e t) z);
         }
 
     pub run_passes : (sort ≡ 0 → ⊥) → (sort ≡ 3 → ⊥) → i < j → Running s from j d
     run_passes z a h =
-        record { shallow = omega (arith, running.shallow); nests = λ v es e t. nest_atom (running.nests v es e t) z a }
+        record { shallow = omega (arith, running.shallow); nests = λ es e t. nest_atom (running.nests es e t) z a }
 
-pub run_over : {s : List ℕ} {from i d : ℕ} → Running s from i d → length s ≤ i → (v : ℕ) (es : Exprs) (e : ℕ) → RunStands s v from es e → i ≡ e
-run_over running h v es e t = nest_over (running.nests v es e t) h
+pub run_over : {s : List ℕ} {from i d : ℕ} → Running s from i d → length s ≤ i → (es : Exprs) (e : ℕ) → RunStands s from es e → i ≡ e
+run_over running h es e t = nest_over (running.nests es e t) h
 
 -- Where what is seen from place i on lies.
 pub looked_within : (s : List ℕ) (i : ℕ) {sort q c j l : ℕ} → Looked s i sort q c j l → i ≤ length s
@@ -217,24 +213,24 @@ looked_within s i looked within =
 -- ---- where the first expression ends
 
 module _ {s : List ℕ} {i sort q c j l : ℕ} (looked : Looked s i sort q c j l) where
-  pub past_atom : (sort ≡ 3 → ⊥) → (d : ℕ) (x : Expr) (es : Exprs) (e : ℕ) → RunStands s d i (and x es) e → RunStands s d j es e
-  past_atom a d x es e t =
+  pub past_atom : (sort ≡ 3 → ⊥) → (x : Expr) (es : Exprs) (e : ℕ) → RunStands s i (and x es) e → RunStands s j es e
+  past_atom a x es e t =
       let some : sort ≡ 0 → ⊥ = λ z. let h = (looked_end looked t z).0 in let w : ◌≡◌ {A = ℕ} 0 1 = cc in omega arith in
       let r = looked_atom looked t some a in
       let same : r.others ≡ es = cc in
       rw same at r.goes_on
 
-  pub past_cut : sort ≡ 3 → length s ≤ q → (d : ℕ) (x : Expr) (es : Exprs) (e : ℕ) → RunStands s d i (and x es) e → ⊥
-  past_cut a h d x es e t =
+  pub past_cut : sort ≡ 3 → length s ≤ q → (x : Expr) (es : Exprs) (e : ℕ) → RunStands s i (and x es) e → ⊥
+  past_cut a h x es e t =
       let r = looked_list looked t a in omega (arith, stands_within s (q + 1) r.end r.inner r.holds)
 
   -- The run inside a list ends at its closing bracket.
-  pub past_list : {end : ℕ} → sort ≡ 3 → ((d : ℕ) (es : Exprs) (e : ℕ) → RunStands s d (q + 1) es e → end ≡ e)
-      → (d : ℕ) (x : Expr) (es : Exprs) (e : ℕ) → RunStands s d i (and x es) e → (end < length s) × RunStands s d (end + 1) es e
-  past_list {end} a h d x es e t =
+  pub past_list : {end : ℕ} → sort ≡ 3 → ((es : Exprs) (e : ℕ) → RunStands s (q + 1) es e → end ≡ e)
+      → (x : Expr) (es : Exprs) (e : ℕ) → RunStands s i (and x es) e → (end < length s) × RunStands s (end + 1) es e
+  past_list {end} a h x es e t =
       let r = looked_list looked t a in
       let same : r.others ≡ es = cc in
-      let here : end ≡ r.end = h (d - 1) r.inner r.end r.holds in
+      let here : end ≡ r.end = h r.inner r.end r.holds in
       (omega (arith, r.closed.inside), rw here (rw same at r.goes_on))
 
 -- ---- the second expression
@@ -256,31 +252,31 @@ unfolding second_place
 second_of_some n x e = rw e
 
 module _ {s : List ℕ} {i sort q c j l : ℕ} (looked : Looked s i sort q c j l) where
-  pub first_missing : sort ≡ 0 → (d : ℕ) (es : Exprs) → RunStands s d i es (length s) → length s ≡ first_place (length s) es
-  first_missing z d es t = first_of_none (length s) (looked_end looked t z).0
+  pub first_missing : sort ≡ 0 → (es : Exprs) → RunStands s i es (length s) → length s ≡ first_place (length s) es
+  first_missing z es t = first_of_none (length s) (looked_end looked t z).0
 
-  pub first_there : (sort ≡ 0 → ⊥) → (d : ℕ) (es : Exprs) → RunStands s d i es (length s) → q ≡ first_place (length s) es
-  first_there z d es t = let f = (looked_first looked t z).0 in sym f.placed ∙ first_of_some (length s) f.first f.made
+  pub first_there : (sort ≡ 0 → ⊥) → (es : Exprs) → RunStands s i es (length s) → q ≡ first_place (length s) es
+  first_there z es t = let f = (looked_first looked t z).0 in sym f.placed ∙ first_of_some (length s) f.first f.made
 
 module _ {s : List ℕ} {sort q c j l : ℕ} (looked : Looked s 0 sort q c j l) where
-  pub second_none : sort ≡ 0 → (d : ℕ) (es : Exprs) → RunStands s d 0 es (length s) → length s ≡ second_place (length s) es
-  second_none z d es t = second_of_none (length s) (looked_end looked t z).0
+  pub second_none : sort ≡ 0 → (es : Exprs) → RunStands s 0 es (length s) → length s ≡ second_place (length s) es
+  second_none z es t = second_of_none (length s) (looked_end looked t z).0
 
   -- The first expression ends at place i, and the next is at r.
-  pub second_some : {i r : ℕ} → (sort ≡ 0 → ⊥) → ((d : ℕ) (x : Expr) (es : Exprs) (e : ℕ) → RunStands s d 0 (and x es) e → RunStands s d i es e)
-      → ((d : ℕ) (es : Exprs) → RunStands s d i es (length s) → r ≡ first_place (length s) es)
-      → (d : ℕ) (es : Exprs) → RunStands s d 0 es (length s) → r ≡ second_place (length s) es
-  second_some some past next d es t =
+  pub second_some : {i r : ℕ} → (sort ≡ 0 → ⊥) → ((x : Expr) (es : Exprs) (e : ℕ) → RunStands s 0 (and x es) e → RunStands s i es e)
+      → ((es : Exprs) → RunStands s i es (length s) → r ≡ first_place (length s) es)
+      → (es : Exprs) → RunStands s 0 es (length s) → r ≡ second_place (length s) es
+  second_some some past next es t =
       let f = (looked_first looked t some).0 in
-      next d f.others (past d f.first f.others (length s) (rw f.made at t)) ∙ second_of_some (length s) f.first f.made
+      next f.others (past f.first f.others (length s) (rw f.made at t)) ∙ second_of_some (length s) f.first f.made
 
 -- The same after a first expression with no fault.
 pub second_after : {s : List ℕ} {r : ℕ} (w : Walked) → w.number ≡ 0
-    → ((d : ℕ) (es : Exprs) → RunStands s d w.next es (length s) → r ≡ first_place (length s) es)
+    → ((es : Exprs) → RunStands s w.next es (length s) → r ≡ first_place (length s) es)
     → (es : Exprs) → FirstJudged s es w → r ≡ second_place (length s) es
 unfolding walked_to
 second_after w z next none f = absurd (omega (arith, z, ap (λ (w : Walked). w.number) f))
-second_after {s} w z next (and x es) f = next 64 es (f.1 z) ∙ second_of_some (length s) x refl
+second_after {s} w z next (and x es) f = next es (f.1 z) ∙ second_of_some (length s) x refl
 
 -- ---- the answer
 
@@ -289,14 +285,14 @@ Below n none = Unit {0}
 Below n (and x es) = (place x < n) × Below n es
 
 -- Expressions stand at places within the text.
-below : {s : List ℕ} {d i e : ℕ} {es : Exprs} → RunStands s d i es e → Below (length s) es
+below : {s : List ℕ} {i e : ℕ} {es : Exprs} → RunStands s i es e → Below (length s) es
 unfolding Below place
 below (RunStands.ended h) = tt
 below (RunStands.after_blank h t) = below t
 below (RunStands.after_line_end h g t) = below t
 below (RunStands.a_symbol h t) = (h.inside, below t)
 below (RunStands.a_string h g t) = (h.inside, below t)
-below (RunStands.a_list l h t g u) = (h.inside, below u)
+below (RunStands.a_list h t g u) = (h.inside, below u)
 
 answer_two : (n : ℕ) {other : ℕ} (es : Exprs) → other ≡ second_place n es → other < n → walked_to 0 0 0 (fault 7 other) ≡ read_walked (one_expression nested n es)
 unfolding one_expression first_place second_place walked_to read_walked
@@ -343,86 +339,55 @@ refused_number f q e h y = omega (arith, y, ap (λ (w : Walked). w.number) e)
 
 -- The ways out of the judging of the first expression.
 module _ {s : List ℕ} {sort q c j l : ℕ} (looked : Looked s 0 sort q c j l) where
-  pub first_none : sort ≡ 0 → (es : Exprs) → RunStands s 64 0 es (length s) → FirstJudged s es (walked_to 0 0 0 (fault 7 (length s)))
+  pub first_none : sort ≡ 0 → (es : Exprs) → RunStands s 0 es (length s) → FirstJudged s es (walked_to 0 0 0 (fault 7 (length s)))
   first_none z es t = rw (looked_end looked t z).0 refl
 
   module _ (some : sort ≡ 0 → ⊥) where
-    pub first_other : (c ≡ 1 → ⊥) → (es : Exprs) → RunStands s 64 0 es (length s) → FirstJudged s es (walked_to 0 0 0 (fault 8 q))
+    pub first_other : (c ≡ 1 → ⊥) → (es : Exprs) → RunStands s 0 es (length s) → FirstJudged s es (walked_to 0 0 0 (fault 8 q))
     unfolding walked_to
     first_other d es t =
         let f = (looked_first looked t some).0 in
         rw f.made (rw (judge_no_document f.first (λ e. d (sym f.of_class ∙ e)), f.placed) refl, λ z. absurd (omega (arith, z)))
 
-    pub first_stuck : (w : Walked) → j ≡ 0 → (es : Exprs) → RunStands s 64 0 es (length s) → FirstJudged s es w
+    pub first_stuck : (w : Walked) → j ≡ 0 → (es : Exprs) → RunStands s 0 es (length s) → FirstJudged s es w
     first_stuck w h es t = absurd (omega (arith, (looked_first looked t some).1))
 
     -- w is the walk's answer, and r that past the closing bracket. The root's node is entered before the walk, and left after it.
-    module _ (t₁ t₂ : List ℕ) (d : c ≡ 1) {w r : Walked} (h : 0 < j) (walked : Bounded s j w × Finishes s 63 q 1 j 1 0 0 t₁ t₂ w)
-        (past : r ≡ past_bracket s q w) where
-      pub first_root : (es : Exprs) → RunStands s 64 0 es (length s) → FirstJudged s es r
+    module _ (t₁ t₂ : List ℕ) (d : c ≡ 1) {w r : Walked} (h : 0 < j) (walked : Bounded s j w × Finishes s q 1 j 1 0 0 t₁ t₂ w)
+        (past : r ≡ past_bracket (length s) w) where
+      pub first_root : (es : Exprs) → RunStands s 0 es (length s) → FirstJudged s es r
       first_root es t =
           let o = looked_document looked t some d in
           let root : lead_class o.lead ≡ 1 = o.of_class ∙ d in
-          let e = past_by q walked.0 past o.end (1 + node_count_in o.rest) (0 + pool_bytes_in o.rest) _ (walked.1.0 o.rest o.end o.follows)
-          o.brackets h in
+          let e = past_by walked.0 past o.end (1 + node_count_in o.rest) (0 + pool_bytes_in o.rest) _ (walked.1.0 o.rest o.end o.follows)
+          o.closed.inside h in
           rw o.made (
             rw (judge_document q o.lead o.rest root, document_nodes q o.lead o.rest root, document_bytes q o.lead o.rest root)
                 e.0,
             λ z. rw (e.1 z) o.goes_on,
           )
 
-      pub first_tape : (t : List ℕ) {z : List ℕ} → t₁ ≡ entered t 0 q 1 0 0
-          → (w.number ≡ 0 → z ≡ left t₂ 0 w.nodes)
-          → (x : Expr) (es : Exprs) → RunStands s 64 0 (and x es) (length s) → r.number ≡ 0 → z ≡ taped t 0 0 x
+      pub first_tape : (t : List ℕ) {z : List ℕ} → (length t ≡ 32768 → t₁ ≡ entered t 0 q 1 4294967295 0)
+          → (w.number ≡ 0 → length t₂ ≡ 32768 → z ≡ left t₂ 0 w.nodes)
+          → (x : Expr) (es : Exprs) → RunStands s 0 (and x es) (length s) → r.number ≡ 0 → length t ≡ 32768 → z ≡ taped t 0 4294967295 x
       unfolding Class.is_element Class.is_kind
-      first_tape t {z} before after x es u y =
+      first_tape t {z} before after x es u y full =
           let o = looked_document looked u some d in
-          let fine-walk : w.number ≡ 0 = (past_none s q w r past y).fine_before in
+          let fine-walk : w.number ≡ 0 = (past_none (length s) w r past y).0 in
           let counted = nodes_counted o.end (1 + node_count_in o.rest) (0 + pool_bytes_in o.rest) _ walked.0 h
           (walked.1.0 o.rest o.end o.follows) fine-walk in
           let same : list q (and o.lead o.rest) ≡ x = cc o.made in
-          element_tape_lem t t₁ t₂ z 0 0 q 1 w.nodes o.rest before (walked.1.1.0 o.rest o.end o.follows fine-walk)
-          (after fine-walk) counted
-          ∙ sym (taped_element t 0 0 q 1 o.lead o.rest (o.of_class ∙ d) refl) ∙ ap (taped t 0 0) same
-
-      -- The scan finds no fault in it.
-      pub first_leads : r.number ≡ 0 → Leads s 64 0 r.next
-      first_leads y =
-          let l = seen_leads s 64 0 in
-          let is_list = l.is_list (λ e. omega (arith, looked.2, e, d)) (λ e. omega (arith, looked.2, e, d)) in
-          let has : Has s q (opening (l.bracket is_list).0) = rw looked.1 (l.bracket is_list).1 in
-          let name : Leads s 63 (q + 1) j = rw (looked.1, looked.3) (l.name is_list 63) in
-          and_on (rw looked.1 l.blank_leads) (list_passed w r (omega arith) has name walked.1.1.1 past y)
-
-no_more : {s : List ℕ} (w : Walked) {other : ℕ} → length s ≤ other → w.number ≡ 0 → ((d : ℕ) → RunStands s d w.next none (length s) → ⊥)
-    → (es : Exprs) → Below (length s) es → other ≡ second_place (length s) es → FirstJudged s es w → ⊥
-unfolding first_place second_place walked_to Below
-no_more w h z never none b e f = omega (arith, z, ap (λ (w : Walked). w.number) f)
-no_more w h z never (and x none) b e f = never 64 (f.1 z)
-no_more w h z never (and x (and y es)) b e f = omega (arith, b.1.0)
-
--- The ways through `unfinished`.
-pub refused_finished : {s : List ℕ} {w : Walked} → (w.number ≡ 0 → ⊥) → Unfinished s w false
-refused_finished z = record { more = λ e. let o : ◌≡◌ {A = ℕ} 0 1 = cc in absurd (omega arith); finished = λ e y. absurd (z y) }
-
-pub seen_finished : {s : List ℕ} {w : Walked} {sort q c j l : ℕ} → w.number ≡ 0 → Looked s w.next sort q c j l → Unfinished s w (ltb q (length s))
-seen_finished {s} {w} {q = q} z looked =
-    record {
-      more = λ e. (z, λ d t. omega (arith, ltb-true q (length s) e, looked.1, end_seen (look_stands s w.next (length s) none t)));
-      finished = λ e y. (q, ltb-false q (length s) e, λ d. rw looked.1 (seen_leads s d w.next).blank_leads);
-    }
+          element_tape_lem t t₁ t₂ z 0 4294967295 q 1 w.nodes o.rest before (walked.1.1 o.rest o.end o.follows fine-walk)
+          (after fine-walk) counted full
+          ∙ sym (taped_element t 0 4294967295 q 1 o.lead o.rest (o.of_class ∙ d) refl) ∙ ap (taped t 0 4294967295) same
 
 -- The ways out of the judging of a text, where `other` is the place of the second expression.
-module _ {s : List ℕ} {other : ℕ} (w : Walked) (first : (es : Exprs) → RunStands s 64 0 es (length s) → FirstJudged s es w)
-    (second : (es : Exprs) → RunStands s 64 0 es (length s) → FirstJudged s es w → other ≡ second_place (length s) es) where
-  pub judge_two : other < length s → (es : Exprs) → RunStands s 64 0 es (length s)
+module _ {s : List ℕ} {other : ℕ} (w : Walked) (first : (es : Exprs) → RunStands s 0 es (length s) → FirstJudged s es w)
+    (second : (es : Exprs) → RunStands s 0 es (length s) → FirstJudged s es w → other ≡ second_place (length s) es) where
+  pub judge_two : other < length s → (es : Exprs) → RunStands s 0 es (length s)
       → walked_to 0 0 0 (fault 7 other) ≡ read_walked (one_expression nested (length s) es)
   judge_two h es t = answer_two (length s) es (second es t (first es t)) h
 
-  pub judge_one : length s ≤ other → (es : Exprs) → RunStands s 64 0 es (length s)
+  pub judge_one : length s ≤ other → (es : Exprs) → RunStands s 0 es (length s)
       → record { number = w.number; place = w.place; next = 0; nodes = w.nodes; pool = w.pool } ≡ read_walked (one_expression nested (length s) es)
   judge_one h es t = answer_one s w es (below t) (second es t (first es t)) h (first es t)
-
-  -- More than white space follows the first expression: not where there is no second one.
-  pub judge_more : {u : Bool} → length s ≤ other → Unfinished s w u → u ≡ true → (es : Exprs) → RunStands s 64 0 es (length s) → ⊥
-  judge_more h more y es t = no_more w h (more.more y).0 (more.more y).1 es (below t) (second es t (first es t)) (first es t)

@@ -69,14 +69,14 @@ group_place_lem room text =
 
 -- ---- the places of expressions that stand in a text
 
-stands_placed : {s : List ℕ} {d i e : ℕ} {es : Exprs} → RunStands s d i es e → AllPlaced (length s) es
+stands_placed : {s : List ℕ} {i e : ℕ} {es : Exprs} → RunStands s i es e → AllPlaced (length s) es
 unfolding Placed
 stands_placed (ended h) = tt
 stands_placed (after_blank h st) = stands_placed st
 stands_placed (after_line_end h g st) = stands_placed st
 stands_placed (a_symbol h st) = (omega (arith, h.inside), stands_placed st)
 stands_placed (a_string h g st) = (omega (arith, h.inside), stands_placed st)
-stands_placed (a_list l h st g st') = ((omega (arith, h.inside), stands_placed st), stands_placed st')
+stands_placed (a_list h st g st') = ((omega (arith, h.inside), stands_placed st), stands_placed st')
 
 places_laws : (most : ℕ) → Laws (λ (n : ℕ) (e : Expr). Placed most e) (λ (n : ℕ) (es : Exprs). AllPlaced most es)
 unfolding Placed as_not_allowed
@@ -137,7 +137,7 @@ one_within imperative n (and e es) u t =
     judged_within imperative n (regroup e es) (judge_root (regroup e es)) (root_within n (regroup e es) r)
     (regrouped_all (λ (n : ℕ) (e : Expr). weight e ≤ n) (λ (n : ℕ) (es : Exprs). weight_all es ≤ n) weight_laws n e es t)
 
-module _ (s : Spelling) (text : List ℕ) {d : ℕ} (es : Exprs) (st : RunStands text d 0 es (length text)) where
+module _ (s : Spelling) (text : List ℕ) (es : Exprs) (st : RunStands text 0 es (length text)) where
   reading_within : ReadingIn (length text) (one_expression s (length text) es)
   reading_within = one_within s (length text) es (stands_placed st) (omega (arith, stands_weight st))
 

@@ -12,11 +12,12 @@ use Rattle.utf8.specs.reference.Sequence.{valid_up_to}
 use Rattle.utf8.proofs.Walk.{valid_within}
 use Rattle.utf8.proofs.Agree.{valid_utf8}
 use Rattle.syntax.specs.rules.Syntax.{levels}
-use Rattle.syntax.specs.rules.Expression.{Expr, Exprs, none, and, locate}
+use Rattle.syntax.specs.rules.Expression.{Expr, Exprs, none, and, locate, depth_all}
 use Rattle.syntax.specs.reference.Scan as Scan
 use Rattle.syntax.specs.reference.Scan.{Scanned, scan}
 use Rattle.lexer.specs.Token.{scan_number, scan_place}
 use Rattle.syntax.proofs.SyntaxOrFault.{accepts, refused_fault}
+use Rattle.syntax.proofs.LocatedDepth.{located_depth}
 use Rattle.elements.specs.rules.Class as Class
 use Rattle.document.specs.rules.Document.{says, is_node}
 use Rattle.document.specs.reference.Meaning.{Verdict, fine, fault, judge_root, tree_of, places}
@@ -33,8 +34,7 @@ use Rattle.document.proofs.RefusalNumbers.{refused_number}
 use Rattle.reader.specs.declared.walk.Walked.{Walked}
 use Rattle.reader.specs.internal.WalkAnswer.{read_walked}
 use Rattle.reader.specs.internal.RunStands.{RunStands}
-use Rattle.reader.specs.internal.JudgedText.{JudgesText}
-use Rattle.reader.specs.internal.FirstGroups.{group_number, group_place, TextGroups}
+use Rattle.reader.specs.internal.FirstGroups.{group_number, group_place}
 use Rattle.reader.proofs.lemmas.read.ExpressionPlaces.{forest_stands}
 use Rattle.reader.proofs.lemmas.walk.Counts.{nodes_places, bytes_pool}
 
@@ -43,7 +43,8 @@ pub record PassedGroups (s : Spelling) (text : List ℕ) (m : Memory) : Type 0 w
   pub short : length text ≤ 65536
   pub utf8 : IsUtf8 text
   pub es : Exprs
-  pub stands : RunStands text (most_levels s) 0 es (length text)
+  pub stands : RunStands text 0 es (length text)
+  pub shallow : depth_all es ≤ most_levels s
   pub found_as : reading s text ≡ one_expression s (length text) es
   pub goes_on : outcome s text m ≡ after_reading text m (one_expression s (length text) es)
 
@@ -115,7 +116,8 @@ module _ (s : Spelling) (text : List ℕ) (m : Memory) where
         short = ltb-false 65536 (length text) short;
         utf8 = valid_utf8 text (omega (arith, valid_within 0 text, ltb-false (valid_up_to text) (length text) whole));
         es = locate 0 f;
-        stands = forest_stands text (most_levels s) f ok bytes within;
+        stands = forest_stands text f ok bytes;
+        shallow = rw (located_depth 0 f) within;
         found_as = rw e;
         goes_on = rw (short, whole, e);
       }
@@ -158,43 +160,19 @@ module _ (s : Spelling) (text : List ℕ) (m : Memory) where
               goes_on = x.goes_on ∙ rw o;
             }
 
--- ---- the ways through the groups 1 and 2
-
-pub text_long : (text : List ℕ) → 65536 < length text → TextGroups text 1 65536
+-- The ways through the first groups.
+pub groups_long : (levels : ℕ) (text : List ℕ) → 65536 < length text → (1 ≡ group_number levels text) × (65536 ≡ group_place levels text)
 unfolding group_number group_place
-text_long text h =
-    record {
-      refuses = λ z levels. (rw (lt-ltb 65536 (length text) h), rw (lt-ltb 65536 (length text) h));
-      short = λ z. absurd (omega arith);
-      passes = λ z. absurd (omega arith);
-    }
+groups_long levels text h = (rw (lt-ltb 65536 (length text) h), rw (lt-ltb 65536 (length text) h))
 
-pub text_ill_formed : (text : List ℕ) (v : ℕ) → length text ≤ 65536 → v ≡ valid_up_to text → v < length text → TextGroups text 2 v
+pub groups_ill_formed : (levels : ℕ) (text : List ℕ) (v : ℕ) → length text ≤ 65536 → v ≡ valid_up_to text → v < length text
+    → (2 ≡ group_number levels text) × (v ≡ group_place levels text)
 unfolding group_number group_place
-text_ill_formed text v short e h =
-    record {
-      refuses = λ z levels.
-          (rw (le-ltb 65536 (length text) short, ← e, lt-ltb v (length text) h), rw (le-ltb 65536 (length text) short, ← e, lt-ltb v (length text) h));
-      short = λ z. short;
-      passes = λ z. absurd (omega arith);
-    }
+groups_ill_formed levels text v short e h =
+    (rw (le-ltb 65536 (length text) short, ← e, lt-ltb v (length text) h), rw (le-ltb 65536 (length text) short, ← e, lt-ltb v (length text) h))
 
-pub text_passes : (text : List ℕ) (v : ℕ) → length text ≤ 65536 → v ≡ valid_up_to text → length text ≤ v → TextGroups text 0 0
+pub groups_scan : (levels : ℕ) (text : List ℕ) (v n p : ℕ) → length text ≤ 65536 → v ≡ valid_up_to text → length text ≤ v
+    → n ≡ scan_number (scan levels text) → p ≡ scan_place (scan levels text) → (n ≡ group_number levels text) × (p ≡ group_place levels text)
 unfolding group_number group_place
-text_passes text v short e h =
-    record {
-      refuses = λ z. absurd (z refl);
-      short = λ z. short;
-      passes = λ z levels.
-          (rw (le-ltb 65536 (length text) short, ← e, le-ltb v (length text) h), rw (le-ltb 65536 (length text) short, ← e, le-ltb v (length text) h));
-    }
-
--- A text that passes them is refused by the scan, or passed by it too.
-pub after_text : (levels : ℕ) {text : List ℕ} {n p m q : ℕ} → TextGroups text n p → n ≡ 0 → m ≡ scan_number (scan levels text) → q ≡ scan_place (scan levels text)
-    → (m ≡ group_number levels text) × (q ≡ group_place levels text)
-after_text levels g z a b = let (x, y) = g.passes z levels in (a ∙ sym x, b ∙ sym y)
-
--- One that the judge accepts is passed by it.
-pub after_judge : (s : Spelling) {text : List ℕ} {n p : ℕ} → TextGroups text n p → n ≡ 0 → (w : Walked) → JudgesText s text w → w.number ≡ 0
-    → (0 ≡ group_number (most_levels s) text) × (group_place (most_levels s) text ≡ group_place (most_levels s) text)
-after_judge s g z w judges y = (sym ((g.passes z (most_levels s)).0 ∙ judges.scans y), refl)
+groups_scan levels text v n p short e h a b =
+    (rw (le-ltb 65536 (length text) short, ← e, le-ltb v (length text) h) a, rw (le-ltb 65536 (length text) short, ← e, le-ltb v (length text) h) b)

@@ -7,7 +7,7 @@ use native.Mathlib.Nat.{zero-add}
 use native.Mathlib.Omega.{arith}
 use borrow.Author.Tests.{lt-ltb, le-ltb, ltb-false}
 use lib.Dec.{ltb}
-use lib.ListN.{length}
+use lib.ListN.{length, replicate, length-replicate}
 use lib.Seq.{sets, sets-eq}
 use Rattle.base.specs.rules.Limits.{most_nodes}
 use Rattle.syntax.specs.rules.Expression.{Expr, none, and}
@@ -25,10 +25,7 @@ use Rattle.reader.specs.declared.Answer.{Answer}
 use Rattle.reader.specs.declared.walk.Walked.{Walked}
 use Rattle.reader.specs.internal.WalkAnswer.{read_walked}
 use Rattle.reader.specs.internal.JudgedText.{JudgesText, TapeOfText}
-use Rattle.reader.specs.internal.FirstGroups.{group_number, group_place, TextGroups, room_number}
-use Rattle.reader.specs.internal.Tries.{Tries, TriesWith}
-use Rattle.reader.specs.declared.Tried.{Tried}
-use Rattle.reader.specs.declared.Tried.TheVariants.{Read, Short}
+use Rattle.reader.specs.internal.FirstGroups.{group_number, group_place, room_number}
 use Rattle.reader.specs.Read.{SameAnswer, Reads}
 use Rattle.reader.specs.internal.Counts.{node_count}
 use Rattle.reader.specs.internal.Tape.{taped, Located}
@@ -113,12 +110,22 @@ module _ (s : Spelling) (text : List ℕ) (n p : ℕ) (group : (n ≡ group_numb
   pub group_fits : p ≤ 65536
   group_fits = omega (arith, group_place_lem (most_levels s) text, group.1)
 
+  pub group_short : n ≡ 0 → length text ≤ 65536
+  group_short z = (group_passed s text (record { nodes = []; places = []; pool = [] }) (sym group.0 ∙ z)).short
+
   pub walk_fits : n ≡ 0 → (w : Walked) → JudgesText s text w → (w.place ≤ 65536) × (w.nodes ≤ 65536) × (w.pool ≤ 65536)
   walk_fits z w judges =
       let x : PassedGroups s text (record { nodes = []; places = []; pool = [] }) = group_passed s text _ (sym group.0 ∙ z) in
       let short : length text ≤ 65536 = x.short in
-      let (a, b, c) = walk_within s text x.es x.stands w (judges.answers x.es x.stands) in
+      let (a, b, c) = walk_within s text x.es x.stands w (judges x.es x.stands x.shallow) in
       (omega arith, omega arith, omega arith)
+
+-- The tape that a read lends.
+abbrev pub blank_tape : List ℕ
+blank_tape = replicate 32768 0
+
+long : length blank_tape ≡ 32768
+long = length-replicate {A = ℕ} 32768 0
 
 -- What the fill of this many nodes from a tape ensures.
 abbrev Filled : Memory → Memory → Expr → Type 0
@@ -133,7 +140,7 @@ filled_written m exit e (a, b, c) = rw (← a, ← b, ← c)
 
 abbrev pub Fills : List ℕ → List ℕ → ℕ → Memory → Memory → Type 0
 Fills text tape n m exit =
-    (e : Expr) (t : List ℕ) → Located text e → judge_root e ≡ fine → tape ≡ taped t 0 0 e → n ≡ node_count e
+    (e : Expr) (t : List ℕ) → Located text e → judge_root e ≡ fine → length t ≡ 32768 → tape ≡ taped t 0 4294967295 e → n ≡ node_count e
     → Filled m exit e
 
 -- ---- the ways through a read
@@ -175,7 +182,7 @@ module _ (s : Spelling) (text : List ℕ) (m : Memory) where
       passed = group_passed s text m (sym group.0 ∙ z)
 
       abbrev is : w ≡ read_walked (one_expression s (length text) passed.es)
-      is = judges.answers passed.es passed.stands
+      is = judges passed.es passed.stands passed.shallow
 
       -- 7 to 12 and 19.
       pub walk_reads : (w.number ≡ 0 → ⊥) → (r : Answer) → SameAnswer (answer_at text w.number w.place 0 0) r → Reads s text m r m
@@ -192,29 +199,16 @@ module _ (s : Spelling) (text : List ℕ) (m : Memory) where
         full_reads =
             full_after found.expr found.fine_root found.goes_on w.nodes w.pool found.nodes_are found.bytes_are f room
 
-        module _ (y : f ≡ 0) (exit : Memory) (blank tape : List ℕ) (tapes : TapeOfText s text w.number blank tape)
+        module _ (y : f ≡ 0) (exit : Memory) (tape : List ℕ) (tapes : TapeOfText s text w.number blank_tape tape)
             (fills : Fills text tape w.nodes m exit) where
           exit_is : exit ≡ written m (places found.expr) (says (tree_of found.expr))
           exit_is =
               filled_written m exit found.expr
-              (fills found.expr blank (form_located s text passed.es found.expr found.form passed.stands found.fine_root) found.fine_root
-              (tapes passed.es found.expr found.form passed.stands z')
+              (fills found.expr blank_tape (form_located s text passed.es found.expr found.form passed.stands found.fine_root) found.fine_root long
+              (tapes passed.es found.expr found.form passed.stands passed.shallow z' long)
               (found.nodes_are ∙ sym (root_places found.expr found.fine_root) ∙ nodes_places found.expr))
 
           -- 0.
           pub filled_reads : (r : Answer) → SameAnswer (answer_at text 0 0 w.nodes w.pool) r → Reads s text m r exit
           filled_reads =
               filled_after found.expr found.fine_root found.goes_on w.nodes w.pool found.nodes_are found.bytes_are f room y exit exit_is
-
--- ---- reading with one tape, and with a longer one where that was too short
-
-pub tries_any : (words : ℕ) (s : Spelling) (text : List ℕ) (m : Memory) (r : Tried) (exit : Memory) → TriesWith words s text m r exit → Tries s text m r exit
-tries_any words s text m (Read r) exit h = h
-tries_any words s text m Short exit h = h.0
-
-pub after_short : {s : Spelling} {text : List ℕ} {r : Answer} {exit : Memory} (m m' : Memory) → m' ≡ m → Reads s text m' r exit → Reads s text m r exit
-after_short m m' e h = rw e at h
-
--- A text that passes the groups 1 and 2.
-pub text_passed : (text : List ℕ) (n p : ℕ) → TextGroups text n p → n ≡ 0 → TextGroups text 0 0
-text_passed text n p g z = record { refuses = λ h levels. absurd (h refl); short = λ e. g.short z; passes = λ e. g.passes z }

@@ -20,13 +20,13 @@ use Rattle.document.specs.reference.RulesTest.{keeps_rules}
 use Rattle.document.specs.reference.Meaning.{number_of, symbol_bytes, size_tree, judge_value, fault}
 use Rattle.reader.specs.internal.RunStands.{RunStands}
 use Rattle.reader.specs.internal.WalkAnswer.{walked_to, Bounded}
-use Rattle.reader.specs.internal.Tape.{noted_size, noted}
+use Rattle.reader.specs.internal.Tape.{noted}
 use Rattle.reader.specs.internal.ParameterValue.{BeginsWithNumber, Unfit, ReadsNumber, Notes}
 use Rattle.reader.specs.declared.walk.Walked.{Walked}
 use Rattle.reader.specs.declared.value.Number.{Number}
-use Rattle.reader.proofs.lemmas.walk.ScanLeads.{and_on, seen_leads}
 use Rattle.reader.proofs.lemmas.walk.SeenExpressions.{SeenAs, saw_end, saw_symbol, saw_string, saw_list, look_stands, seen_bounds}
 use Rattle.reader.proofs.lemmas.walk.OneTurn.{Looked, seen_within}
+use Rattle.reader.proofs.lemmas.tape.AfterWalk.{two_stores}
 use Rattle.reader.proofs.lemmas.value.TextValues.{stuck, seen_ends, seen_more, refused_within, refused_as_lem, refused_notes}
 
 -- ---- the bytes of a symbol
@@ -68,38 +68,38 @@ not_symbol : (e : Expr) → symbol_bytes e ≡ [] → 65535 < number_of e
 unfolding number_of is_decimal non_empty
 not_symbol e h = rw h (omega arith)
 
-module _ {s : List ℕ} {d : ℕ} {r : Seen} where
-  unfit_seen : {es : Exprs} {m : ℕ} → SeenAs s d r es m → (r.sort ≡ 1 → ⊥) → Unfit es
+module _ {s : List ℕ} {r : Seen} where
+  unfit_seen : {es : Exprs} {m : ℕ} → SeenAs s r es m → (r.sort ≡ 1 → ⊥) → Unfit es
   unfolding symbol_bytes
   unfit_seen (saw_end h) z = tt
   unfit_seen (saw_symbol h k l p t) z = absurd (z h)
   unfit_seen (saw_string h k l p t) z = not_symbol _ refl
-  unfit_seen (saw_list {inner} x h k p t o b u) z = not_symbol (list r.place inner) refl
+  unfit_seen (saw_list {inner} x h k p t d b u) z = not_symbol (list r.place inner) refl
 
-  symbol_seen : {es : Exprs} {m : ℕ} → SeenAs s d r es m → r.sort ≡ 1
-      → (others : Exprs) × (es ≡ and (symbol r.place (atom_value (drop r.place s))) others) × RunStands s d r.next others m
+  symbol_seen : {es : Exprs} {m : ℕ} → SeenAs s r es m → r.sort ≡ 1
+      → (others : Exprs) × (es ≡ and (symbol r.place (atom_value (drop r.place s))) others) × RunStands s r.next others m
   symbol_seen (saw_end h) z = absurd (omega arith)
   symbol_seen (saw_symbol {es} h k l p t) z = (es, refl, t)
   symbol_seen (saw_string h k l p t) z = absurd (omega arith)
-  symbol_seen (saw_list x h k p t o b u) z = absurd (omega arith)
+  symbol_seen (saw_list x h k p t d b u) z = absurd (omega arith)
 
 module _ (s : List ℕ) (i : ℕ) {sort q k j l : ℕ} (looked : Looked s i sort q k j l) (within : i ≤ length s) where
-  none_read : ((d : ℕ) (es : Exprs) (m : ℕ) → RunStands s d i es m → Unfit es) → ReadsNumber s i (record { number = 65536; next = i })
-  none_read h = record { within = λ e. absurd (omega arith); begins = λ e. absurd (omega arith); unfit = λ e. h; leads = λ e. absurd (omega arith) }
+  none_read : ((es : Exprs) (m : ℕ) → RunStands s i es m → Unfit es) → ReadsNumber s i (record { number = 65536; next = i })
+  none_read h = record { within = λ e. absurd (omega arith); begins = λ e. absurd (omega arith); unfit = λ e. h }
 
   pub read_other : (sort ≡ 1 → ⊥) → ReadsNumber s i (record { number = 65536; next = i })
-  read_other z = none_read (λ d es m t. unfit_seen (look_stands s i m es t) (λ e. z (looked.0 ∙ e)))
+  read_other z = none_read (λ es m t. unfit_seen (look_stands s i m es t) (λ e. z (looked.0 ∙ e)))
 
   module _ (a : sort ≡ 1) where
     pub read_stuck : j ≤ i → ReadsNumber s i (record { number = 65536; next = i })
-    read_stuck h = none_read (λ d es m t. absurd (stuck s i looked within (omega arith) h t))
+    read_stuck h = none_read (λ es m t. absurd (stuck s i looked within (omega arith) h t))
 
     module _ (h : i < j) where
       pub read_within : q + l ≤ length s
       read_within = let b = (seen_bounds s i within).forward (λ e. omega (arith, looked.0)) (rw looked.3 at h) in omega (arith, b, looked.1, looked.4)
 
-      begins_with : {n : ℕ} → n ≡ number_of (symbol q (take l (drop q s))) → (d : ℕ) (es : Exprs) (m : ℕ) → RunStands s d i es m → BeginsWithNumber s d es m n j
-      begins_with e d es m t =
+      begins_with : {n : ℕ} → n ≡ number_of (symbol q (take l (drop q s))) → (es : Exprs) (m : ℕ) → RunStands s i es m → BeginsWithNumber s es m n j
+      begins_with e es m t =
           let (others, made, stands) = symbol_seen (look_stands s i m es t) (sym looked.0 ∙ a) in
           let spelt = symbol_spelt s i (sym looked.0 ∙ a) in
           record { first = symbol _ _; others = others; made = made; is = rw spelt (rw (looked.1, looked.4) at (sym e)); stands = rw looked.3 stands }
@@ -110,9 +110,7 @@ module _ (s : List ℕ) (i : ℕ) {sort q k j l : ℕ} (looked : Looked s i sort
           record {
             within = λ f. (omega arith, b.0);
             begins = λ f. begins_with e;
-            unfit = λ f d es m t. let x = begins_with e d es m t in rw x.made (omega (arith, x.is));
-            leads = λ f d.
-                rw looked.3 ((seen_leads s d i).atom_leads (λ z. omega (arith, looked.0, z)) (λ z. omega (arith, looked.0, z)) (omega (arith, looked.3)));
+            unfit = λ f es m t. let x = begins_with e es m t in rw x.made (omega (arith, x.is));
           }
 
 -- ---- the ways through `size`
@@ -139,65 +137,66 @@ unfolding keeps_rules size_tree is_size
 unfit_third k e e' e'' es = refl
 
 -- The two numbers are noted.
-size_notes : (t z : List ℕ) (node a b : ℕ) (e e' : Expr) → number_of e ≡ a → number_of e' ≡ b → z ≡ noted_size t node a b
-    → z ≡ noted t node 29 (and e (and e' none))
+size_notes : (t m z : List ℕ) (node a b : ℕ) (e e' : Expr) → number_of e ≡ a → number_of e' ≡ b → length t ≡ 32768
+    → (length t ≡ 32768 → m ≡ set t (8 * node + 6) a) → (length m ≡ 32768 → z ≡ set m (8 * node + 7) b) → z ≡ noted t node 29 (and e (and e' none))
 unfolding noted size_tree width_or height_or
-size_notes t z node a b e e' f g h = rw (f, g) h
+size_notes t m z node a b e e' f g full p q =
+    let long : length m ≡ 32768 = rw (p full, length-set) full in
+    rw (f, g) (two_stores t m z (8 * node + 6) (8 * node + 6) (8 * node + 7) a b (p full) (q long) refl (omega arith))
 
 -- Whatever stands from place i on, r is the answer of a size in an element of kind k, and z the tape t with the size.
 abbrev pub SizeAnswers : List ℕ → ℕ → ℕ → ℕ → ℕ → ℕ → ℕ → List ℕ → Walked → List ℕ → Type 0
 SizeAnswers s at i k n p node t r z =
-    Bounded s i r × (((d : ℕ) (es : Exprs) (m : ℕ) → RunStands s d i es m → r ≡ walked_to m n p (judge_value k at (size_tree es))) × Notes s i 29 node t r z)
+    Bounded s i r × (((es : Exprs) (m : ℕ) → RunStands s i es m → r ≡ walked_to m n p (judge_value k at (size_tree es))) × Notes s i 29 node t r z)
 
 module _ {s : List ℕ} {i node : ℕ} {t z : List ℕ} (at k n p : ℕ) where
-  size_bad : ((d : ℕ) (es : Exprs) (m : ℕ) → RunStands s d i es m → keeps_rules k (size_tree es) ≡ false)
+  size_bad : ((es : Exprs) (m : ℕ) → RunStands s i es m → keeps_rules k (size_tree es) ≡ false)
       → SizeAnswers s at i k n p node t (walked_to 0 0 0 (fault 10 at)) z
   unfolding judge_value
-  size_bad h = (refused_within s i at, (λ d es m u. rw (h d es m u) (refused_as_lem at m n p), refused_notes s i 29 node at t z))
+  size_bad h = (refused_within s i at, (λ es m u. rw (h es m u) (refused_as_lem at m n p), refused_notes s i 29 node at t z))
 
   module _ {w : Number} (width : ReadsNumber s i w) where
     pub size_unfit : 65535 < w.number → SizeAnswers s at i k n p node t (walked_to 0 0 0 (fault 10 at)) z
-    size_unfit f = size_bad (λ d es m t. unfit_width k es (width.unfit f d es m t))
+    size_unfit f = size_bad (λ es m t. unfit_width k es (width.unfit f es m t))
 
     module _ (f : w.number ≤ 65535) {h : Number} (height : ReadsNumber s w.next h) where
       pub size_unfit_height : 65535 < h.number → SizeAnswers s at i k n p node t (walked_to 0 0 0 (fault 10 at)) z
       size_unfit_height g =
-          size_bad (λ d es m t.
-          let x = width.begins f d es m t in
-          rw x.made (unfit_height k x.first x.others (height.unfit g d x.others m x.stands)))
+          size_bad (λ es m t.
+          let x = width.begins f es m t in
+          rw x.made (unfit_height k x.first x.others (height.unfit g x.others m x.stands)))
 
       module _ (g : h.number ≤ 65535) {sort q c j l : ℕ} (last : Looked s h.next sort q c j l) where
         pub size_unfit_third : (sort ≡ 0 → ⊥) → SizeAnswers s at i k n p node t (walked_to 0 0 0 (fault 10 at)) z
         size_unfit_third y =
-            size_bad (λ d es m u.
-            let x = width.begins f d es m u in
-            let v = height.begins g d x.others m x.stands in
+            size_bad (λ es m u.
+            let x = width.begins f es m u in
+            let v = height.begins g x.others m x.stands in
             let (e, others, made) = seen_more (look_stands s h.next m v.others v.stands) (λ e. y (last.0 ∙ e)) in
             rw (x.made, v.made, made) (unfit_third k x.first v.first e others))
 
-        pub size_good : sort ≡ 0 → n ≤ i → p ≤ i → z ≡ noted_size t node w.number h.number
+        pub size_good : sort ≡ 0 → n ≤ i → p ≤ i → {t' : List ℕ} → (length t ≡ 32768 → t' ≡ set t (8 * node + 6) w.number)
+            → (length t' ≡ 32768 → z ≡ set t' (8 * node + 7) h.number)
             → SizeAnswers s at i k n p node t (record { number = 0; place = 0; next = q; nodes = n; pool = p }) z
         unfolding walked_to judge_value
-        size_good y nodes pool stored =
+        size_good y nodes pool {t'} stored stored' =
             let a = width.within f in
             let b = height.within g in
             let d = seen_bounds s h.next b.1 in (
               record { bounds = λ e. omega (arith, a, b, d.place_from, d.place_within, last.1) },
               (
-                λ d es m u.
-                    let x = width.begins f d es m u in
-                    let v = height.begins g d x.others m x.stands in
+                λ es m u.
+                    let x = width.begins f es m u in
+                    let v = height.begins g x.others m x.stands in
                     let (made, ends) = seen_ends (look_stands s h.next m v.others v.stands) (sym last.0 ∙ y) in
                     rw (x.made, v.made, made, small_size k x.first v.first (omega (arith, x.is)) (omega (arith, v.is)), last.1, ends),
                 record {
-                  notes = λ d es m u e.
-                      let x = width.begins f d es m u in
-                      let v = height.begins g d x.others m x.stands in
+                  notes = λ es m u e full.
+                      let x = width.begins f es m u in
+                      let v = height.begins g x.others m x.stands in
                       let (made, ends) = seen_ends (look_stands s h.next m v.others v.stands) (sym last.0 ∙ y) in
-                      rw (x.made, v.made, made) (size_notes t z node w.number h.number x.first v.first x.is
-                      v.is stored);
-                  leads = λ e d.
-                      and_on (width.leads f d) (and_on (height.leads g d) (rw last.1 (seen_leads s d h.next).blank_leads));
+                      rw (x.made, v.made, made) (size_notes t t' z node w.number h.number x.first v.first x.is
+                      v.is full stored stored');
                 },
               ),
             )

@@ -1,12 +1,11 @@
 -- The value of an id, a target or a type: what is seen of it, and what makes it one.
 use Prim.Native.Nat.{ℕ, ◌+◌, ◌*◌, ◌≤◌, ◌<◌}
-use mathlib.Core.Path.{◌≡◌, refl, sym, ap, ◌∙◌}
+use mathlib.Core.Path.{◌≡◌, refl, sym, ◌∙◌}
 use mathlib.Core.Bool.{Bool, true, false, cond, not, ◌&&◌}
 use mathlib.Core.List.{List, [], ◌∷◌}
 use native.Mathlib.Omega.{arith}
 use lib.Dec.{eqb}
 use lib.ListN.{length, drop, set, length-append}
-use lib.Seq.{sets}
 use native.Mathlib.Nat.{add-zero}
 use borrow.Author.Tests.{ne_eqb, eqb-true, eqb-false, not-true, not-false}
 use Rattle.base.proofs.Booleans.{cond_case, bool_case, and_true, and_false}
@@ -22,17 +21,14 @@ use Rattle.document.specs.rules.Value.{non_empty, every, names_block, target_cha
 use Rattle.document.specs.rules.Document.{value, key_of, type_of}
 use Rattle.document.specs.reference.RulesTest.{keeps_rules}
 use Rattle.document.specs.reference.Meaning.{only_one, text_bytes, symbol_bytes, size_tree, value_tree, judge_value, fine, fault}
-use Rattle.reader.specs.internal.ScanLeads.{Leads}
 use Rattle.reader.specs.internal.RunStands.{RunStands, ended, after_blank, after_line_end, a_symbol, a_string, a_list}
 use Rattle.reader.specs.internal.Counts.{value_size}
 use Rattle.reader.specs.internal.WalkAnswer.{walked_to, Bounded}
-use Rattle.reader.specs.internal.TapeWord.{word}
-use Rattle.reader.specs.internal.Tape.{roomy, value_place, value_length, noted_held, noted}
+use Rattle.reader.specs.internal.Tape.{value_place, noted}
 use Rattle.reader.specs.internal.ParameterValue.{holds_sort, held_bytes, Alone, HoldsOne, Notes}
 use Rattle.reader.specs.declared.walk.Walked.{Walked}
 use Rattle.reader.specs.declared.value.One.{One}
 use Rattle.reader.proofs.lemmas.walk.FirstToken.{symbol_here, string_here}
-use Rattle.reader.proofs.lemmas.walk.ScanLeads.{and_on, seen_leads}
 use Rattle.reader.proofs.lemmas.walk.SeenExpressions.{SeenAs, saw_end, saw_symbol, saw_string, saw_list, look_stands, seen_bounds}
 use Rattle.reader.proofs.lemmas.walk.OneTurn.{Looked, seen_forward, seen_within}
 use Rattle.reader.proofs.lemmas.walk.Counts.{size_tree_lem}
@@ -105,14 +101,14 @@ Some (and (symbol at v) es) = 0 < length v
 Some (and (quoted at v) es) = 0 < length v
 Some (and (list at is) es) = Unit {0}
 
-first_some : {s : List ℕ} {d i e : ℕ} {es : Exprs} → RunStands s d i es e → Some es
+first_some : {s : List ℕ} {i e : ℕ} {es : Exprs} → RunStands s i es e → Some es
 unfolding Some
 first_some (ended h) = tt
 first_some (after_blank h st) = first_some st
 first_some (after_line_end h g st) = first_some st
 first_some {s} (a_symbol {i = i} h st) = (symbol_here s i h).forward
 first_some {s} (a_string {i = i} h g st) = omega (arith, (string_here s i h g).value, string_some i (drop i s) g)
-first_some (a_list l h st g st') = tt
+first_some (a_list h st g st') = tt
 
 -- ---- what a parameter holds
 
@@ -157,27 +153,27 @@ holds_atom : (c n : ℕ) → holds_sort c n ≡ true → (n ≡ 0 → ⊥) × (n
 holds_atom c n f = (λ e. omega (arith, holds_some c n f (omega arith)), λ e. omega (arith, holds_some c n f (omega arith)))
 
 -- What stands first, at place q, counts: its bytes v, and the others from place j on.
-record FirstHeld (s : List ℕ) (d c q j : ℕ) (v : List ℕ) (es : Exprs) (m : ℕ) : Type 0 where
+record FirstHeld (s : List ℕ) (c q j : ℕ) (v : List ℕ) (es : Exprs) (m : ℕ) : Type 0 where
   first : Expr
   others : Exprs
   made : es ≡ and first others
   placed : place first ≡ q
   bytes : held_of c first ≡ v
   some : 0 < length v
-  stands : RunStands s d j others m
+  stands : RunStands s j others m
 
-module _ {s : List ℕ} {d : ℕ} {r : Seen} where
-  held_not : (c : ℕ) {es : Exprs} {m : ℕ} → SeenAs s d r es m → holds_sort c r.sort ≡ false → held_bytes c es ≡ []
+module _ {s : List ℕ} {r : Seen} where
+  held_not : (c : ℕ) {es : Exprs} {m : ℕ} → SeenAs s r es m → holds_sort c r.sort ≡ false → held_bytes c es ≡ []
   unfolding symbol_bytes text_bytes holds_sort
   held_not c (saw_end h) f = held_none c
   held_not c (saw_symbol h k l p t) f = let z : true ≡ false = rw h at f in cc
   held_not c (saw_string {es} h k l p t) f =
       let typed : eqb c Class.type ≡ true = not-false (eqb c Class.type) (sym (holds_string c) ∙ rw h at f) in
       held_nothing c (quoted r.place (atom_value (drop r.place s))) es (rw typed)
-  held_not c (saw_list {inner} {es} x h k p t o b u) f = held_nothing c (list r.place inner) es (same_cond (eqb c Class.type) [])
+  held_not c (saw_list {inner} {es} x h k p t d b u) f = held_nothing c (list r.place inner) es (same_cond (eqb c Class.type) [])
 
-  held_first : (c : ℕ) {es : Exprs} {m : ℕ} → Some es → SeenAs s d r es m → holds_sort c r.sort ≡ true
-      → FirstHeld s d c r.place r.next (atom_value (drop r.place s)) es m × (r.length ≡ length (atom_value (drop r.place s)))
+  held_first : (c : ℕ) {es : Exprs} {m : ℕ} → Some es → SeenAs s r es m → holds_sort c r.sort ≡ true
+      → FirstHeld s c r.place r.next (atom_value (drop r.place s)) es m × (r.length ≡ length (atom_value (drop r.place s)))
   unfolding Some symbol_bytes text_bytes place
   held_first c n (saw_end h) f = absurd ((holds_atom c r.sort f).0 h)
   held_first c n (saw_symbol {es} h k l p t) f = (
@@ -196,23 +192,23 @@ module _ {s : List ℕ} {d : ℕ} {r : Seen} where
   held_first c n (saw_string {es} h k l p t) f =
       let untyped : eqb c Class.type ≡ false = not-true (eqb c Class.type) (sym (holds_string c) ∙ rw h at f) in
       (record { first = quoted r.place _; others = es; made = refl; placed = refl; bytes = rw untyped; some = n; stands = t }, l)
-  held_first c n (saw_list x h k p t o b u) f = absurd ((holds_atom c r.sort f).1 h)
+  held_first c n (saw_list x h k p t d b u) f = absurd ((holds_atom c r.sort f).1 h)
 
   -- The run ends here, or something more stands here.
-  pub seen_ends : {es : Exprs} {m : ℕ} → SeenAs s d r es m → r.sort ≡ 0 → (es ≡ none) × (r.place ≡ m)
+  pub seen_ends : {es : Exprs} {m : ℕ} → SeenAs s r es m → r.sort ≡ 0 → (es ≡ none) × (r.place ≡ m)
   seen_ends (saw_end h) z = (refl, refl)
   seen_ends (saw_symbol h k l p t) z = absurd (omega arith)
   seen_ends (saw_string h k l p t) z = absurd (omega arith)
-  seen_ends (saw_list x h k p t o b u) z = absurd (omega arith)
+  seen_ends (saw_list x h k p t d b u) z = absurd (omega arith)
 
-  pub seen_more : {es : Exprs} {m : ℕ} → SeenAs s d r es m → (r.sort ≡ 0 → ⊥) → (e : Expr) × (others : Exprs) × (es ≡ and e others)
+  pub seen_more : {es : Exprs} {m : ℕ} → SeenAs s r es m → (r.sort ≡ 0 → ⊥) → (e : Expr) × (others : Exprs) × (es ≡ and e others)
   seen_more (saw_end h) z = absurd (z h)
   seen_more (saw_symbol {es} h k l p t) z = (_, es, refl)
   seen_more (saw_string {es} h k l p t) z = (_, es, refl)
-  seen_more (saw_list {inner} {es} x h k p t o b u) z = (_, es, refl)
+  seen_more (saw_list {inner} {es} x h k p t d b u) z = (_, es, refl)
 
 -- Where expressions stand, something is passed.
-pub stuck : (s : List ℕ) (i : ℕ) {d sort q c j l : ℕ} {es : Exprs} {m : ℕ} → Looked s i sort q c j l → i ≤ length s → (sort ≡ 0 → ⊥) → j ≤ i → RunStands s d i es m → ⊥
+pub stuck : (s : List ℕ) (i : ℕ) {sort q c j l : ℕ} {es : Exprs} {m : ℕ} → Looked s i sort q c j l → i ≤ length s → (sort ≡ 0 → ⊥) → j ≤ i → RunStands s i es m → ⊥
 stuck s i {es = es} {m = m} looked within some h t =
     omega (arith, (seen_bounds s i within).place_from, looked.3, seen_forward (look_stands s i m es t) (λ e. some (looked.0 ∙ e)))
 
@@ -223,9 +219,8 @@ module _ {s : List ℕ} {i sort q k j l : ℕ} (c : ℕ) (looked : Looked s i so
   only_nothing f =
       record {
         within = λ e. let z : ◌≡◌ {A = ℕ} 0 1 = cc in absurd (omega arith);
-        nothing = λ e d es m t. held_not c (look_stands s i m es t) (rw (← looked.0) f);
+        nothing = λ e es m t. held_not c (look_stands s i m es t) (rw (← looked.0) f);
         alone = λ e. let z : ◌≡◌ {A = ℕ} 0 1 = cc in absurd (omega arith);
-        leads = λ e. let z : ◌≡◌ {A = ℕ} 0 1 = cc in absurd (omega arith);
       }
 
   module _ (f : holds_sort c sort ≡ true) where
@@ -233,12 +228,11 @@ module _ {s : List ℕ} {i sort q k j l : ℕ} (c : ℕ) (looked : Looked s i so
     only_stuck h =
         record {
           within = λ e. let z : ◌≡◌ {A = ℕ} 0 1 = cc in absurd (omega arith);
-          nothing = λ e d es m t. absurd (stuck s i looked within (holds_atom c sort f).0 h t);
+          nothing = λ e es m t. absurd (stuck s i looked within (holds_atom c sort f).0 h t);
           alone = λ e. let z : ◌≡◌ {A = ℕ} 0 1 = cc in absurd (omega arith);
-          leads = λ e. let z : ◌≡◌ {A = ℕ} 0 1 = cc in absurd (omega arith);
         }
 
-    first_of : {d : ℕ} (es : Exprs) (m : ℕ) → RunStands s d i es m → FirstHeld s d c q j (atom_value (drop q s)) es m × (l ≡ length (atom_value (drop q s)))
+    first_of : (es : Exprs) (m : ℕ) → RunStands s i es m → FirstHeld s c q j (atom_value (drop q s)) es m × (l ≡ length (atom_value (drop q s)))
     first_of es m t = rw (looked.1, looked.3, looked.4) (held_first c (first_some t) (look_stands s i m es t) (rw (← looked.0) f))
 
     -- After it `sort'` is seen at `q'`.
@@ -254,21 +248,16 @@ module _ {s : List ℕ} {i sort q k j l : ℕ} (c : ℕ) (looked : Looked s i so
             omega (arith, after.place_within, last.1),
             omega (arith, (seen_bounds s i within).place_within, looked.1),
           );
-          nothing = λ e d es m t. let (x, more) = first_of es m t in nothing' e m x;
-          alone = λ e d es m t. let (x, more) = first_of es m t in alone' (eqb-true sort' 0 e) m x more;
-          leads = λ e d.
-              let (no_end, no-list) = holds_atom c sort f in
-              let first : Leads s d i j
-              = rw looked.3 ((seen_leads s d i).atom_leads (λ z. no_end (looked.0 ∙ z)) (λ z. no-list (looked.0 ∙ z)) (omega (arith, looked.3))) in
-              and_on first (rw last.1 (seen_leads s d j).blank_leads);
+          nothing = λ e es m t. let (x, more) = first_of es m t in nothing' e m x;
+          alone = λ e es m t. let (x, more) = first_of es m t in alone' (eqb-true sort' 0 e) m x more;
         }
       where
-        nothing' : eqb sort' 0 ≡ false → {d : ℕ} {es : Exprs} (m : ℕ) → FirstHeld s d c q j (atom_value (drop q s)) es m → held_bytes c es ≡ []
+        nothing' : eqb sort' 0 ≡ false → {es : Exprs} (m : ℕ) → FirstHeld s c q j (atom_value (drop q s)) es m → held_bytes c es ≡ []
         nothing' e m x =
             let (e', es', made) = seen_more (look_stands s j m x.others x.stands) (λ z. eqb-false sort' 0 e (last.0 ∙ z)) in
             rw (x.made, made) (held_two c x.first e' es')
 
-        alone' : sort' ≡ 0 → {d : ℕ} {es : Exprs} (m : ℕ) → FirstHeld s d c q j (atom_value (drop q s)) es m → l ≡ length (atom_value (drop q s))
+        alone' : sort' ≡ 0 → {es : Exprs} (m : ℕ) → FirstHeld s c q j (atom_value (drop q s)) es m → l ≡ length (atom_value (drop q s))
             → Alone c es m q (atom_value (drop q s)) l q'
         alone' e m x long =
             let (made, ends) = seen_ends (look_stands s j m x.others x.stands) (sym last.0 ∙ e) in
@@ -314,40 +303,37 @@ refused_as_lem at m n p = refl
 -- A refused value is noted nowhere.
 pub refused_notes : (s : List ℕ) (i c node at : ℕ) (t z : List ℕ) → Notes s i c node t (walked_to 0 0 0 (fault 10 at)) z
 unfolding walked_to
-refused_notes s i c node at t z = record { notes = λ d es m u h. absurd (omega (arith, h)); leads = λ h. absurd (omega (arith, h)) }
+refused_notes s i c node at t z = record { notes = λ es m u h full. absurd (omega (arith, h)) }
 
--- The place of what a parameter holds is noted, and, but of a type, its length.
-held_notes : (t z : List ℕ) (node c q l : ℕ) (es : Exprs) → (c ≡ 29 → ⊥) → value_place es ≡ q → length (held_bytes c es) ≡ l
-    → z ≡ noted_held t node c q l → z ≡ noted t node c es
-unfolding noted noted_held value_length held_bytes
-held_notes t z node c q l es h f g = rw (ne_eqb c 29 h, f) (by (eqb c Class.type) g)
-  where
-    by : (b : Bool) → length (cond b (only_one symbol_bytes es) (only_one text_bytes es)) ≡ l
-        → z ≡ roomy t node (cond b (set t (9 * node + 5) (word q)) (sets t (9 * node + 3) (word l ∷ word q ∷ [])))
-        → z ≡ roomy t node (cond b (set t (9 * node + 5) (word q)) (sets t (9 * node + 3) (word (length (only_one text_bytes es)) ∷ word q ∷ [])))
-    by true g y = y
-    by false g y = rw g y
+pub word_small : (c : ℕ) {w : ℕ} → w ≡ cond (eqb c Class.type) 5 4 → w < 8
+word_small c e = rw e (cond_case (λ (w : ℕ). w < 8) (eqb c Class.type) (λ h. omega arith) (λ h. omega arith))
+
+-- The place of what a parameter holds is noted.
+held_notes : (t z : List ℕ) (node c w q : ℕ) (es : Exprs) → (c ≡ 29 → ⊥) → w ≡ cond (eqb c Class.type) 5 4 → value_place es ≡ q
+    → z ≡ set t (8 * node + w) q → z ≡ noted t node c es
+unfolding noted
+held_notes t z node c w q es h e f g = rw (ne_eqb c 29 h, f, ← e) g
 
 -- Whatever stands from place i on, r is the answer of the value of a parameter of class c in an element of kind k, and z the tape t with the value.
 abbrev pub ValueAnswers : List ℕ → ℕ → ℕ → ℕ → ℕ → ℕ → ℕ → ℕ → List ℕ → Walked → List ℕ → Type 0
 ValueAnswers s at i k c n p node t r z =
-    Bounded s i r × (((d : ℕ) (es : Exprs) (m : ℕ) → RunStands s d i es m → r ≡ walked_to m n (p + value_size c es) (judge_value k at (value_tree c es)))
+    Bounded s i r × (((es : Exprs) (m : ℕ) → RunStands s i es m → r ≡ walked_to m n (p + value_size c es) (judge_value k at (value_tree c es)))
     × Notes s i c node t r z)
 
 module _ {s : List ℕ} {i c node : ℕ} {t z : List ℕ} (at k n p : ℕ) where
   pub value_size_lem : c ≡ 29 → {r : Walked}
-      → Bounded s i r × (((d : ℕ) (es : Exprs) (m : ℕ) → RunStands s d i es m → r ≡ walked_to m n p (judge_value k at (size_tree es))) × Notes s i 29 node t r z)
+      → Bounded s i r × (((es : Exprs) (m : ℕ) → RunStands s i es m → r ≡ walked_to m n p (judge_value k at (size_tree es))) × Notes s i 29 node t r z)
       → ValueAnswers s at i k c n p node t r z
   unfolding value_size value_tree key_of type_of
   value_size_lem h (bounded, (answers, notes)) =
-      (bounded, (λ d es m u. let (x, y, made) = size_tree_lem es in rw (h, made, add-zero p) (rw made at (answers d es m u)), rw h notes))
+      (bounded, (λ es m u. let (x, y, made) = size_tree_lem es in rw (h, made, add-zero p) (rw made at (answers es m u)), rw h notes))
 
   module _ (h : c ≡ 29 → ⊥) {o : One} (holds : HoldsOne s i c o) where
     pub value_nothing : o.good ≡ false → ValueAnswers s at i k c n p node t (walked_to 0 0 0 (fault 10 at)) z
     value_nothing g = (
       refused_within s i at,
       (
-        λ d es m u. rw (value_judged k at c es h, holds.nothing g d es m u, no_value k c) (refused_as_lem at m n (p + value_size c es)),
+        λ es m u. rw (value_judged k at c es h, holds.nothing g es m u, no_value k c) (refused_as_lem at m n (p + value_size c es)),
         refused_notes s i c node at t z,
       ),
     )
@@ -357,31 +343,26 @@ module _ {s : List ℕ} {i c node : ℕ} {t z : List ℕ} (at k n p : ℕ) where
     value_bad g e f = (
       refused_within s i at,
       (
-        λ d es m u.
+        λ es m u.
             let v = atom_value (drop o.place s) in
             let bad : is_value k c v ≡ false = sym f ∙ rw e (and_false (non_empty v)) in
-            rw (value_judged k at c es h, (holds.alone g d es m u).bytes, bad) (refused_as_lem at m n (p + value_size c es)),
+            rw (value_judged k at c es h, (holds.alone g es m u).bytes, bad) (refused_as_lem at m n (p + value_size c es)),
         refused_notes s i c node at t z,
       ),
     )
 
     pub value_good : {r : Bool} → o.good ≡ true → r ≡ true → non_empty (atom_value (drop o.place s)) && r ≡ is_value k c (atom_value (drop o.place s))
-        → n ≤ i → p ≤ i → z ≡ noted_held t node c o.place o.length
+        → n ≤ i → p ≤ i → {w : ℕ} → w ≡ cond (eqb c Class.type) 5 4 → (length t ≡ 32768 → z ≡ set t (8 * node + w) o.place)
         → ValueAnswers s at i k c n p node t (record { number = 0; place = 0; next = o.end; nodes = n; pool = p + o.length }) z
     unfolding walked_to
-    value_good g e f nodes pool stored = (
+    value_good g e f nodes pool {w} word stored = (
       record { bounds = λ z. omega (arith, holds.within g) },
       (
-        λ d es m u.
+        λ es m u.
             let v = atom_value (drop o.place s) in
-            let a = holds.alone g d es m u in
+            let a = holds.alone g es m u in
             let good : is_value k c v ≡ true = sym f ∙ rw (e, some_non_empty v a.some) in
             rw (value_judged k at c es h, value_long c es h, a.bytes, good, a.long, a.ends),
-        record {
-          notes = λ d es m u y.
-              let a = holds.alone g d es m u in
-              held_notes t z node c o.place o.length es h a.placed (ap length a.bytes ∙ sym a.long) stored;
-          leads = λ y. holds.leads g;
-        },
+        record { notes = λ es m u y full. held_notes t z node c w o.place es h word (holds.alone g es m u).placed (stored full) },
       ),
     )

@@ -189,7 +189,7 @@ mutual
       let (n', b') = all_weighed es in
       (omega arith, omega arith)
 
-pub stands_weight : {s : List ℕ} {d i e : ℕ} {es : Exprs} → RunStands s d i es e → i + weight_all es ≤ e
+pub stands_weight : {s : List ℕ} {i e : ℕ} {es : Exprs} → RunStands s i es e → i + weight_all es ≤ e
 unfolding weight
 stands_weight (ended h) = omega arith
 stands_weight (after_blank h st) = omega (arith, stands_weight st)
@@ -198,4 +198,4 @@ stands_weight {s} (a_symbol {i = i} h st) =
     let r : SymbolHere s i = symbol_here s i h in omega (arith, stands_weight st)
 stands_weight {s} (a_string {i = i} h g st) =
     let r : StringHere s i = string_here s i h g in omega (arith, stands_weight st)
-stands_weight (a_list l h st g st') = omega (arith, stands_weight st, stands_weight st')
+stands_weight (a_list h st g st') = omega (arith, stands_weight st, stands_weight st')

@@ -1,5 +1,5 @@
 -- One turn of a walk: what follows from what is seen at a place.
-use Prim.Native.Nat.{ℕ, zero, suc, ◌+◌, ◌-◌, ◌≤◌, ◌<◌}
+use Prim.Native.Nat.{ℕ, zero, suc, ◌+◌, ◌≤◌, ◌<◌}
 use mathlib.Core.Path.{◌≡◌, refl, sym, ◌∙◌}
 use mathlib.Core.Bool.{Bool, true, false, cond}
 use mathlib.Core.List.{List, [], ◌∷◌}
@@ -20,13 +20,10 @@ use Rattle.document.specs.rules.Faults.{Begun, Taken, Allowed}
 use Rattle.document.specs.reference.Meaning.{Verdict, fine, fault, stopped, fault_at, advance, finish, run, judge}
 use Rattle.document.proofs.RuleClasses.{all_lead, leads, Leading, start_leading, next_leads, allowed_child, chosen_allowed}
 use Rattle.document.proofs.ElementSteps.{begun_of, stepped as step-says}
-use Rattle.reader.specs.internal.RunStands.{RunStands}
-use Rattle.reader.specs.internal.ScanLeads.{Leads}
 use Rattle.reader.specs.internal.Counts.{node_count, node_count_in, pool_bytes, pool_bytes_in}
 use Rattle.reader.specs.internal.WalkAnswer.{walked_to, Bounded}
 use Rattle.reader.specs.internal.Tape.{entered, taped, taped_all}
 use Rattle.reader.specs.internal.Walk.{run_answer, AnswersFrom, Remaining, NamedListFirst, TakesList, StepTakes, TakesAtom}
-use Rattle.reader.proofs.lemmas.walk.ScanLeads.{seen_leads}
 use Rattle.reader.proofs.lemmas.walk.SeenExpressions.{seen_bounds, SeenAs, saw_end, saw_symbol, saw_string, saw_list, look_stands}
 
 -- A step that is no fault leads to a state; any other is the fault.
@@ -107,34 +104,34 @@ pub ended_here : (s : List ℕ) (i : ℕ) → ((seen i (drop i s)).sort ≡ 0) �
     → Looked s i 0 i (seen i (drop i s)).class (seen i (drop i s)).next (seen i (drop i s)).length
 ended_here s i e = (sym e.0, sym e.1, refl, refl, refl)
 
-module _ {s : List ℕ} {d : ℕ} {r : Seen} where
-  answer_end : (at k st n p : ℕ) {es : Exprs} {e : ℕ} → SeenAs s d r es e → r.sort ≡ 0
+module _ {s : List ℕ} {r : Seen} where
+  answer_end : (at k st n p : ℕ) {es : Exprs} {e : ℕ} → SeenAs s r es e → r.sort ≡ 0
       → walked_to r.place n p (cond (ended k (state_of k st)) fine (fault 9 at)) ≡ run_answer at k st n p e es
   unfolding run_answer run finish node_count_in pool_bytes_in
   answer_end at k st n p (saw_end h) z = rw (add-zero n, add-zero p)
   answer_end at k st n p (saw_symbol h c l f t) z = cc
   answer_end at k st n p (saw_string h c l f t) z = cc
-  answer_end at k st n p (saw_list x h c f t g b u) z = cc
+  answer_end at k st n p (saw_list x h c f t d b u) z = cc
 
-  answer_fault : (at k st n p f : ℕ) {es : Exprs} {e : ℕ} → SeenAs s d r es e → (r.sort ≡ 0 → ⊥) → stepped k (state_of k st) r.class ≡ bad f
+  answer_fault : (at k st n p f : ℕ) {es : Exprs} {e : ℕ} → SeenAs s r es e → (r.sort ≡ 0 → ⊥) → stepped k (state_of k st) r.class ≡ bad f
       → walked_to 0 0 0 (fault f (cond (eqb f 9) at r.place)) ≡ run_answer at k st n p e es
   unfolding place expr_class
   answer_fault at k st n p f (saw_end h) z b = absurd (z h)
   answer_fault at k st n p f (saw_symbol {es} {e} h c l g t) z b = run_bad at k st n p e (symbol r.place _) es f (rw c at b)
   answer_fault at k st n p f (saw_string {es} {e} h c l g t) z b = run_bad at k st n p e (quoted r.place _) es f (rw c at b)
-  answer_fault at k st n p f (saw_list {inner} {es} {m} {e} x h c g t y u v) z b = run_bad at k st n p e (list r.place inner) es f (rw c at b)
+  answer_fault at k st n p f (saw_list {inner} {es} {m} {e} x h c g t d u v) z b = run_bad at k st n p e (list r.place inner) es f (rw c at b)
 
   -- Where expressions stand, what is seen takes some bytes.
-  pub seen_forward : {es : Exprs} {e : ℕ} → SeenAs s d r es e → (r.sort ≡ 0 → ⊥) → r.place < r.next
+  pub seen_forward : {es : Exprs} {e : ℕ} → SeenAs s r es e → (r.sort ≡ 0 → ⊥) → r.place < r.next
   seen_forward (saw_end h) z = absurd (z h)
   seen_forward (saw_symbol h c l f t) z = f
   seen_forward (saw_string h c l f t) z = f
-  seen_forward (saw_list x h c f t g b u) z = f
+  seen_forward (saw_list x h c f t d b u) z = f
 
-  pass_atom : (at k st n p node : ℕ) (t : List ℕ) (st' : ℕ) (t' : List ℕ) {es : Exprs} {e : ℕ} → SeenAs s d r es e → (r.sort ≡ 0 → ⊥)
+  pass_atom : (at k st n p node : ℕ) (t : List ℕ) (st' : ℕ) (t' : List ℕ) {es : Exprs} {e : ℕ} → SeenAs s r es e → (r.sort ≡ 0 → ⊥)
       → (r.sort ≡ 3 → ⊥)
-      → StepTakes k st r.class st' → t' ≡ entered t n r.place Class.text node r.length
-      → Remaining s d at k st n p node t r.next st' (n + 1) (p + r.length) t' es e
+      → StepTakes k st r.class st' → (length t ≡ 32768 → t' ≡ entered t n r.place Class.text node (n + 1))
+      → Remaining s at k st n p node t r.next st' (n + 1) (p + r.length) t' es e
   unfolding expr_class node_count pool_bytes judge taped
   pass_atom at k st n p node t st' t' (saw_end h) z a b y = absurd (z h)
   pass_atom at k st n p node t st' t' (saw_symbol {es} {e} h c l f u) z a b y =
@@ -142,31 +139,38 @@ module _ {s : List ℕ} {d : ℕ} {r : Seen} where
         others = es;
         stands = u;
         same = rw l (run_fine at k st n p e (symbol r.place _) es st' (rw c at b) refl);
-        kept = rw (y, l);
+        kept = λ full. rw (y full);
       }
   pass_atom at k st n p node t st' t' (saw_string {es} {e} h c l f u) z a b y =
       record {
         others = es;
         stands = u;
         same = rw l (run_fine at k st n p e (quoted r.place _) es st' (rw c at b) refl);
-        kept = rw (y, l);
+        kept = λ full. rw (y full);
       }
-  pass_atom at k st n p node t st' t' (saw_list x h c f u m b v) z a g y = absurd (a h)
+  pass_atom at k st n p node t st' t' (saw_list x h c f u d b v) z a g y = absurd (a h)
 
   -- Nothing stands where nothing is seen, and the tape is as it was.
-  tapes_end : (n node : ℕ) (t : List ℕ) {es : Exprs} {e : ℕ} → SeenAs s d r es e → r.sort ≡ 0 → t ≡ taped_all t n node es
+  tapes_end : (n node : ℕ) (t : List ℕ) {es : Exprs} {e : ℕ} → SeenAs s r es e → r.sort ≡ 0 → t ≡ taped_all t n node es
   unfolding taped_all
   tapes_end n node t (saw_end h) z = refl
   tapes_end n node t (saw_symbol h c l f u) z = let o : ◌≡◌ {A = ℕ} 0 1 = cc in absurd (omega arith)
   tapes_end n node t (saw_string h c l f u) z = let o : ◌≡◌ {A = ℕ} 0 1 = cc in absurd (omega arith)
-  tapes_end n node t (saw_list x h c f u m b v) z = let o : ◌≡◌ {A = ℕ} 0 1 = cc in absurd (omega arith)
+  tapes_end n node t (saw_list x h c f u d b v) z = let o : ◌≡◌ {A = ℕ} 0 1 = cc in absurd (omega arith)
 
-  pub open_list : {es : Exprs} {e : ℕ} → SeenAs s d r es e → r.sort ≡ 3 → (r.class ≡ 0 → ⊥) → NamedListFirst s d r.place r.class r.next es e
+  -- No symbol and no string is an item.
+  item_list : {es : Exprs} {e : ℕ} → SeenAs s r es e → (r.sort ≡ 0 → ⊥) → r.class ≡ Class.item → r.sort ≡ 3
+  item_list (saw_end h) z a = absurd (z h)
+  item_list (saw_symbol h c l f t) z a = absurd (omega (arith, sym c ∙ a))
+  item_list (saw_string h c l f t) z a = absurd (omega (arith, sym c ∙ a))
+  item_list (saw_list x h c f t d b u) z a = h
+
+  pub open_list : {es : Exprs} {e : ℕ} → SeenAs s r es e → r.sort ≡ 3 → (r.class ≡ 0 → ⊥) → NamedListFirst s r.place r.class r.next es e
   open_list (saw_end h) z a = let w : ◌≡◌ {A = ℕ} 0 1 = cc in absurd (omega arith)
   open_list (saw_symbol h c l f t) z a = let w : ◌≡◌ {A = ℕ} 0 1 = cc in absurd (omega arith)
   open_list (saw_string h c l f t) z a = let w : ◌≡◌ {A = ℕ} 0 1 = cc in absurd (omega arith)
-  open_list (saw_list {inner} {es} {m} {e} x h c f t named b u) z a =
-      let l = named a in
+  open_list (saw_list {inner} {es} {m} {e} x h c f t d b u) z a =
+      let l = d a in
       record {
         lead = l.lead;
         rest = l.rest;
@@ -176,16 +180,9 @@ module _ {s : List ℕ} {d : ℕ} {r : Seen} where
         made = rw l.made refl;
         of_class = l.of_class;
         follows = l.follows;
-        brackets = b;
+        closed = b;
         goes_on = u;
       }
-
--- A list that is taken.
-pub opened_first : (k st st' : ℕ) {s : List ℕ} {d i sort q c j l : ℕ} → Looked s i sort q c j l → StepTakes k st c st' → sort ≡ 3
-    → (es : Exprs) (e : ℕ) → RunStands s d i es e → NamedListFirst s d q c j es e
-opened_first k st st' {s} {i = i} looked taken a es e u =
-    rw (looked.1, looked.2, looked.3)
-    (open_list (look_stands s i e es u) (sym looked.0 ∙ a) (λ y. none_taken k st st' (rw (looked.2 ∙ y) at taken)))
 
 -- What is seen, if it takes any bytes, is within the text.
 pub seen_within : (s : List ℕ) (i : ℕ) {sort q c j l : ℕ} → Looked s i sort q c j l → i ≤ length s → (sort ≡ 0 → ⊥) → i < j
@@ -196,10 +193,10 @@ seen_within s i looked within some h =
     omega (arith, g, b.place_from, looked.3, looked.4)
 
 -- The ways through a turn.
-module _ {s : List ℕ} {d k i st sort q c j l : ℕ} (looked : Looked s i sort q c j l) (within : i ≤ length s) where
+module _ {s : List ℕ} {k i st sort q c j l : ℕ} (looked : Looked s i sort q c j l) (within : i ≤ length s) where
   pub turn_end : {at n p node : ℕ} {t : List ℕ} → n ≤ i → p ≤ i → sort ≡ 0
       → Bounded s i (walked_to q n p (cond (ended k (state_of k st)) fine (fault 9 at)))
-      × AnswersFrom s d at k i st n p node t t (walked_to q n p (cond (ended k (state_of k st)) fine (fault 9 at)))
+      × AnswersFrom s at k i st n p node t t (walked_to q n p (cond (ended k (state_of k st)) fine (fault 9 at)))
   unfolding walked_to
   turn_end {at} {n} {p} {node} {t} nodes pool z =
       let b = seen_bounds s i within in (
@@ -208,24 +205,20 @@ module _ {s : List ℕ} {d k i st sort q c j l : ℕ} (looked : Looked s i sort 
             (λ e. record { bounds = λ e. omega (arith, e) }),
         record {
           answers = λ es e u. rw looked.1 (answer_end at k st n p (look_stands s i e es u) (sym looked.0 ∙ z));
-          tapes = λ es e u y. tapes_end n node t (look_stands s i e es u) (sym looked.0 ∙ z);
-          leads =
-              cond_case (λ (v : Verdict). (walked_to q n p v).number ≡ 0 → Leads s d i (walked_to q n p v).next) (ended k (state_of k st))
-              (λ e y. rw looked.1 (seen_leads s d i).blank_leads) (λ e y. absurd (omega (arith, y)));
+          tapes = λ es e u y full. tapes_end n node t (look_stands s i e es u) (sym looked.0 ∙ z);
         },
       )
 
   -- Nothing is passed: not where expressions stand.
   pub turn_stuck : {at n p node : ℕ} {t z : List ℕ} → (sort ≡ 0 → ⊥) → j ≤ i
-      → Bounded s i (walked_to 0 0 0 (fault 8 q)) × AnswersFrom s d at k i st n p node t z (walked_to 0 0 0 (fault 8 q))
+      → Bounded s i (walked_to 0 0 0 (fault 8 q)) × AnswersFrom s at k i st n p node t z (walked_to 0 0 0 (fault 8 q))
   unfolding walked_to
   turn_stuck some h = (
     record { bounds = λ e. omega (arith, e) },
     record {
       answers = λ es e u.
           absurd (omega (arith, (seen_bounds s i within).place_from, looked.3, seen_forward (look_stands s i e es u) (λ e. some (looked.0 ∙ e))));
-      tapes = λ es e u y. absurd (omega (arith, y));
-      leads = λ y. absurd (omega (arith, y));
+      tapes = λ es e u y full. absurd (omega (arith, y));
     },
   )
 
@@ -233,7 +226,7 @@ module _ {s : List ℕ} {d k i st sort q c j l : ℕ} (looked : Looked s i sort 
   module _ (f st' : ℕ) (step : step_of k f st' ≡ stepped k (state_of k st) c) (some : sort ≡ 0 → ⊥) where
     pub turn_fault : {at n p node : ℕ} {t z : List ℕ} → (f ≡ 0 → ⊥)
         → Bounded s i (walked_to 0 0 0 (fault f (cond (eqb f 9) at q)))
-        × AnswersFrom s d at k i st n p node t z (walked_to 0 0 0 (fault f (cond (eqb f 9) at q)))
+        × AnswersFrom s at k i st n p node t z (walked_to 0 0 0 (fault f (cond (eqb f 9) at q)))
     unfolding walked_to
     turn_fault {at} {n} {p} h = (
       record { bounds = λ e. absurd (h e) },
@@ -241,14 +234,13 @@ module _ {s : List ℕ} {d k i st sort q c j l : ℕ} (looked : Looked s i sort 
         answers = λ es e u.
             rw looked.1 (answer_fault at k st n p f (look_stands s i e es u) (λ e. some (looked.0 ∙ e))
             (rw looked.2 at (step_bad k f st' _ h step)));
-        tapes = λ es e u y. absurd (h y);
-        leads = λ y. absurd (h y);
+        tapes = λ es e u y full. absurd (h y);
       },
     )
 
     pub turn_atom : {at n p node : ℕ} {t t' : List ℕ} → n ≤ i → p ≤ i → f ≡ 0 → i < j → (sort ≡ 3 → ⊥)
-        → t' ≡ entered t n q Class.text node l
-        → ((i < j) × (j ≤ length s) × (n + 1 ≤ j) × (p + l ≤ j)) × TakesAtom s d at k i st n p node t j st' (n + 1) (p + l) t'
+        → (length t ≡ 32768 → t' ≡ entered t n q Class.text node (n + 1))
+        → ((i < j) × (j ≤ length s) × (n + 1 ≤ j) × (p + l ≤ j)) × TakesAtom s at k i st n p node t j st' (n + 1) (p + l) t'
     turn_atom {at} {n} {p} {node} {t} {t'} nodes pool h v a stored =
         let taken = step_goes k f st' _ h step in (
           omega (arith, seen_within s i looked within some v),
@@ -260,43 +252,28 @@ module _ {s : List ℕ} {d k i st sort q c j l : ℕ} (looked : Looked s i sort 
                   rw (looked.3, looked.4)
                   (pass_atom at k st n p node t st' t' (look_stands s i e es u) (λ e. some (looked.0 ∙ e)) (λ e. a (looked.0 ∙ e))
                   (rw looked.2 at taken)
-                  (rw (looked.1, looked.4) at stored));
-              leads = rw looked.3 ((seen_leads s d i).atom_leads (λ e. some (looked.0 ∙ e)) (λ e. a (looked.0 ∙ e)) (omega (arith, looked.3)));
+                  (rw looked.1 at stored));
             };
           },
         )
 
-    -- None may stand where no level is left.
-    pub turn_deep : {at n p node : ℕ} {t z : List ℕ} → f ≡ 0 → sort ≡ 3 → d ≡ 0
-        → Bounded s i (walked_to 0 0 0 (fault 8 q)) × AnswersFrom s d at k i st n p node t z (walked_to 0 0 0 (fault 8 q))
-    unfolding walked_to
-    turn_deep h a deep = (
-      record { bounds = λ e. omega (arith, e) },
-      record {
-        answers = λ es e u. absurd (omega (arith, (opened_first k st st' looked (step_goes k f st' _ h step) a es e u).brackets.room));
-        tapes = λ es e u y. absurd (omega (arith, y));
-        leads = λ y. absurd (omega (arith, y));
-      },
-    )
-
-    pub turn_list : f ≡ 0 → i < j → sort ≡ 3 → (d ≡ 0 → ⊥) → ((i < j) × (j ≤ length s) × (q < length s)) × TakesList s d k i st q c j st'
-    turn_list h v a deep =
-        let g = (seen_bounds s i within).forward (λ e. some (looked.0 ∙ e)) (rw looked.3 at v) in
-        let l = seen_leads s d i in
-        let is_list = sym looked.0 ∙ a in (
-          omega (arith, g, looked.1, looked.3),
+    -- A list is taken; where what is taken is an item, it is one.
+    opened_list : ((es : Exprs) (e : ℕ) → SeenAs s (seen i (drop i s)) es e → (seen i (drop i s)).sort ≡ 3) → f ≡ 0 → i < j
+        → ((i < j) × (j ≤ length s) × (q ≤ length s)) × TakesList s k i st q c j st'
+    opened_list a h v =
+        let taken = step_goes k f st' _ h step in (
+          omega (arith, seen_within s i looked within some v, (seen_bounds s i within).place_within, looked.1),
           record {
-            taken = step_goes k f st' _ h step;
-            opened = opened_first k st st' looked (step_goes k f st' _ h step) a;
-            level = omega arith;
-            bracket = (l.bracket is_list).0;
-            has = rw looked.1 (l.bracket is_list).1;
-            to_bracket = rw looked.1 l.blank_leads;
-            past_name = rw (looked.1, looked.3) (l.name is_list (d - 1));
+            taken = taken;
+            opened = λ es e u.
+                let first = look_stands s i e es u in
+                rw (looked.1, looked.2, looked.3)
+                (open_list first (a es e first) (λ e. none_taken k st st' (rw (looked.2 ∙ e) at taken)));
           },
         )
 
--- No symbol and no string is an item.
-pub item_list : (s : List ℕ) (i : ℕ) {sort q c j l : ℕ} → Looked s i sort q c j l → c ≡ Class.item → sort ≡ 3
-item_list s i looked a =
-    looked.0 ∙ (seen_leads s 0 i).is_list (λ e. omega (arith, sym a ∙ looked.2 ∙ e)) (λ e. omega (arith, sym a ∙ looked.2 ∙ e))
+    pub turn_list : f ≡ 0 → i < j → sort ≡ 3 → ((i < j) × (j ≤ length s) × (q ≤ length s)) × TakesList s k i st q c j st'
+    turn_list h v a = opened_list (λ es e first. sym looked.0 ∙ a) h v
+
+    pub turn_item : f ≡ 0 → i < j → c ≡ Class.item → ((i < j) × (j ≤ length s) × (q ≤ length s)) × TakesList s k i st q c j st'
+    turn_item h v a = opened_list (λ es e first. item_list first (λ z. some (looked.0 ∙ z)) (sym looked.2 ∙ a)) h v

@@ -20,7 +20,7 @@ pieces_length : (p : Piece) (ps : List Piece) → length (pieces_before (p ∷ p
 unfolding pieces_before
 pieces_length p ps = rw (piece_append p (pieces_before ps [])) (length-append (piece_before p []) (pieces_before ps []))
 
-pub values_length : (ps : List Piece) → length (pieces_value ps) ≤ length (pieces_before ps [])
+values_length : (ps : List Piece) → length (pieces_value ps) ≤ length (pieces_before ps [])
 unfolding pieces_value pieces_before
 values_length [] = omega arith
 values_length (p ∷ ps) =
@@ -124,10 +124,6 @@ unfolding atom_value
 atom_short s =
     cond_case (λ (v : List ℕ). length v ≤ length s) (eqb (get_or s 0 0) 0x22)
     (λ e. omega (arith, content_short (length (drop 1 s)) (quoted_from 0 1 (drop 1 s)) (quoted_within 0 1 (drop 1 s)), length-drop 1 s)) (λ e. run_fits s)
-
--- and fewer than the whole text has, if its place is not the first.
-pub atom_after : (s : List ℕ) (i : ℕ) → 0 < i → i < length s → length (atom_value (drop i s)) < length s
-atom_after s i h g = omega (arith, atom_short (drop i s), length-drop i s)
 
 pub atom_within : (s : List ℕ) (i : ℕ) → length (atom_value (drop i s)) ≤ length s
 atom_within s i = omega (arith, atom_short (drop i s), length-drop i s)

@@ -1,5 +1,5 @@
 -- What `seen` tells of the expressions that stand at a place.
-use Prim.Native.Nat.{ℕ, suc, ◌+◌, ◌-◌, ◌≤◌, ◌<◌}
+use Prim.Native.Nat.{ℕ, suc, ◌+◌, ◌≤◌, ◌<◌}
 use mathlib.Core.Path.{◌≡◌, refl, ap, sym, ◌∙◌}
 use mathlib.Core.Bool.{true, false}
 use mathlib.Core.List.{List, [], ◌∷◌}
@@ -10,12 +10,12 @@ use Rattle.elements.specs.rules.Class as Class
 use Rattle.elements.specs.rules.Bytes.{codes, same}
 use Rattle.syntax.specs.rules.Byte.{Bracket, ByteClass, blank, return, quote, forbidden, ordinary, opening, closing, byte_class, ordinary_class}
 use Rattle.syntax.specs.reference.Scan.{ordinary_run}
-use Rattle.syntax.specs.rules.Expression.{Expr, symbol, quoted, list, Exprs, none, and, depth_all}
+use Rattle.syntax.specs.rules.Expression.{Expr, symbol, quoted, list, Exprs, none, and}
 use Rattle.atoms.specs.Atom.{string_at, atom_value}
 use Rattle.lexer.specs.Token.{blanks, lead_class_at, lead_length, Seen, seen_end, seen_by, seen_first, seen, the_end, a_symbol}
 use Rattle.lexer.specs.Token.{a_string, a_list}
 use Rattle.document.specs.rules.Lead.{lead_class, list_class}
-use Rattle.reader.specs.internal.RunStands.{Has, Ends, at_bracket, at_end, RunStands, ended, after_blank, after_line_end, Bracketed}
+use Rattle.reader.specs.internal.RunStands.{Has, Ends, at_bracket, at_end, RunStands, ended, after_blank, after_line_end}
 use Rattle.reader.proofs.lemmas.walk.QuotedStrings.{StringSpans, string_spans, string_good}
 use Rattle.characters.proofs.Symbols.{run_fits}
 use Rattle.lexer.proofs.Blanks.{blanks_fit}
@@ -66,48 +66,30 @@ seen_bounds s i h =
     = omega (arith, length-drop (blanks t) t, length-drop i s, blanks_fit t) in
     rw n at (first_bounds i (i + blanks t) (drop (blanks t) t) (omega arith))
 
--- What stands where lists nest at most d deep stands where they may nest deeper, and they nest no deeper than d.
-pub raised : {s : List ℕ} {d d' i e : ℕ} {es : Exprs} → d ≤ d' → RunStands s d i es e → RunStands s d' i es e
-raised h (ended x) = ended x
-raised h (after_blank x st) = after_blank x (raised h st)
-raised h (after_line_end x g st) = after_line_end x g (raised h st)
-raised h (RunStands.a_symbol x st) = RunStands.a_symbol x (raised h st)
-raised h (RunStands.a_string x g st) = RunStands.a_string x g (raised h st)
-raised {d' = d'} h (RunStands.a_list {d' = inner} l x st g st') = RunStands.a_list {d = d'} {d' = inner} (omega arith) x st g (raised h st')
-
-pub stands_depth : {s : List ℕ} {d i e : ℕ} {es : Exprs} → RunStands s d i es e → depth_all es ≤ d
-unfolding depth_all
-stands_depth (ended x) = omega arith
-stands_depth (after_blank x st) = stands_depth st
-stands_depth (after_line_end x g st) = stands_depth st
-stands_depth (RunStands.a_symbol x st) = omega (arith, stands_depth st)
-stands_depth (RunStands.a_string x g st) = omega (arith, stands_depth st)
-stands_depth (RunStands.a_list l x st g st') = omega (arith, stands_depth st, stands_depth st')
-
 -- The name that leads a list, seen up to r's next place.
-pub record Led (s : List ℕ) (d : ℕ) (r : Seen) (inner : Exprs) (m : ℕ) : Type 0 where
+pub record Led (s : List ℕ) (r : Seen) (inner : Exprs) (m : ℕ) : Type 0 where
   pub lead : Expr
   pub rest : Exprs
   pub made : inner ≡ and lead rest
   pub of_class : lead_class lead ≡ r.class
-  pub follows : RunStands s d r.next rest m
+  pub follows : RunStands s r.next rest m
 
--- The expressions that stand here, whose lists nest at most d deep, begin with what was seen.
-pub data SeenAs (s : List ℕ) (d : ℕ) (r : Seen) : Exprs → ℕ → Type 0 where
-  saw_end : r.sort ≡ the_end → SeenAs s d r none r.place
+-- The expressions that stand here begin with what was seen.
+pub data SeenAs (s : List ℕ) (r : Seen) : Exprs → ℕ → Type 0 where
+  saw_end : r.sort ≡ the_end → SeenAs s r none r.place
   saw_symbol : {es : Exprs} {e : ℕ} → r.sort ≡ a_symbol → r.class ≡ Class.text → r.length ≡ length (atom_value (drop r.place s)) → r.place < r.next
-      → RunStands s d r.next es e → SeenAs s d r (and (symbol r.place (atom_value (drop r.place s))) es) e
+      → RunStands s r.next es e → SeenAs s r (and (symbol r.place (atom_value (drop r.place s))) es) e
   saw_string : {es : Exprs} {e : ℕ} → r.sort ≡ a_string → r.class ≡ Class.text → r.length ≡ length (atom_value (drop r.place s)) → r.place < r.next
-      → RunStands s d r.next es e → SeenAs s d r (and (quoted r.place (atom_value (drop r.place s))) es) e
+      → RunStands s r.next es e → SeenAs s r (and (quoted r.place (atom_value (drop r.place s))) es) e
   saw_list : {inner es : Exprs} {m e : ℕ} (x : Bracket) → r.sort ≡ a_list → r.class ≡ list_class inner → r.place < r.next
-      → RunStands s (d - 1) (r.place + 1) inner m → ((r.class ≡ 0 → ⊥) → Led s (d - 1) r inner m) → Bracketed s d r.place m x → RunStands s d (m + 1) es e
-      → SeenAs s d r (and (list r.place inner) es) e
+      → RunStands s (r.place + 1) inner m → ((r.class ≡ 0 → ⊥) → Led s r inner m) → Has s m (closing x) → RunStands s (m + 1) es e
+      → SeenAs s r (and (list r.place inner) es) e
 
 -- A list's name is read after white space: the class of what leads the expressions that stand from place i on.
-record Lead (s : List ℕ) (d i : ℕ) (es : Exprs) (m : ℕ) : Type 0 where
+record Lead (s : List ℕ) (i : ℕ) (es : Exprs) (m : ℕ) : Type 0 where
   class : lead_class_at (drop i s) ≡ list_class es
   led : (lead_class_at (drop i s) ≡ 0 → ⊥)
-      → (lead : Expr) × (rest : Exprs) × (es ≡ and lead rest) × (lead_class lead ≡ lead_class_at (drop i s)) × RunStands s d (i + lead_length (drop i s)) rest m
+      → (lead : Expr) × (rest : Exprs) × (es ≡ and lead rest) × (lead_class lead ≡ lead_class_at (drop i s)) × RunStands s (i + lead_length (drop i s)) rest m
 
 -- No name is empty.
 nameless : Class.class_of [] ≡ 0
@@ -120,14 +102,14 @@ no_lead s i c h e f =
     let none : ordinary_run (drop i s) ≡ [] = rw (has_drop s i c h) (run_none (get_or s i 0) (drop (i + 1) s) (rw h.is f)) in
     (here s i c h e).class ∙ rw none nameless
 
-unled : (s : List ℕ) {d : ℕ} (i : ℕ) (es : Exprs) (m : ℕ) → lead_class_at (drop i s) ≡ 0 → list_class es ≡ 0 → Lead s d i es m
+unled : (s : List ℕ) (i : ℕ) (es : Exprs) (m : ℕ) → lead_class_at (drop i s) ≡ 0 → list_class es ≡ 0 → Lead s i es m
 unled s i es m e f = record { class = cc; led = λ no. absurd (no e) }
 
-lead_passes : (s : List ℕ) {d : ℕ} (i j : ℕ) (es : Exprs) (m : ℕ) → SeenAlike s i j → Lead s d j es m → Lead s d i es m
+lead_passes : (s : List ℕ) (i j : ℕ) (es : Exprs) (m : ℕ) → SeenAlike s i j → Lead s j es m → Lead s i es m
 lead_passes s i j es m p l =
     record { class = rw p.same_class l.class; led = rw (p.same_class, p.same_place) l.led }
 
-lead_of : {s : List ℕ} {d i e : ℕ} {es : Exprs} → RunStands s d i es e → Lead s d i es e
+lead_of : {s : List ℕ} {i e : ℕ} {es : Exprs} → RunStands s i es e → Lead s i es e
 unfolding list_class lead_class ordinary_class lead_class_at blanks ordinary_run
 lead_of {s} (ended {i = i} (at_bracket x h)) = unled s i none i (no_lead s i (closing x) h refl refl) refl
 lead_of {s} (ended {i = i} (at_end h)) = unled s i none i (rw (drop_of_length-le s {i = i} (omega arith)) nameless) refl
@@ -141,44 +123,38 @@ lead_of {s} (RunStands.a_symbol {i = i} {e = e} {es = es} h st) =
     }
 lead_of {s} (RunStands.a_string {i = i} {e = e} {es = es} h g st) =
     unled s i (and (quoted i (atom_value (drop i s))) es) e (no_lead s i quote h refl refl) refl
-lead_of {s} (RunStands.a_list {i = i} {e = e} {x = x} {inner = inner} {es = es} l h st g st') =
+lead_of {s} (RunStands.a_list {i = i} {e = e} {x = x} {inner = inner} {es = es} h st g st') =
     unled s i (and (list i inner) es) e (no_lead s i (opening x) h refl refl) refl
 
-look : {s : List ℕ} {d i e : ℕ} {es : Exprs} → RunStands s d i es e → SeenAs s d (seen i (drop i s)) es e
+look : {s : List ℕ} {i e : ℕ} {es : Exprs} → RunStands s i es e → SeenAs s (seen i (drop i s)) es e
 unfolding seen seen_first seen_by seen_end blanks
 look {s} (ended {i = i} (at_bracket x h)) = rw (here s i (closing x) h refl).sees (saw_end refl)
 look {s} (ended {i = i} (at_end h)) = rw (drop_of_length-le s {i = i} (omega arith), add-zero i) (saw_end refl)
 look {s} (after_blank {i = i} h st) = rw (passes_blank s i h).same_seen (look st)
 look {s} (after_line_end {i = i} h g st) = rw (passes_line_end s i h g).same_seen (look st)
-look {s} {d} (RunStands.a_symbol {i = i} {e = e} {es = es} h st) =
+look {s} (RunStands.a_symbol {i = i} {e = e} {es = es} h st) =
     let r : SymbolHere s i = symbol_here s i h in
-    let next : RunStands s d (i + length (atom_value (drop i s))) es e = rw r.value st in
+    let next : RunStands s (i + length (atom_value (drop i s))) es e = rw r.value st in
     let long : 0 < length (atom_value (drop i s)) = rw r.value r.forward in
     rw ((here s i ordinary h refl).sees, ← (has_drop s i ordinary h), ← r.value) (saw_symbol refl refl refl (omega arith) next)
 look {s} (RunStands.a_string {i = i} {e = e} {es = es} h g st) =
     let r : StringHere s i = string_here s i h g in
     rw ((here s i quote h refl).sees, ← (has_drop s i quote h)) (saw_string refl refl r.value (omega arith) st)
-look {s} {d} (RunStands.a_list {i = i} {m = m} {e = e} {x = x} {inner = inner} {es = es} less h st g st') =
-    let inside : RunStands s (d - 1) (i + 1) inner m = raised (omega arith) st in
-    let l : Lead s (d - 1) (i + 1) inner m = lead_of inside in
-    rw (here s i (opening x) h refl).sees (saw_list x refl l.class (omega arith) inside
-    (λ no. let (lead, rest, made, of_class, follows) = l.led no in record { lead = lead; rest = rest; made = made; of_class = of_class; follows = follows })
-    (record { room = omega arith; opened = h; closed = g }) st')
+look {s} (RunStands.a_list {i = i} {m = m} {e = e} {x = x} {inner = inner} {es = es} h st g st') =
+    let l : Lead s (i + 1) inner m = lead_of st in
+    rw (here s i (opening x) h refl).sees (saw_list x refl l.class (omega arith) st
+    (λ no. let (lead, rest, made, of_class, follows) = l.led no in record { lead = lead; rest = rest; made = made; of_class = of_class; follows = follows }) g st')
 
 -- What is seen where expressions stand is the first of them.
-pub look_stands : (s : List ℕ) {d : ℕ} (i e : ℕ) (es : Exprs) → RunStands s d i es e → SeenAs s d (seen i (drop i s)) es e
+pub look_stands : (s : List ℕ) (i e : ℕ) (es : Exprs) → RunStands s i es e → SeenAs s (seen i (drop i s)) es e
 look_stands s i e es st = look st
-
--- Where nothing stands up to e, nothing is seen before e.
-pub end_seen : {s : List ℕ} {d : ℕ} {r : Seen} {e : ℕ} → SeenAs s d r none e → r.place ≡ e
-end_seen (saw_end h) = refl
 
 -- Expressions stand within the text, and do not go back.
 ends_within : (s : List ℕ) (i : ℕ) → Ends s i → i ≤ length s
 ends_within s i (at_bracket x h) = omega arith
 ends_within s i (at_end h) = omega arith
 
-within : {s : List ℕ} {d i e : ℕ} {es : Exprs} → RunStands s d i es e → (i ≤ e) × (e ≤ length s)
+within : {s : List ℕ} {i e : ℕ} {es : Exprs} → RunStands s i es e → (i ≤ e) × (e ≤ length s)
 within {s} (ended {i = i} h) = (omega arith, ends_within s i h)
 within (after_blank h st) = let (a, b) = within st in (omega arith, b)
 within (after_line_end h e st) = let (a, b) = within st in (omega arith, b)
@@ -187,7 +163,7 @@ within {s} (RunStands.a_string {i = i} h g st) =
     let (a, b) = within st in
     let r : StringHere s i = string_here s i h g in
     (omega arith, b)
-within (RunStands.a_list l h st g st') = let (a, b) = within st in let (c, d) = within st' in (omega arith, d)
+within (RunStands.a_list h st g st') = let (a, b) = within st in let (c, d) = within st' in (omega arith, d)
 
-pub stands_within : (s : List ℕ) {d : ℕ} (i e : ℕ) (es : Exprs) → RunStands s d i es e → (i ≤ e) × (e ≤ length s)
+pub stands_within : (s : List ℕ) (i e : ℕ) (es : Exprs) → RunStands s i es e → (i ≤ e) × (e ≤ length s)
 stands_within s i e es st = within st

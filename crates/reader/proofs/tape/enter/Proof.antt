@@ -1,27 +1,24 @@
 -- `tape::enter` meets its contract.
-use Prim.Native.Nat.{◌+◌, ◌*◌, ◌%◌}
-use mathlib.Core.Path.{refl, sym, ap, ◌∙◌}
+use mathlib.Core.Path.{sym}
 use mathlib.Core.List.{[], ◌∷◌}
 use native.Mathlib.Omega.{arith}
-use lib.ListN.{length-set}
-use Rattle.reader.specs.internal.TapeWord.{word}
+use Prim.Native.Nat.{◌*◌}
+use Rattle.base.specs.rules.Limits.{missing}
 use Rattle.reader.specs.internal.Tape.{entered}
-use Rattle.reader.proofs.lemmas.tape.AfterWalk.{room_in, room_out}
 use Rattle.reader.proofs.lemmas.fill.Stores.{stored_row}
+use Rattle.reader.proofs.lemmas.tape.AfterWalk.{entered_out}
 use borrow.Author.Rules.{rules}
 use Rattle.reader.proofs.tape.enter.Statement.{statement}
 use Rattle.reader.proofs.tape.enter.Tie as tie
 
 returns : tie.Need-returns
-unfolding entered word
-returns c =
+unfolding entered
+returns c full =
     let a = c.before.args in
-    stored_row a.tape.now (9 * a.node) (a.at % 65536) (a.class ∷ a.parent % 65536 ∷ a.length % 65536 ∷ 0 ∷ 0 ∷ [])
-    ∙ sym (room_in a.tape.now a.node _ c.if1.true)
+    stored_row a.tape.now (8 * a.node) a.at (a.class ∷ a.parent ∷ a.end ∷ 0 ∷ 0 ∷ missing ∷ missing ∷ [])
 
 returns-2 : tie.Need-returns-2
-unfolding entered
-returns-2 c = sym (room_out c.before.args.tape.now c.before.args.node _ c.if1.false)
+returns-2 c full = sym (entered_out c.before.args.tape.now c.before.args.node _ _ _ _ (omega arith))
 
 pub enter_spec : {M : Type 1} → statement M
 enter_spec =
@@ -34,21 +31,25 @@ enter_spec =
     (λ c. search rules)
     (λ c. search rules)
     (λ c. search rules)
-    (λ c. simp length-set (omega arith))
     (λ c. search rules)
     (λ c. search rules)
     (λ c. search rules)
-    (λ c. simp length-set (omega arith))
     (λ c. search rules)
     (λ c. search rules)
     (λ c. search rules)
-    (λ c. simp length-set (omega arith))
     (λ c. search rules)
     (λ c. search rules)
-    (λ c. simp length-set (omega arith))
     (λ c. search rules)
     (λ c. search rules)
-    (λ c. simp length-set (omega arith))
-    (λ c. simp length-set)
+    (λ c. search rules)
+    (λ c. search rules)
+    (λ c. search rules)
+    (λ c. search rules)
+    (λ c. search rules)
+    (λ c. search rules)
+    (λ c. search rules)
+    (λ c. search rules)
+    (λ c. search rules)
+    (λ c. search rules)
     returns
     returns-2)

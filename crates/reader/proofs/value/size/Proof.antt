@@ -4,7 +4,7 @@ use borrow.Author.Rules.{rules}
 use Rattle.reader.proofs.value.size.Statement.{statement}
 use Rattle.reader.proofs.value.size.Tie as tie
 use Rattle.lexer.proofs.look.Reads as look-reads
-use Rattle.reader.proofs.tape.note_size.Reads as note-size-reads
+use Rattle.reader.proofs.tape.note.Reads as note-reads
 use Rattle.reader.proofs.value.number_at.Reads as number-at-reads
 use Rattle.reader.proofs.walk.refusal.Reads as refusal-reads
 
@@ -28,7 +28,7 @@ returns-3 c = rw c.refusal3.ensures
 
 returns-4 : tie.Need-returns-4
 returns-4 c =
-    let pre = c.before.before.before.before.before.before.before.before.before.before.before.before.before.before.before.requires in
+    let pre = c.before.before.before.before.before.before.before.before.before.before.before.before.before.before.requires in
     size_good _ _ _ _
     c.before.before.before.before.before.before.before.before.before.before.before.before.number_at.ensures
     c.before.before.before.before.before.before.before.before.before.before.if1.false
@@ -37,7 +37,7 @@ returns-4 c =
     c.before.before.before.before.before.before.look.ensures c.before.before.before.before.if3.false
     pre.1
     pre.2
-    c.before.before.note_size.ensures
+    c.before.before.note.ensures c.note2.ensures
 
 pub size-spec : {M : Type 1} → statement M
 size-spec =
@@ -53,5 +53,5 @@ size-spec =
     (λ c κs. search rules)
     returns-3
     (λ c κs. search rules)
-    (λ c. search rules)
+    (λ c κs. search rules)
     returns-4)

@@ -1,6 +1,6 @@
 -- The walks over an element's content meet their contracts. The invariant of a loop is `Walking`; each way through a loop's body is one law of `LoopInvariant`.
 -- The measure is five times the bytes left, and a rank: `inside` hands the bytes on to `content_of`, that to a walk, and `item` to `inline`.
-use mathlib.Core.Path.{◌≡◌, refl, sym, ap, ◌∙◌}
+use mathlib.Core.Path.{◌≡◌, refl, sym, ◌∙◌}
 use mathlib.Core.Logic.{⊎_elim}
 use Prim.Native.Nat.{◌+◌, ◌*◌, ◌-◌, ◌≤◌}
 use native.Mathlib.Omega.{arith}
@@ -13,7 +13,7 @@ use Rattle.reader.specs.internal.Walk.{TakesList, JudgesList}
 use Rattle.reader.proofs.lemmas.walk.LoopInvariant.{Walking, begun, answered, passed, list_answered, list_forward, list_gone_on}
 use Rattle.reader.proofs.lemmas.walk.LoopInvariant.{to_start, element_judges, item_judges, list_judges, value_judges}
 use Rattle.reader.proofs.lemmas.walk.ListItems.{Bare, is_list, bare_start, item_taken}
-use Rattle.reader.proofs.lemmas.walk.OneTurn.{step_goes, turn_end, turn_fault, turn_stuck, turn_deep, turn_list, item_list}
+use Rattle.reader.proofs.lemmas.walk.OneTurn.{step_goes, turn_end, turn_fault, turn_stuck, turn_item}
 use Prim.Native.Nat.{ℕ, ◌<◌}
 use borrow.Fn.Kinds.{In}
 use borrow.Fn.PlainCycle.{Measures, is, falls, and}
@@ -98,19 +98,19 @@ content-of-claims t = (list-below t, list.Post, inline-below t, inline.Post)
 
 content-of-list-requires : (t : ℕ) → content-of-lts.Need-list-requires (content-of-claims t) (content-of-at t) content-of.Post
 content-of-list-requires t c κs =
-    let pre = c.before.before.before.before.before.requires in
+    let pre = c.before.before.before.before.requires in
     (omega (arith, pre.0), (pre.1, is_list _ c.before.before.if1.false c.before.if2.true))
 
 content-of-inline-requires : (t : ℕ) → content-of-lts.Need-inline-requires (content-of-claims t) (content-of-at t) content-of.Post
 content-of-inline-requires t c κs =
-    let pre = c.before.before.before.before.requires in
+    let pre = c.before.before.before.requires in
     (omega (arith, pre.0), pre.1)
 
 content-of-returns : (t : ℕ) → content-of-lts.Need-returns (content-of-claims t) (content-of-at t) content-of.Post
-content-of-returns t c = to_start c.before.before.list.ensures
+content-of-returns t c = to_start c.list.ensures
 
 content-of-returns-2 : (t : ℕ) → content-of-lts.Need-returns-2 (content-of-claims t) (content-of-at t) content-of.Post
-content-of-returns-2 t c = to_start c.before.before.inline.ensures
+content-of-returns-2 t c = to_start c.inline.ensures
 
 abbrev inline-claims : ℕ → inline-lts.Claims
 inline-claims t = (
@@ -129,21 +129,20 @@ inline-claims t = (
 )
 
 abbrev inline-Inv-loop : inline-lts.invariant-loop
-inline-Inv-loop text at from kind nodes pool node tape₀ levels i₀ state₀ n₀ p₀ tape i state n p =
-    Walking text levels at kind node from nodes pool tape₀ i state n p tape × (length tape ≡ length tape₀)
+inline-Inv-loop text at from kind nodes pool node tape₀ i₀ state₀ n₀ p₀ tape i state n p = Walking text at kind node from nodes pool tape₀ i state n p tape
 
 abbrev inline-μ-loop : inline-lts.decreases-loop
-inline-μ-loop text at from kind nodes pool node tape₀ levels i₀ state₀ n₀ p₀ tape i state n p = length text - i
+inline-μ-loop text at from kind nodes pool node tape₀ i₀ state₀ n₀ p₀ tape i state n p = length text - i
 
 inline-loop-holds : (t : ℕ) → inline-lts.Need-loop-init (inline-claims t) (inline-at t) inline.Post inline-Inv-loop inline-μ-loop
 inline-loop-holds t c =
-    let pre = c.before.before.requires in
-    (begun pre.1.0 pre.1.1 pre.1.2, refl)
+    let pre = c.before.requires in
+    begun pre.1.0 pre.1.1 pre.1.2
 
 inline-next-turn-requires : (t : ℕ) → inline-lts.Need-next-turn-requires (inline-claims t) (inline-at t) inline.Post inline-Inv-loop inline-μ-loop
 inline-next-turn-requires t c κs =
-    let pre = c.before.before.before.before.requires in
-    let inv = c.before.loop.invariant.0 in (
+    let pre = c.before.before.before.requires in
+    let inv = c.before.loop.invariant in (
       inv.within,
       inv.nodes_within,
       inv.pool_within,
@@ -152,134 +151,106 @@ inline-next-turn-requires t c κs =
     )
 
 inline-returns : (t : ℕ) → inline-lts.Need-returns (inline-claims t) (inline-at t) inline.Post inline-Inv-loop inline-μ-loop
-inline-returns t c = answered c.before.before.before.before.before.before.before.loop.invariant.0
-    (rw c.before.t.given.1 at c.before.before.before.before.before.next-turn.ensures)
+inline-returns t c = answered c.before.before.before.before.before.loop.invariant
+    (rw c.before.t.given.1 at c.before.before.before.next-turn.ensures)
 
 inline-loop-less : (t : ℕ) → inline-lts.Need-loop-smaller (inline-claims t) (inline-at t) inline.Post inline-Inv-loop inline-μ-loop
 inline-loop-less t c =
-    let turn = rw c.before.t2.given.1 at c.before.before.before.before.before.next-turn.ensures in
+    let turn = rw c.before.t2.given.1 at c.before.before.before.next-turn.ensures in
     omega (arith, turn.0)
 
 inline-loop-again : (t : ℕ) → inline-lts.Need-loop-preserved (inline-claims t) (inline-at t) inline.Post inline-Inv-loop inline-μ-loop
 inline-loop-again t c =
-    let turn = rw c.before.t2.given.1 at c.before.before.before.before.before.next-turn.ensures in
-    let inv = c.before.before.before.before.before.before.before.loop.invariant in
-    (passed inv.0 turn, c.before.before.before.before.before.next-turn.auto.1.1.1.1.1.1.1.1.0 ∙ inv.1)
+    let turn = rw c.before.t2.given.1 at c.before.before.before.next-turn.ensures in
+    passed c.before.before.before.before.before.loop.invariant turn
 
 inline-enter-requires : (t : ℕ) → inline-lts.Need-enter-requires (inline-claims t) (inline-at t) inline.Post inline-Inv-loop inline-μ-loop
-inline-enter-requires t c κs = omega (
-  arith,
-  c.before.before.before.before.before.before.before.before.before.before.loop.invariant.0,
-  c.before.before.before.before.before.before.before.before.before.before.before.before.before.requires.1,
-)
+inline-enter-requires t c κs =
+    let turn = rw c.before.before.before.before.t3.given.1 at c.before.before.before.before.before.before.next-turn.ensures in
+    let pre = c.before.before.before.before.before.before.before.before.before.before.requires in
+    (omega (arith, turn.0, pre.1), pre.1.4, omega arith)
 
 inline-add-list : (t : ℕ) → inline-lts.Need-overflow-add-list (inline-claims t) (inline-at t) inline.Post inline-Inv-loop inline-μ-loop
 inline-add-list t c =
-    let turn = rw c.before.before.before.before.before.before.before.t3.given.1 at
-    c.before.before.before.before.before.before.before.before.before.before.before.next-turn.ensures in
+    let turn = rw c.before.before.before.before.before.t3.given.1 at
+    c.before.before.before.before.before.before.before.next-turn.ensures in
     omega (
       arith,
       turn.0,
-      c.before.before.before.before.before.before.before.before.before.before.before.before.before.loop.invariant.0,
-      c.before.before.before.before.before.before.before.before.before.before.before.before.before.before.before.before.well-formed,
+      c.before.before.before.before.before.before.before.before.before.loop.invariant,
+      c.before.before.before.before.before.before.before.before.before.before.before.well-formed,
     )
 
 inline-list-requires : (t : ℕ) → inline-lts.Need-list-requires (inline-claims t) (inline-at t) inline.Post inline-Inv-loop inline-μ-loop
 inline-list-requires t c κs =
-    let turn = rw c.before.before.before.before.before.before.before.before.t3.given.1 at
-    c.before.before.before.before.before.before.before.before.before.before.before.before.next-turn.ensures in
-    let loop = c.before.before.before.before.before.before.before.before.before.before.before.before.before.before.loop.invariant.0 in
-    let pre = c.before.before.before.before.before.before.before.before.before.before.before.before.before.before.before.before.before.requires in (
+    let turn = rw c.before.before.before.before.before.before.t3.given.1 at
+    c.before.before.before.before.before.before.before.before.next-turn.ensures in
+    let loop = c.before.before.before.before.before.before.before.before.before.before.loop.invariant in
+    let pre = c.before.before.before.before.before.before.before.before.before.before.before.before.requires in (
       omega (arith, turn.0, pre.0),
       (
         (turn.0.1, omega (arith, turn.0, loop), omega (arith, turn.0, loop), pre.1.3, omega (arith, turn.0, loop, pre.1)),
-        is_list _ c.before.before.before.before.before.before.if1.false c.before.before.before.before.before.if2.true,
+        is_list _ c.before.before.before.before.if1.false c.before.before.before.if2.true,
       ),
     )
 
 inline-leave-requires : (t : ℕ) → inline-lts.Need-leave-requires (inline-claims t) (inline-at t) inline.Post inline-Inv-loop inline-μ-loop
-inline-leave-requires t c κs = omega (
+inline-leave-requires t c κs = λ y. omega (
   arith,
-  c.before.before.before.before.before.before.before.before.before.before.before.before.before.before.before.before.before.before.loop.invariant.0,
-  c.before.before.before.before.before.before.before.before.before.before.before.before.before.before.before.before.before.before.before.before.before.requires.1,
+  c.before.list.ensures.0.bounds y,
+  c.before.before.before.before.before.before.before.before.before.before.before.before.before.before.requires.1,
 )
 
 inline-inside-requires : (t : ℕ) → inline-lts.Need-inside-requires (inline-claims t) (inline-at t) inline.Post inline-Inv-loop inline-μ-loop
 inline-inside-requires t c κs =
-    let turn = rw c.before.before.before.t3.given.1 at c.before.before.before.before.before.before.before.next-turn.ensures in
-    let loop = c.before.before.before.before.before.before.before.before.before.loop.invariant.0 in
-    let pre = c.before.before.before.before.before.before.before.before.before.before.before.before.requires in
+    let turn = rw c.before.before.before.t3.given.1 at c.before.before.before.before.before.next-turn.ensures in
+    let loop = c.before.before.before.before.before.before.before.loop.invariant in
+    let pre = c.before.before.before.before.before.before.before.before.before.requires in
     (omega (arith, turn.0, pre.0), (turn.0.1, omega (arith, turn.0, loop), omega (arith, turn.0, loop), pre.1.3, pre.1.4, turn.0.2))
 
 -- What the walk over inline content learns of a list in it, by either way.
 inline-child : (t : ℕ) (c : inline-lts.Joined1-2 (inline-claims t) (inline-at t) inline.Post inline-Inv-loop inline-μ-loop)
-    → let a = c.before.before.before.before.before.before.before.before.before.before.before.args in
-    let l = c.before.before.before.before.before.before.before.before.loop in
+    → let a = c.before.before.before.before.before.before.before.before.args in
+    let l = c.before.before.before.before.before.before.loop in
     let f = c.before.before.t3.given.0 in
     Bounded a.text.now f.1.1.0 c.if1.child
-    × JudgesList a.text.now (a.levels - 1) f.0 f.1.1.0 a.kind f.1.0 l.n l.p a.node
-    c.before.before.before.before.before.before.next-turn.new.1.1.1.1.1.1.1.1.0 c.if1.tape c.if1.child
+    × JudgesList a.text.now f.0 f.1.1.0 a.kind f.1.0 l.n l.p a.node
+    c.before.before.before.before.next-turn.new.1.1.1.1.1.1.1.1.0 c.if1.tape c.if1.child
 inline-child t c =
-    let turn = rw c.before.before.t3.given.1 at c.before.before.before.before.before.before.next-turn.ensures in
+    let turn = rw c.before.before.t3.given.1 at c.before.before.before.before.next-turn.ensures in
     ⊎_elim
-    (λ w. rw (w.14, w.15)
-    (list_judges (is_list _ w.0.left w.1.taken) (omega (arith, turn.0)) w.7.ensures w.3.ensures w.11.ensures))
-    (λ w. rw (w.5, w.6) w.2.ensures)
+    (λ w. rw (w.8, w.9)
+    (list_judges (is_list _ w.0.left w.1.taken) (omega (arith, turn.0)) w.5.ensures w.3.ensures w.7.ensures))
+    (λ w. rw (w.3, w.4) w.2.ensures)
     c.if1.branch
-
--- The tape is as long as before.
-inline-same : (t : ℕ) (c : inline-lts.Joined1-2 (inline-claims t) (inline-at t) inline.Post inline-Inv-loop inline-μ-loop)
-    → length c.if1.tape ≡ length c.before.before.before.before.before.before.before.before.before.before.before.args.tape.now
-inline-same t c =
-    ⊎_elim (λ w. ap length w.14 ∙ w.11.kept.0 ∙ w.7.kept.1.1.1.1.1.1.1.0 ∙ w.3.kept.0)
-    (λ w. ap length w.5 ∙ w.2.kept.1.1.1.1.1.1.1.1.0) c.if1.branch
-    ∙ c.before.before.before.before.before.before.next-turn.auto.1.1.1.1.1.1.1.1.0
-    ∙ c.before.before.before.before.before.before.before.before.loop.invariant.1
 
 inline-past-bracket-requires : (t : ℕ)
     → inline-lts.Need-past-bracket-requires (inline-claims t) (inline-at t) inline.Post inline-Inv-loop inline-μ-loop
-inline-past-bracket-requires t c κs =
-    let turn = rw c.before.before.t3.given.1 at c.before.before.before.before.before.before.next-turn.ensures in
-    turn.0.2
-
-inline-sub-list : (t : ℕ) → inline-lts.Need-overflow-sub-list (inline-claims t) (inline-at t) inline.Post inline-Inv-loop inline-μ-loop
-inline-sub-list t c =
-    let c₁ = c.before.before.before.before.before.before.before.before in
-    let t3 = c₁.t3 in
-    let next-turn = c₁.before.before.before.before.next-turn in
-    let turn = rw t3.given.1 at next-turn.ensures in
-    omega (arith, turn.1.0.level)
-
-inline-sub-inside : (t : ℕ) → inline-lts.Need-overflow-sub-inside (inline-claims t) (inline-at t) inline.Post inline-Inv-loop inline-μ-loop
-inline-sub-inside t c =
-    let turn = rw c.before.before.before.t3.given.1 at c.before.before.before.before.before.before.before.next-turn.ensures in
-    omega (arith, turn.1.0.level)
+inline-past-bracket-requires t c κs = search rules
 
 inline-returns-2 : (t : ℕ) → inline-lts.Need-returns-2 (inline-claims t) (inline-at t) inline.Post inline-Inv-loop inline-μ-loop
 inline-returns-2 t c =
     let turn = rw c.before.before.before.before.before.t3.given.1 at
-    c.before.before.before.before.before.before.before.before.before.next-turn.ensures in
-    list_answered c.before.before.before.before.before.before.before.before.before.before.before.loop.invariant.0 turn
+    c.before.before.before.before.before.before.before.next-turn.ensures in
+    list_answered c.before.before.before.before.before.before.before.before.before.loop.invariant turn
     (inline-child t c.before.before.before) c.before.before.past-bracket.ensures c.if3.true
 
 inline-loop-less-2 : (t : ℕ) → inline-lts.Need-loop-smaller-2 (inline-claims t) (inline-at t) inline.Post inline-Inv-loop inline-μ-loop
 inline-loop-less-2 t c =
     let turn = rw c.before.before.before.before.before.t3.given.1 at
-    c.before.before.before.before.before.before.before.before.before.next-turn.ensures in
+    c.before.before.before.before.before.before.before.next-turn.ensures in
     omega (
       arith,
-      list_forward c.before.before.before.before.before.before.before.before.before.before.before.loop.invariant.0 turn
+      list_forward c.before.before.before.before.before.before.before.before.before.loop.invariant turn
           (inline-child t c.before.before.before) c.before.before.past-bracket.ensures c.if3.false,
     )
 
 inline-loop-again-2 : (t : ℕ) → inline-lts.Need-loop-preserved-2 (inline-claims t) (inline-at t) inline.Post inline-Inv-loop inline-μ-loop
 inline-loop-again-2 t c =
     let turn = rw c.before.before.before.before.before.t3.given.1 at
-    c.before.before.before.before.before.before.before.before.before.next-turn.ensures in (
-      list_gone_on c.before.before.before.before.before.before.before.before.before.before.before.loop.invariant.0 turn
-          (inline-child t c.before.before.before) c.before.before.past-bracket.ensures c.if3.false,
-      inline-same t c.before.before.before,
-    )
+    c.before.before.before.before.before.before.before.next-turn.ensures in
+    list_gone_on c.before.before.before.before.before.before.before.before.before.loop.invariant turn
+    (inline-child t c.before.before.before) c.before.before.past-bracket.ensures c.if3.false
 
 abbrev inside-claims : ℕ → inside-lts.Claims
 inside-claims t = (
@@ -297,7 +268,7 @@ inside-claims t = (
 
 inside-value-requires : (t : ℕ) → inside-lts.Need-value-requires (inside-claims t) (inside-at t) inside.Post
 inside-value-requires t c κs =
-    let pre = c.before.before.before.before.before.requires in (
+    let pre = c.before.before.before.before.requires in (
       pre.1.0,
       omega (arith, pre.1),
       pre.1.2,
@@ -306,18 +277,20 @@ inside-value-requires t c κs =
     )
 
 inside-returns : (t : ℕ) → inside-lts.Need-returns (inside-claims t) (inside-at t) inside.Post
-inside-returns t c = value_judges (sym c.before.before.before.before.before.is-element.ensures ∙ not-true _ c.before.before.before.before.if1.true)
-    c.before.before.value.ensures
+inside-returns t c = value_judges (sym c.before.before.before.is-element.ensures ∙ not-true _ c.before.before.if1.true)
+    c.value.ensures
 
 inside-enter-requires : (t : ℕ) → inside-lts.Need-enter-requires (inside-claims t) (inside-at t) inside.Post
-inside-enter-requires t c κs = omega (arith, c.before.before.before.before.before.requires.1)
+inside-enter-requires t c κs =
+    let pre = c.before.before.before.before.requires in
+    (omega (arith, pre.1), pre.1.4, omega arith)
 
 inside-add-content-of : (t : ℕ) → inside-lts.Need-overflow-add-content-of (inside-claims t) (inside-at t) inside.Post
-inside-add-content-of t c = omega (arith, c.before.before.before.before.before.before.before.before.requires.1, c.before.before.before.before.before.before.before.before.well-formed)
+inside-add-content-of t c = omega (arith, c.before.before.before.before.before.requires.1, c.before.before.before.before.before.well-formed)
 
 inside-content-of-requires : (t : ℕ) → inside-lts.Need-content-of-requires (inside-claims t) (inside-at t) inside.Post
 inside-content-of-requires t c κs =
-    let pre = c.before.before.before.before.before.before.before.before.before.requires in (
+    let pre = c.before.before.before.before.before.before.requires in (
       omega (arith, pre.0),
       (
         pre.1.0,
@@ -329,27 +302,31 @@ inside-content-of-requires t c κs =
     )
 
 inside-leave-requires : (t : ℕ) → inside-lts.Need-leave-requires (inside-claims t) (inside-at t) inside.Post
-inside-leave-requires t c κs = omega (arith, c.before.before.before.before.before.before.before.before.before.before.before.before.before.requires.1)
+inside-leave-requires t c κs = λ y. omega (
+  arith,
+  c.before.content-of.ensures.0.bounds y,
+  c.before.before.before.before.before.before.before.before.requires.1,
+)
 
 inside-returns-2 : (t : ℕ) → inside-lts.Need-returns-2 (inside-claims t) (inside-at t) inside.Post
 inside-returns-2 t c =
-    element_judges (sym c.before.before.before.before.before.before.before.before.before.before.before.before.before.is-element.ensures ∙ not-false _
-    c.before.before.before.before.before.before.before.before.before.before.before.before.if1.false)
-    (omega (arith, c.before.before.before.before.before.before.before.before.before.before.before.before.before.before.before.before.requires.1))
-    c.before.before.before.before.before.before.content-of.ensures c.before.before.before.before.before.before.before.before.before.before.enter.ensures
-    c.before.before.leave.ensures
+    element_judges (sym c.before.before.before.before.before.before.before.is-element.ensures ∙ not-false _
+    c.before.before.before.before.before.before.if1.false)
+    (omega (arith, c.before.before.before.before.before.before.before.before.before.requires.1))
+    c.before.before.content-of.ensures c.before.before.before.before.enter.ensures
+    c.leave.ensures
 
 item-inline-requires :
     (t : ℕ) → item-lts.Need-inline-requires (inline-below t, inline.Post) (item-at t) item.Post
 item-inline-requires t c κs =
-    let pre = c.before.before.before.requires in
+    let pre = c.before.before.requires in
     (omega (arith, pre.0), pre.1)
 
 abbrev item-claims : ℕ → item-lts.Claims
 item-claims t = (inline-below t, inline.Post)
 
 item-returns : (t : ℕ) → item-lts.Need-returns (item-claims t) (item-at t) item.Post
-item-returns t c = c.before.before.inline.ensures
+item-returns t c = c.inline.ensures
 
 abbrev list-claims : ℕ → list-lts.Claims
 list-claims t = (
@@ -374,16 +351,16 @@ list-claims t = (
 )
 
 abbrev list-Inv-loop : list-lts.invariant-loop
-list-Inv-loop text at from kind nodes pool node tape₀ levels i₀ state₀ n₀ p₀ tape i state n p =
-    Walking text levels at kind node from nodes pool tape₀ i state n p tape × Bare (state_of kind state) × (length tape ≡ length tape₀)
+list-Inv-loop text at from kind nodes pool node tape₀ i₀ state₀ n₀ p₀ tape i state n p =
+    Walking text at kind node from nodes pool tape₀ i state n p tape × Bare (state_of kind state)
 
 abbrev list-μ-loop : list-lts.decreases-loop
-list-μ-loop text at from kind nodes pool node tape₀ levels i₀ state₀ n₀ p₀ tape i state n p = length text - i
+list-μ-loop text at from kind nodes pool node tape₀ i₀ state₀ n₀ p₀ tape i state n p = length text - i
 
 list-loop-holds : (t : ℕ) → list-lts.Need-loop-init (list-claims t) (list_at t) list.Post list-Inv-loop list-μ-loop
 list-loop-holds t c =
-    let pre = c.before.before.requires in
-    (begun pre.1.0.0 pre.1.0.1 pre.1.0.2, bare_start c.before.before.args.kind pre.1.1, refl)
+    let pre = c.before.requires in
+    (begun pre.1.0.0 pre.1.0.1 pre.1.0.2, bare_start c.before.args.kind pre.1.1)
 
 list-returns : (t : ℕ) → list-lts.Need-returns (list-claims t) (list_at t) list.Post list-Inv-loop list-μ-loop
 list-returns t c =
@@ -408,178 +385,93 @@ list-returns-3 t c =
     inv.0.within c.before.before.before.before.before.if1.false c.before.if3.true))
 
 -- What a list takes is an item.
-list-item : (t : ℕ) (c : list-lts.Else3 (list-claims t) (list_at t) list.Post list-Inv-loop list-μ-loop)
-    → let a = c.before.before.before.before.before.before.before.before.before.before.args in
+list-taken : (t : ℕ) (c : list-lts.Else3 (list-claims t) (list_at t) list.Post list-Inv-loop list-μ-loop)
+    → let a = c.before.before.before.before.before.before.before.before.before.args in
+    let l = c.before.before.before.before.before.before.before.loop in
     let seen = c.before.before.before.before.before.before.look.result in
     let state = c.before.before.before.step.result.state in
-    (seen.class ≡ 18) × Bare (state_of a.kind state) × (seen.sort ≡ 3)
-list-item t c =
-    let a = c.before.before.before.before.before.before.before.before.before.before in
-    let l = c.before.before.before.before.before.before.before.loop in
-    let look = c.before.before.before.before.before.before.look in
-    let (item, bare) = item_taken _ _ _ _ a.requires.1.1 l.invariant.1 (step_goes _ _ _ _ c.before.if2.false c.before.before.before.step.ensures.stands) in
-    (item, bare, item_list a.args.text.now l.i look.ensures item)
-
-list-taken : (t : ℕ) (c : list-lts.Else4 (list-claims t) (list_at t) list.Post list-Inv-loop list-μ-loop)
-    → let a = c.before.before.before.before.before.before.before.before.before.before.before.args in
-    let l = c.before.before.before.before.before.before.before.before.loop in
-    let seen = c.before.before.before.before.before.before.before.look.result in
-    let state = c.before.before.before.before.step.result.state in
-    ((l.i < seen.next) × (seen.next ≤ length a.text.now) × (seen.place < length a.text.now))
-    × TakesList a.text.now a.levels a.kind l.i l.state seen.place seen.class seen.next state
+    ((l.i < seen.next) × (seen.next ≤ length a.text.now) × (seen.place ≤ length a.text.now))
+    × TakesList a.text.now a.kind l.i l.state seen.place seen.class seen.next state
     × (seen.class ≡ 18)
     × Bare (state_of a.kind state)
 list-taken t c =
-    let l = c.before.before.before.before.before.before.before.before.loop in
-    let look = c.before.before.before.before.before.before.before.look in
-    let some = c.before.before.before.before.before.if1.false in
-    let step = c.before.before.before.before.step in
-    let (item, bare, is_list) = list-item t c.before in
-    let (within, opens) = turn_list look.ensures l.invariant.0.within _ _ step.ensures.stands some c.before.before.if2.false
-    c.before.if3.false is_list c.if4.false in
+    let l = c.before.before.before.before.before.before.before.loop in
+    let look = c.before.before.before.before.before.before.look in
+    let some = c.before.before.before.before.if1.false in
+    let step = c.before.before.before.step in
+    let fine = c.before.if2.false in
+    let (item, bare) = item_taken _ _ _ _ c.before.before.before.before.before.before.before.before.before.requires.1.1 l.invariant.1 (step_goes _ _ _ _ fine step.ensures.stands) in
+    let (within, opens) = turn_item look.ensures l.invariant.0.within _ _ step.ensures.stands some fine c.if3.false item in
     (within, opens, item, bare)
 
-list-returns-4 : (t : ℕ) → list-lts.Need-returns-4 (list-claims t) (list_at t) list.Post list-Inv-loop list-μ-loop
-list-returns-4 t c =
-    let c₁ = c.before.before.before.before.before.before.before.before in
-    let if2 = c.before.before.before.if2 in
-    let step = c.before.before.before.before.before.step in
-    let if1 = c.before.before.before.before.before.before.if1 in
-    let look = c₁.look in
-    let loop = c₁.before.loop in
-    let inv = loop.invariant in
-    let (item, bare, is_list) = list-item t c.before.before in
-    answered inv.0
-    (rw c.refusal2.ensures (turn_deep look.ensures inv.0.within _ _ step.ensures.stands if1.false if2.false is_list c.before.if4.true))
-
 list-enter-requires : (t : ℕ) → list-lts.Need-enter-requires (list-claims t) (list_at t) list.Post list-Inv-loop list-μ-loop
-list-enter-requires t c κs = omega (
-  arith,
-  c.before.before.before.before.before.before.before.before.before.loop.invariant.0,
-  c.before.before.before.before.before.before.before.before.before.before.before.before.requires.1.0,
-)
+list-enter-requires t c κs =
+    let pre = c.before.before.before.before.before.before.before.before.before.before.requires in
+    let turn = list-taken t c.before in (
+      omega (arith, turn.0, pre.1.0),
+      pre.1.0.4,
+      omega arith,
+    )
 
 list-add-item : (t : ℕ) → list-lts.Need-overflow-add-item (list-claims t) (list_at t) list.Post list-Inv-loop list-μ-loop
 list-add-item t c =
-    let turn = list-taken t c.before.before.before.before in
+    let turn = list-taken t c.before.before in
     omega (
       arith,
       turn.0,
-      c.before.before.before.before.before.before.before.before.before.before.before.before.loop.invariant.0,
-      c.before.before.before.before.before.before.before.before.before.before.before.before.before.before.before.well-formed,
+      c.before.before.before.before.before.before.before.before.before.loop.invariant.0,
+      c.before.before.before.before.before.before.before.before.before.before.before.well-formed,
     )
 
 list-item-requires : (t : ℕ) → list-lts.Need-item-requires (list-claims t) (list_at t) list.Post list-Inv-loop list-μ-loop
 list-item-requires t c κs =
-    let turn = list-taken t c.before.before.before.before.before in
-    let loop = c.before.before.before.before.before.before.before.before.before.before.before.before.before.loop.invariant.0 in
-    let pre = c.before.before.before.before.before.before.before.before.before.before.before.before.before.before.before.before.requires in (
+    let turn = list-taken t c.before.before.before in
+    let loop = c.before.before.before.before.before.before.before.before.before.before.loop.invariant.0 in
+    let pre = c.before.before.before.before.before.before.before.before.before.before.before.before.requires in (
       omega (arith, turn.0, pre.0),
       (turn.0.1, omega (arith, turn.0, loop), omega (arith, turn.0, loop), pre.1.0.3, omega (arith, turn.0, loop, pre.1.0)),
     )
 
 list-leave-requires : (t : ℕ) → list-lts.Need-leave-requires (list-claims t) (list_at t) list.Post list-Inv-loop list-μ-loop
-list-leave-requires t c κs = omega (
+list-leave-requires t c κs = λ y. omega (
   arith,
-  c.before.before.before.before.before.before.before.before.before.before.before.before.before.before.before.before.before.loop.invariant.0,
-  c.before.before.before.before.before.before.before.before.before.before.before.before.before.before.before.before.before.before.before.before.requires.1.0,
+  c.before.item.ensures.0.bounds y,
+  c.before.before.before.before.before.before.before.before.before.before.before.before.before.before.requires.1.0,
 )
 
 -- It is judged as the list that it is.
 list-child : (t : ℕ) (c : list-lts.After-leave (list-claims t) (list_at t) list.Post list-Inv-loop list-μ-loop)
-    → let a = c.before.before.before.before.before.before.before.before.before.before.before.before.before.before.before.before.before.before.before.before.before.args in
-    let l = c.before.before.before.before.before.before.before.before.before.before.before.before.before.before.before.before.before.before.loop in
-    let seen = c.before.before.before.before.before.before.before.before.before.before.before.before.before.before.before.before.before.look.result in
-    Bounded a.text.now seen.next c.before.before.before.before.item.result
-    × JudgesList a.text.now (a.levels - 1) seen.place seen.next a.kind seen.class l.n l.p a.node l.tape c.leave.new.0
-    c.before.before.before.before.item.result
+    → let a = c.before.before.before.before.before.before.before.before.before.before.before.before.before.before.before.args in
+    let l = c.before.before.before.before.before.before.before.before.before.before.before.before.before.loop in
+    let seen = c.before.before.before.before.before.before.before.before.before.before.before.before.look.result in
+    Bounded a.text.now seen.next c.before.before.item.result
+    × JudgesList a.text.now seen.place seen.next a.kind seen.class l.n l.p a.node l.tape c.leave.new.0 c.before.before.item.result
 list-child t c =
-    let c₁ = c.before.before.before.before.before.before.before.before in
-    let item = c.before.before.before.before.item in
-    let enter = c₁.enter in
-    let turn = list-taken t c₁.before.before in
-    item_judges turn.2 (omega (arith, turn.0)) item.ensures
-    enter.ensures c.leave.ensures
+    let turn = list-taken t c.before.before.before.before.before.before in
+    item_judges turn.2 (omega (arith, turn.0)) c.before.before.item.ensures c.before.before.before.before.enter.ensures c.leave.ensures
 
-list-past-bracket-requires : (t : ℕ) → list-lts.Need-past-bracket-requires (list-claims t) (list_at t) list.Post list-Inv-loop list-μ-loop
-list-past-bracket-requires t c κs = (list-taken t c.before.before.before.before.before.before.before.before.before.before.before.before).0.2
-
-list-sub-item : (t : ℕ) → list-lts.Need-overflow-sub-item (list-claims t) (list_at t) list.Post list-Inv-loop list-μ-loop
-list-sub-item t c = omega (arith, c.before.before.before.before.before.if4.false)
-
-list-returns-5 : (t : ℕ) → list-lts.Need-returns-5 (list-claims t) (list_at t) list.Post list-Inv-loop list-μ-loop
-list-returns-5 t c =
-    let c₁ = c.before.before.before.before.before.before.before.before in
-    let c₂ = c₁.before.before.before.before.before.before.before.before in
-    let past-bracket = c.before.before.past-bracket in
-    let loop = c₂.before.before.before.before.before.before.before.loop in
-    let c₁ = c.before.before.before.before.before.before.before.before.before.before.before.before.before.before.before in
-    let turn = list-taken t c₁ in
-    list_answered loop.invariant.0
-    (turn.0, (turn.1, refl)) (list-child t c.before.before.before.before.before) past-bracket.ensures c.if5.true
+list-returns-4 : (t : ℕ) → list-lts.Need-returns-4 (list-claims t) (list_at t) list.Post list-Inv-loop list-μ-loop
+list-returns-4 t c =
+    let turn = list-taken t c.before.before.before.before.before.before.before.before.before in
+    list_answered c.before.before.before.before.before.before.before.before.before.before.before.before.before.before.before.before.loop.invariant.0
+    (turn.0, (turn.1, refl)) (list-child t c.before.before.before) c.before.before.past-bracket.ensures c.if4.true
 
 list-loop-less : (t : ℕ) → list-lts.Need-loop-smaller (list-claims t) (list_at t) list.Post list-Inv-loop list-μ-loop
 list-loop-less t c =
-    let c₁ = c.before.before.before.before.before.before.before.before in
-    let c₂ = c₁.before.before.before.before.before.before.before.before in
-    let past-bracket = c.before.before.past-bracket in
-    let loop = c₂.before.before.before.before.before.before.before.loop in
-    let c₁ = c.before.before.before.before.before.before.before.before.before.before.before.before.before.before.before in
-    let turn = list-taken t c₁ in
+    let turn = list-taken t c.before.before.before.before.before.before.before.before.before in
     omega (
       arith,
-      list_forward loop.invariant.0
-          (turn.0, (turn.1, refl)) (list-child t c.before.before.before.before.before) past-bracket.ensures c.if5.false,
+      list_forward c.before.before.before.before.before.before.before.before.before.before.before.before.before.before.before.before.loop.invariant.0
+          (turn.0, (turn.1, refl)) (list-child t c.before.before.before) c.before.before.past-bracket.ensures c.if4.false,
     )
 
 list-loop-again : (t : ℕ) → list-lts.Need-loop-preserved (list-claims t) (list_at t) list.Post list-Inv-loop list-μ-loop
 list-loop-again t c =
-    let c₁ = c.before.before.before.before.before.before.before.before in
-    let c₂ = c₁.before.before.before.before.before.before.before.before in
-    let past-bracket = c.before.before.past-bracket in
-    let leave = c.before.before.before.before.before.leave in
-    let item = c₁.before.item in
-    let enter = c₁.before.before.before.before.before.enter in
-    let loop = c₂.before.before.before.before.before.before.before.loop in
-    let c₁ = c.before.before.before.before.before.before.before.before.before.before.before.before.before.before.before in
-    let turn = list-taken t c₁ in (
-      list_gone_on loop.invariant.0
-          (turn.0, (turn.1, refl)) (list-child t c.before.before.before.before.before) past-bracket.ensures c.if5.false,
+    let turn = list-taken t c.before.before.before.before.before.before.before.before.before in (
+      list_gone_on c.before.before.before.before.before.before.before.before.before.before.before.before.before.before.before.before.loop.invariant.0
+          (turn.0, (turn.1, refl)) (list-child t c.before.before.before) c.before.before.past-bracket.ensures c.if4.false,
       turn.3,
-      leave.auto.0
-          ∙ item.auto.1.1.1.1.1.1.0
-          ∙ enter.auto.0
-          ∙ loop.invariant.2,
     )
-
--- The tape is as long as before.
-list_same : (t : ℕ) → list-lts.Need-same-length-5 (list-claims t) (list_at t) list.Post list-Inv-loop list-μ-loop
-list_same t c =
-    let c₁ = c.before.before.before.before.before.before.before.before in
-    let c₂ = c₁.before.before.before.before.before.before.before.before in
-    let leave = c.before.before.before.before.before.leave in
-    let item = c₁.before.item in
-    let enter = c₁.before.before.before.before.before.enter in
-    let loop = c₂.before.before.before.before.before.before.before.loop in
-    let c₁ = c.before.before.before.before.before.before.before.before.before.before.before.before.before.before.before in
-    leave.auto.0 ∙ item.auto.1.1.1.1.1.1.0
-    ∙ enter.auto.0
-    ∙ loop.invariant.2
-
-inline-same-length : (t : ℕ) → inline-lts.Need-same-length (inline-claims t) (inline-at t) inline.Post inline-Inv-loop inline-μ-loop
-inline-same-length t c = c.before.before.before.before.before.next-turn.auto.1.1.1.1.1.1.1.1.0 ∙ c.before.before.before.before.before.before.before.loop.invariant.1
-
-list-same-length : (t : ℕ) → list-lts.Need-same-length (list-claims t) (list_at t) list.Post list-Inv-loop list-μ-loop
-list-same-length t c = c.before.before.before.before.loop.invariant.2
-
-list-same-length-2 : (t : ℕ) → list-lts.Need-same-length-2 (list-claims t) (list_at t) list.Post list-Inv-loop list-μ-loop
-list-same-length-2 t c = c.before.before.before.before.before.before.before.loop.invariant.2
-
-list-same-length-3 : (t : ℕ) → list-lts.Need-same-length-3 (list-claims t) (list_at t) list.Post list-Inv-loop list-μ-loop
-list-same-length-3 t c = c.before.before.before.before.before.before.before.before.loop.invariant.2
-
-list-same-length-4 : (t : ℕ) → list-lts.Need-same-length-4 (list-claims t) (list_at t) list.Post list-Inv-loop list-μ-loop
-list-same-length-4 t c = c.before.before.before.before.before.before.before.before.before.loop.invariant.2
 
 pub +content-of-inline-inside-item-list-spec : {M : Type 1} → statement M
 +content-of-inline-inside-item-list-spec =
@@ -587,9 +479,7 @@ pub +content-of-inline-inside-item-list-spec : {M : Type 1} → statement M
     content-of.Post
     (content-of-list-requires t)
     (content-of-inline-requires t)
-    (λ c. search rules)
     (content-of-returns t)
-    (λ c. search rules)
     (content-of-returns-2 t))
     (λ t. inline-lts.spec (inline-claims t) (inline-at t)
     inline.Post
@@ -598,7 +488,6 @@ pub +content-of-inline-inside-item-list-spec : {M : Type 1} → statement M
     (inline-loop-holds t)
     (inline-next-turn-requires t)
     (λ c. search rules)
-    (inline-same-length t)
     (inline-returns t)
     (λ c. search rules)
     (inline-loop-less t)
@@ -606,13 +495,10 @@ pub +content-of-inline-inside-item-list-spec : {M : Type 1} → statement M
     (λ c. search rules)
     (inline-enter-requires t)
     (inline-add-list t)
-    (inline-sub-list t)
     (inline-list-requires t)
     (inline-leave-requires t)
-    (inline-sub-inside t)
     (inline-inside-requires t)
     (inline-past-bracket-requires t)
-    (λ c. inline-same t c.before.before.before)
     (inline-returns-2 t)
     (inline-loop-less-2 t)
     (inline-loop-again-2 t))
@@ -620,18 +506,15 @@ pub +content-of-inline-inside-item-list-spec : {M : Type 1} → statement M
     inside.Post
     (λ c κs. search rules)
     (inside-value-requires t)
-    (λ c. search rules)
     (inside-returns t)
     (inside-enter-requires t)
     (inside-add-content-of t)
     (inside-content-of-requires t)
     (inside-leave-requires t)
-    (λ c. search rules)
     (inside-returns-2 t))
     (λ t. item-lts.spec (item-claims t) (item-at t)
     item.Post
     (item-inline-requires t)
-    (λ c. search rules)
     (item-returns t))
     λ t. list-lts.spec (list-claims t) (list_at t)
     list.Post
@@ -640,25 +523,17 @@ pub +content-of-inline-inside-item-list-spec : {M : Type 1} → statement M
     (list-loop-holds t)
     (λ c κs. search rules)
     (λ c κs. search rules)
-    (list-same-length t)
     (list-returns t)
     (λ c κs. search rules)
     (λ c κs. search rules)
-    (list-same-length-2 t)
     (list-returns-2 t)
     (λ c κs. search rules)
-    (list-same-length-3 t)
     (list-returns-3 t)
-    (λ c κs. search rules)
-    (list-same-length-4 t)
-    (list-returns-4 t)
     (list-enter-requires t)
     (list-add-item t)
-    (list-sub-item t)
     (list-item-requires t)
     (list-leave-requires t)
-    (list-past-bracket-requires t)
-    (list_same t)
-    (list-returns-5 t)
+    (λ c κs. search rules)
+    (list-returns-4 t)
     (list-loop-less t)
     (list-loop-again t)

@@ -1,7 +1,7 @@
 -- `validate::check_table` meets its contract.
 use borrow.Author.Rules.{rules}
 use Rattle.validate.proofs.lemmas.faults.FirstFault.{answer_15, answer_16, answer_17, answer_18, answer_sound}
-use Rattle.validate.proofs.lemmas.index.SearchTree.{none_entered}
+use Rattle.validate.proofs.lemmas.index.SlotChains.{none_entered}
 use Rattle.validate.proofs.faults.check_table.Statement.{statement}
 use Rattle.validate.proofs.faults.check_table.Tie as tie
 
@@ -14,14 +14,14 @@ returns c =
 
 first-repeated-requires : tie.Need-first-repeated-requires
 first-repeated-requires c κs =
-    let pre = c.before.before.before.before.before.before.requires in
-    let args = c.before.before.before.before.before.before.args in
+    let pre = c.before.before.before.before.before.before.before.requires in
+    let args = c.before.before.before.before.before.before.before.args in
     (pre.0, pre.1, none_entered args.nodes.now args.pool.now)
 
 returns-2 : tie.Need-returns-2
 returns-2 c =
-    let first_bad_row = c.before.before.before.before.before.before.before.first_bad_row in
-    let enum_told = c.before.before.before.before.before.enum_told in
+    let first_bad_row = c.before.before.before.before.before.before.before.before.first_bad_row in
+    let enum_told = c.before.before.before.before.before.before.enum_told in
     let first-repeated = c.before.before.before.first-repeated in
     let id = c.before.id in
     λ d h.
@@ -30,17 +30,17 @@ returns-2 c =
 
 first-unknown-requires : tie.Need-first-unknown-requires
 first-unknown-requires c κs =
-    let pre = c.before.before.before.before.before.before.before.before.before.before.requires in
-    let first-repeated = c.before.before.before.first-repeated in
-    let enum-told2 = c.before.enum-told2 in
+    let pre = c.before.before.before.before.before.before.before.before.before.before.before.before.requires in
+    let first-repeated = c.before.before.before.before.first-repeated in
+    let enum-told2 = c.before.before.enum-told2 in
     (pre.1, first-repeated.ensures.1 enum-told2.given.1)
 
 returns-3 : tie.Need-returns-3
 returns-3 c =
-    let first_bad_row = c.before.before.before.before.before.before.before.before.before.before.before.first_bad_row in
-    let enum_told = c.before.before.before.before.before.before.before.before.before.enum_told in
-    let first-repeated = c.before.before.before.before.before.before.before.first-repeated in
-    let enum-told2 = c.before.before.before.before.before.enum-told2 in
+    let first_bad_row = c.before.before.before.before.before.before.before.before.before.before.before.before.before.first_bad_row in
+    let enum_told = c.before.before.before.before.before.before.before.before.before.before.before.enum_told in
+    let first-repeated = c.before.before.before.before.before.before.before.before.first-repeated in
+    let enum-told2 = c.before.before.before.before.before.before.enum-told2 in
     let first-unknown = c.before.before.before.first-unknown in
     let link = c.before.link in
     λ d h.
@@ -50,21 +50,21 @@ returns-3 c =
 
 first-unknown-requires-2 : tie.Need-first-unknown-requires-2
 first-unknown-requires-2 c κs =
-    let pre = c.before.before.before.before.before.before.before.before.before.before.before.before.before.before.requires in
-    let first-repeated = c.before.before.before.before.before.before.before.first-repeated in
-    let enum-told2 = c.before.before.before.before.before.enum-told2 in
+    let pre = c.before.before.before.before.before.before.before.before.before.before.before.before.before.before.before.before.before.requires in
+    let first-repeated = c.before.before.before.before.before.before.before.before.before.first-repeated in
+    let enum-told2 = c.before.before.before.before.before.before.before.enum-told2 in
     (pre.1, first-repeated.ensures.1 enum-told2.given.1)
 
 returns-4 : tie.Need-returns-4
 returns-4 c =
-    let before = c.before.before.before.before.before.before.before.before.before.before.before in
-    let enum-told2 = c.before.before.before.before.before.before.before.before.before.enum-told2 in
-    let first-unknown = c.before.before.before.before.before.before.before.first-unknown in
-    let enum-told3 = c.before.before.before.before.before.enum-told3 in
+    let before = c.before.before.before.before.before.before.before.before.before.before.before.before.before in
+    let enum-told2 = c.before.before.before.before.before.before.before.before.before.before.before.enum-told2 in
+    let first-unknown = c.before.before.before.before.before.before.before.before.first-unknown in
+    let enum-told3 = c.before.before.before.before.before.before.enum-told3 in
     let first-unknown2 = c.before.before.before.first-unknown2 in
     let repeated = before in
-    let first_bad_row = repeated.before.before.before.before.first_bad_row in
-    let enum_told = repeated.before.before.enum_told in
+    let first_bad_row = repeated.before.before.before.before.before.first_bad_row in
+    let enum_told = repeated.before.before.before.enum_told in
     let first-repeated = repeated.first-repeated in
     let note = c.before.note in
     λ d h.
@@ -75,14 +75,14 @@ returns-4 c =
 
 returns-5 : tie.Need-returns-5
 returns-5 c =
-    let before = c.before.before.before.before.before.before.before.before.before.before in
-    let enum-told2 = c.before.before.before.before.before.before.before.before.enum-told2 in
-    let first-unknown = c.before.before.before.before.before.before.first-unknown in
-    let enum-told3 = c.before.before.before.before.enum-told3 in
+    let before = c.before.before.before.before.before.before.before.before.before.before.before.before in
+    let enum-told2 = c.before.before.before.before.before.before.before.before.before.before.enum-told2 in
+    let first-unknown = c.before.before.before.before.before.before.before.first-unknown in
+    let enum-told3 = c.before.before.before.before.before.enum-told3 in
     let first-unknown2 = c.before.before.first-unknown2 in
     let repeated = before in
-    let first_bad_row = repeated.before.before.before.before.first_bad_row in
-    let enum_told = repeated.before.before.enum_told in
+    let first_bad_row = repeated.before.before.before.before.before.first_bad_row in
+    let enum_told = repeated.before.before.before.enum_told in
     let first-repeated = repeated.first-repeated in
     λ d h.
     answer_sound _ _ _ d h _ first_bad_row.ensures enum_told.given.1 _

@@ -7,7 +7,7 @@ use Rattle.validate.proofs.faults.dangles.Statement.{statement}
 use Rattle.validate.proofs.faults.dangles.Tie as tie
 
 returns : tie.Need-returns
-returns c = rw (eq-eqb _ _ c.before.before.before.before.requires.0, ← c.before.key.ensures) (ap not c.known.ensures)
+returns c = rw (eq-eqb _ _ c.before.before.before.before.before.requires.0, ← c.before.before.string.ensures) (ap not c.known.ensures)
 
 pub dangles-spec : {M : Type 1} → statement M
-dangles-spec = tie.close (tie.spec (λ c κs. search rules) (λ c κs. search rules) returns)
+dangles-spec = tie.close (tie.spec (λ c κs. search rules) (λ c κs. search rules) (λ c κs. search rules) returns)

@@ -12,17 +12,17 @@ use Rattle.document.specs.reference.Check.{found_repeated_id}
 use Rattle.validate.specs.internal.TableWords.{entries_from, ids_before, repeats_at, found}
 use Rattle.validate.specs.internal.IdIndex.{Indexed}
 use Rattle.validate.proofs.lemmas.index.BlockIds.{above_id, rest, repeated_here, repeated_on, repeated_end}
-use Rattle.validate.proofs.lemmas.index.SearchTree.{no_id}
+use Rattle.validate.proofs.lemmas.index.SlotChains.{no_id}
 use Rattle.validate.proofs.faults.first_repeated.Statement.{statement}
 use Rattle.validate.proofs.faults.first_repeated.Tie as tie
 
 abbrev invariant-loop : tie.invariant-loop
-invariant-loop nodes count pool links₀ i₀ links i =
-    (i ≤ count) × Indexed nodes pool i links
+invariant-loop nodes count pool heads₀ nexts₀ i₀ heads nexts i =
+    (i ≤ count) × Indexed nodes pool i heads nexts
     × (found_repeated_id (ids_before nodes pool 0 i) (rest nodes pool count i) ≡ found_repeated_id [] (entries_from nodes pool count 0))
 
 abbrev decreases-loop : tie.decreases-loop
-decreases-loop nodes count pool links₀ i₀ links i = count - i
+decreases-loop nodes count pool heads₀ nexts₀ i₀ heads nexts i = count - i
 
 loop-holds : tie.Need-loop-init invariant-loop decreases-loop
 unfolding ids_before
@@ -36,16 +36,16 @@ cast-if1 c = omega (arith, c.shared-slice-known3.given (record_length * c.before
 
 repeats-requires : tie.Need-repeats-requires invariant-loop decreases-loop
 repeats-requires c κs =
-    let pre = c.before.before.before.before.before.before.before.requires in
-    let loop = c.before.before.before.before.loop in
-    let loop-test = c.before.before.before.loop-test in
-    (omega (arith, pre.0, loop-test.true), omega (arith, pre.1, loop-test.true), loop.invariant.1)
+    let pre = c.before.before.before.before.before.before.before.before.requires in
+    let loop = c.before.before.before.before.before.loop in
+    let loop-test = c.before.before.before.before.loop-test in
+    (omega (arith, pre.0, loop-test.true), loop.invariant.1)
 
 returns : tie.Need-returns invariant-loop decreases-loop
 unfolding found
 returns c =
-    let loop = c.before.before.before.before.before.before.loop in
-    let loop-test = c.before.before.before.before.before.loop-test in
+    let loop = c.before.before.before.before.before.before.before.loop in
+    let loop-test = c.before.before.before.before.before.before.loop-test in
     let repeats = c.before.repeats in (
       ap found (sym (repeated_here _ _ _ _ loop-test.true (sym repeats.ensures.0 ∙ c.if2.true)) ∙ loop.invariant.2),
       λ e. let z : ◌≡◌ {A = ℕ} 0 1 = cc in absurd (omega arith),
@@ -58,11 +58,11 @@ loop-again c =
     let loop = c.before.before.before.loop in
     let loop-test = c.before.before.loop-test in
     let turn : (repeats_at args.nodes.now args.pool.now loop.i ≡ false)
-    × Indexed args.nodes.now args.pool.now (loop.i + 1) c.if1.links =
-    ⊎_elim (λ w. (sym w.2.ensures.0 ∙ w.3.left, rw w.4 (w.2.ensures.1 w.3.left)))
+    × Indexed args.nodes.now args.pool.now (loop.i + 1) c.if1.heads c.if1.nexts =
+    ⊎_elim (λ w. (sym w.3.ensures.0 ∙ w.4.left, rw (w.5, w.6) (w.3.ensures.1 w.4.left)))
     (λ w.
     let h = above_id args.nodes.now args.pool.now loop.i w.0.left in
-    (rw h, rw w.1 (no_id _ _ _ _ loop.invariant.1 (omega (arith, pre.0, loop-test.true)) h))) c.if1.branch in
+    (rw h, rw (w.1, w.2) (no_id _ _ _ _ _ loop.invariant.1 (omega (arith, pre.0, loop-test.true)) h))) c.if1.branch in
     (omega (arith, loop-test.true), turn.1, repeated_on _ _ _ _ loop-test.true turn.0 ∙ loop.invariant.2)
 
 returns-2 : tie.Need-returns-2 invariant-loop decreases-loop

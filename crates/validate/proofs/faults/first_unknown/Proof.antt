@@ -13,12 +13,12 @@ use Rattle.validate.proofs.faults.first_unknown.Statement.{statement}
 use Rattle.validate.proofs.faults.first_unknown.Tie as tie
 
 abbrev invariant-loop : tie.invariant-loop
-invariant-loop nodes count pool links kind only i₀ i =
+invariant-loop nodes count pool heads nexts kind only i₀ i =
     found_unknown_target kind (ids_before nodes pool only count) (rest nodes pool count i)
     ≡ found_unknown_target kind (ids_before nodes pool only count) (entries_from nodes pool count 0)
 
 abbrev decreases-loop : tie.decreases-loop
-decreases-loop nodes count pool links kind only i₀ i = count - i
+decreases-loop nodes count pool heads nexts kind only i₀ i = count - i
 
 loop-holds : tie.Need-loop-init invariant-loop decreases-loop
 loop-holds c =
@@ -29,9 +29,7 @@ cast-if1 : tie.Need-overflow-cast-if1 invariant-loop decreases-loop
 cast-if1 c = omega (arith, c.shared-slice-known3.given (record_length * c.before.before.loop.i))
 
 dangles-requires : tie.Need-dangles-requires invariant-loop decreases-loop
-dangles-requires c κs =
-    let pre = c.before.before.before.before.before.before.requires in
-    (sym (kind_read _ _) ∙ c.if1.true, c.before.before.loop-test.true, pre.0, pre.1)
+dangles-requires c κs = (sym (kind_read _ _) ∙ c.if1.true, c.before.before.before.before.before.before.requires.1)
 
 returns : tie.Need-returns invariant-loop decreases-loop
 unfolding found

@@ -5,7 +5,7 @@ use native.Mathlib.Nat.{mod-lt}
 use native.Mathlib.Omega.{arith}
 use lib.ListN.{length, drop}
 use Rattle.validate.specs.internal.IdIndex.{mixed, slot_of}
-use Rattle.validate.proofs.lemmas.index.SearchTree.{mixed_on, mixed_end}
+use Rattle.validate.proofs.lemmas.index.SlotChains.{mixed_on, mixed_end}
 use Rattle.validate.proofs.index.slot.Statement.{statement}
 use Rattle.validate.proofs.index.slot.Tie as tie
 

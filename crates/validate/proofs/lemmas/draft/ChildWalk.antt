@@ -1,5 +1,5 @@
 -- The walk over an element's children: the end, one child, and the values.
-use Prim.Native.Nat.{ℕ, ◌+◌, ◌*◌, ◌≤◌, ◌<◌}
+use Prim.Native.Nat.{ℕ, ◌+◌, ◌≤◌, ◌<◌}
 use mathlib.Core.Path.{◌≡◌, refl, sym, ap, ◌∙◌}
 use mathlib.Core.Bool.{Bool, true, false, cond, true≢false}
 use mathlib.Core.List.{List}
@@ -11,7 +11,6 @@ use Rattle.base.proofs.Booleans.{cond_case, both, both_true, T_true, true_T}
 use Rattle.elements.specs.rules.Class as Class
 use Rattle.elements.specs.rules.Inside.{State, go, bad, step, ended}
 use Rattle.inside.specs.Machine.{state_of, step_of}
-use Rattle.document.specs.rules.Record.{record_length}
 use Rattle.document.specs.rules.Document.{Tree, Trees, holds, tree_class, Node, node, Nodes, childless, child, is_node, says, say_all}
 use Rattle.document.specs.reference.RulesTest.{step_goes_on, keeps_rules, keep_rules}
 use Rattle.document.specs.rules.Table.{count, count_all, pool, pool_all}
@@ -19,10 +18,9 @@ use Rattle.document.specs.rules.Canonical.{place_values, layout, layout_all, mos
 use Rattle.document.proofs.NestedMeaning.{goes_on}
 use Rattle.table.specs.Stored.{word_at, Stored, StoredAll}
 use Rattle.validate.specs.internal.DraftWalk.{DecidesNext, behind_first, LawfulNodeAt, ChildrenAt, ChildTaken}
-use Rattle.table.proofs.Stored.{recorded_word, rows_stored, stored_within}
+use Rattle.table.proofs.Stored.{recorded_word, rows_stored}
 use Rattle.document.proofs.TableDetermines.{count_positive}
 use Rattle.validate.proofs.lemmas.records.Decided.{Same}
-use Rattle.validate.proofs.lemmas.records.NodeRecords.{node_of, stored_node}
 use Rattle.validate.proofs.lemmas.draft.ValuePlaces.{layout_node}
 use Rattle.validate.proofs.lemmas.draft.LawfulNodes.{element_range}
 
@@ -33,14 +31,6 @@ node_forward a = omega (arith, a.next, count_positive a.made)
 pub node_within : {words bytes : List ℕ} {i parent p left e q : ℕ} → LawfulNodeAt words bytes i parent p left e q → p ≤ length bytes → q ≤ length bytes
 node_within {words} {bytes} {i} {parent} {p} a h =
     omega (arith, a.after, simp (length-take, length-drop) at (ap length (rows_stored a.made words bytes i parent p a.stored).1))
-
--- It ends where its record says, within the table.
-pub node_end : {words bytes : List ℕ} {i parent p left e q : ℕ} → LawfulNodeAt words bytes i parent p left e q → p ≤ length bytes
-    → (word_at words i 2 ≡ e) × (record_length * e ≤ length words)
-unfolding count node_of
-node_end {words} {bytes} {i} {parent} {p} a h =
-    let n = stored_node a.made words bytes i parent p a.stored h in
-    (n.end ∙ sym (rw n.made at a.next), rw a.next (stored_within a.made words bytes i parent p a.stored))
 
 -- The class of a node's tree is its record's kind.
 pub class_word : (words bytes : List ℕ) (i parent p : ℕ) (n : Node) → Stored words bytes i parent p n → tree_class (layout n) ≡ word_at words i 0

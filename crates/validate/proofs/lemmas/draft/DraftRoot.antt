@@ -8,7 +8,6 @@ use lib.Dec.{eqb, eqb→eq, leb→le, le→leb}
 use lib.ListN.{length}
 use borrow.Author.Tests.{eq-eqb}
 use Rattle.base.proofs.Booleans.{both}
-use Rattle.utf8.specs.rules.Scalar.{IsUtf8}
 use Rattle.elements.specs.rules.Class as Class
 use Rattle.base.specs.rules.Limits.{missing}
 use Rattle.document.specs.rules.Record.{record_length}
@@ -24,7 +23,6 @@ use Rattle.validate.specs.internal.DraftWalk.{LawfulNodeAt}
 use Rattle.document.specs.rules.Draft.{IsDraft}
 use Rattle.table.proofs.Stored.{table_stored, stored_table}
 use Rattle.validate.proofs.lemmas.draft.ChildWalk.{class_word}
-use Rattle.validate.proofs.lemmas.draft.PoolUtf8.{draft_utf8}
 
 -- What the root's record and the lengths have to be.
 pub record RootAt (words bytes : List ℕ) (e q : ℕ) : Type 0 where
@@ -52,9 +50,6 @@ root_draft {words} {bytes} r =
         short_pool = le→leb (length (pool d)) 65536 (omega (arith, r.all_bytes, r.few_bytes, a.after));
       },
     )
-
-pub root_utf8 : {words bytes : List ℕ} {e q : ℕ} → RootAt words bytes e q → IsUtf8 bytes
-root_utf8 r = draft_utf8 (root_draft r).1
 
 pub draft_root : {d : Node} {words bytes : List ℕ} → IsDraft d words bytes → RootAt words bytes (count d) (length (pool d))
 unfolding is_document

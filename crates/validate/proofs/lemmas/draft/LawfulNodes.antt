@@ -1,20 +1,17 @@
 -- When the node of a record is lawful: a text, and an element.
-use Prim.Native.Nat.{ℕ, ◌+◌, ◌*◌, ◌-◌, ◌≤◌, ◌<◌, max}
+use Prim.Native.Nat.{ℕ, ◌+◌, ◌*◌, ◌-◌, ◌≤◌, max}
 use mathlib.Core.Path.{◌≡◌, refl, sym, ap, ◌∙◌}
-use mathlib.Core.Bool.{Bool, true, false, not, cond, ◌&&◌, true≢false}
+use mathlib.Core.Bool.{Bool, not, cond, ◌&&◌, true≢false}
 use mathlib.Core.List.{List, []}
 use native.Mathlib.Omega.{arith}
 use lib.Dec.{T, eqb, leb, leb→le}
-use lib.ListN.{length, get_or, take, drop}
+use lib.ListN.{length}
 use borrow.Author.Tests.{eq-eqb, ne_eqb, le-leb, eqb-true}
 use Rattle.base.proofs.Booleans.{cond_case, both, both_true}
 use Rattle.elements.specs.rules.Class as Class
 use Rattle.elements.specs.rules.Rules.{rule_of}
 use Rattle.elements.specs.rules.Inside.{start}
-use Rattle.utf8.specs.rules.Position.{is_continuation}
-use Rattle.utf8.specs.rules.Scalar.{IsUtf8}
-use Rattle.utf8.proofs.Agree.{valid_utf8, utf8_valid}
-use Rattle.utf8.proofs.Cut.{part_utf8, utf8_part}
+use Rattle.utf8.specs.reference.Sequence.{valid_up_to}
 use Rattle.document.specs.rules.Record.{record_length}
 use Rattle.document.specs.reference.RulesTest.{is_text, keeps_rules, keep_rules}
 use Rattle.document.specs.reference.Printing.{part}
@@ -25,12 +22,11 @@ use Rattle.document.specs.rules.Table.{count, pool}
 use Rattle.document.specs.rules.Canonical.{node_first, place_values, layout, layout_all, tree_levels, most_levels_in}
 use Rattle.table.specs.Stored.{word_at, StoredAll}
 use Rattle.table.specs.Stored.{string_at}
-use Rattle.validate.specs.internal.DraftWalk.{refused, DecidesNext, offset_of, NamesStringAt, strings_end, RecordAt, TextAlone, BareAt, KindAt, StringsAt}
-use Rattle.validate.specs.internal.DraftWalk.{ElementAt, value_levels, node_values, ValuesLead, Opens, LawfulWithin, LawfulNodeAt, ChildrenAt}
-use Rattle.validate.proofs.lemmas.records.Decided.{reached_none, place_reached, Same}
+use Rattle.validate.specs.internal.DraftWalk.{Decided, DecidesNext, offset_of, NamesStringAt, strings_end, RecordAt, TextAlone}
+use Rattle.validate.specs.internal.DraftWalk.{ElementAt, value_levels, node_values, LawfulWithin, LawfulNodeAt, ChildrenAt}
+use Rattle.validate.proofs.lemmas.records.Decided.{decided_by, Same}
 use Rattle.validate.proofs.lemmas.records.NodeRecords.{node_of, missing_string, string_named, stored_node, node_stored, node_pool}
 use Rattle.validate.proofs.lemmas.records.RecordTests.{text_bytes_lem, bytes_text}
-use Rattle.validate.proofs.lemmas.values.ValueSteps.{levels_none}
 use Rattle.validate.proofs.lemmas.draft.ValuePlaces.{levels_of, inside_say}
 
 -- The kinds of elements.
@@ -53,26 +49,18 @@ pub record TextAt (words bytes : List ℕ) (i parent p : ℕ) : Type 0 where
   pub valid : T (is_text (string_at words bytes i 7))
 
 module _ (words bytes : List ℕ) (i parent p : ℕ) where
-  -- A text that stands in a UTF-8 pool is valid where a character begins, or the pool ends, at each of its ends.
-  module _ (s : NamesStringAt words i 7 p (length bytes)) (u : IsUtf8 bytes) where
-    text_part : take (word_at words i 8) (drop p bytes) ≡ string_at words bytes i 7
-    unfolding part
-    text_part = rw (string_named words bytes i 7 p s).size at (string_named words bytes i 7 p s).there
-
-    pub text_valid : TextAlone words i parent (i + 1) → is_continuation (get_or bytes p 0) ≡ false → is_continuation (get_or bytes (p + word_at words i 8) 0) ≡ false
-        → TextAt words bytes i parent p
-    text_valid a b e =
-        let v = rw text_part at (part_utf8 bytes p (word_at words i 8) u b e) in
-        record {
-          alone = a;
-          text_at = s;
-          valid = bytes_text _ (λ z. a.some (sym (string_named words bytes i 7 p s).size ∙ z)) (eq-eqb _ _ (utf8_valid (string_at words bytes i 7) v));
-        }
-
-    pub text_begins : TextAt words bytes i parent p → (is_continuation (get_or bytes p 0) ≡ false) × (is_continuation (get_or bytes (p + word_at words i 8) 0) ≡ false)
-    text_begins t =
-        let v = valid_utf8 (string_at words bytes i 7) (eqb-true _ _ (text_bytes_lem _ t.valid).1) in
-        utf8_part bytes p (word_at words i 8) u (omega (arith, t.alone.some)) (rw text_part v)
+  -- A text that stands there is valid where its bytes are.
+  pub text_valid : TextAlone words i parent (i + 1) → NamesStringAt words i 7 p (length bytes) → {n : ℕ} → n ≡ valid_up_to
+      (part bytes p (word_at words i 8))
+      → Decided (TextAt words bytes i parent p) (eqb n (word_at words i 8))
+  text_valid a s e =
+      let t = string_named words bytes i 7 p s in
+      let size : length (string_at words bytes i 7) ≡ word_at words i 8 = t.size in
+      let there : part bytes p (word_at words i 8) ≡ string_at words bytes i 7 = rw size at t.there in
+      rw (e, there, ← size)
+      (decided_by (eqb (valid_up_to (string_at words bytes i 7)) (length (string_at words bytes i 7)))
+      (λ b. record { alone = a; text_at = s; valid = bytes_text _ (λ z. a.some (sym size ∙ z)) b })
+      (λ b x. true≢false (sym (text_bytes_lem _ x.valid).1 ∙ b)))
 
   text_recorded : record_length * i + record_length ≤ length words → p ≤ length bytes → TextAt words bytes i parent p → RecordAt words (length bytes) i parent p
   unfolding offset_of
@@ -145,106 +133,28 @@ module _ (words bytes : List ℕ) (i parent p : ℕ) where
           n.made ∙ rw none,
         )
 
-    pub text_decides : {left : ℕ} → record_length * i + record_length ≤ length words → TextAt words bytes i parent p
-        → DecidesNext (LawfulNodeAt words bytes i parent p left) true (word_at words i 2) (p + word_at words i 8)
+    pub text_decides : {left : ℕ} {b : Bool} → record_length * i + record_length ≤ length words → Decided (TextAt words bytes i parent p) b
+        → DecidesNext (LawfulNodeAt words bytes i parent p left) b (i + 1) (p + word_at words i 8)
     unfolding count StoredAll node_of pool
-    text_decides {left} whole t =
+    text_decides {left} whole d =
         record {
           sound = λ b.
+              let t = d.sound b in
               let r = text_recorded whole within t in
               record {
                 made = node_of words bytes i childless;
                 stored = node_stored childless words bytes i parent p r t.alone.ends tt;
                 lawful = text_lawful left t;
-                next = t.alone.ends;
+                next = refl;
                 after = omega (arith, node_pool childless words bytes i parent p r, t.alone.no_key, t.alone.no_type);
               };
           complete = λ m q a.
-              let made = (text_record a).1 in
+              let (t, made) = text_record a in
               let pooled = node_pool childless words bytes i parent p (text_recorded whole within t) in
-              (refl, t.alone.ends ∙ sym (rw made at a.next), omega (arith, rw made at a.after, pooled, t.alone.no_key, t.alone.no_type));
+              (d.complete t, sym (rw made at a.next), omega (arith, rw made at a.after, pooled, t.alone.no_key, t.alone.no_type));
         }
 
 -- ---- an element
-
--- The parts of its record.
-module _ (words : List ℕ) (i parent p size : ℕ) where
-  pub record_parts : record_length * i + record_length ≤ length words → KindAt words i parent → StringsAt words i p size → RecordAt words size i parent p
-  unfolding offset_of
-  record_parts whole k s =
-      record {
-        whole = whole;
-        under = k.under;
-        key_stands = s.key_stands;
-        type_at = s.type_at;
-        text_at = record { offset = rw (s.no_text_at, s.no_text); within = omega (arith, s.no_text, s.type_at.within) };
-      }
-
-  pub element_parts : {left : ℕ} → KindAt words i parent → StringsAt words i p size → value_levels words i < left → ElementAt words i left
-  element_parts k s l = record { kind_low = k.kind_low; kind_high = k.kind_high; no_text = s.no_text; sized = s.sized; levels = l }
-
-  module _ {left : ℕ} (r : RecordAt words size i parent p) (e : ElementAt words i left) where
-    pub parts_kind : KindAt words i parent
-    parts_kind = record { under = r.under; kind_low = e.kind_low; kind_high = e.kind_high }
-
-    pub parts_strings : StringsAt words i p size
-    unfolding offset_of
-    parts_strings =
-        record {
-          key_stands = r.key_stands;
-          type_at = r.type_at;
-          no_text_at = rw e.no_text at r.text_at.offset;
-          no_text = e.no_text;
-          sized = e.sized;
-        }
-
-  -- A record without strings and size.
-  pub bare_strings : p ≤ size → BareAt words i → StringsAt words i p size
-  unfolding offset_of
-  bare_strings h b =
-      record {
-        key_stands = record { offset = rw (b.no_key_at, b.no_key); within = omega (arith, b.no_key) };
-        type_at = record { offset = rw (b.no_type_at, b.no_type); within = omega (arith, b.no_key, b.no_type) };
-        no_text_at = b.no_text_at;
-        no_text = b.no_text;
-        sized = λ w. b.no_height;
-      }
-
-  pub strings_bare : StringsAt words i p size → value_levels words i ≡ 0 → BareAt words i
-  unfolding value_levels offset_of
-  strings_bare s l =
-      let (a, b, c) = levels_none (eqb (word_at words i 4) 0) (eqb (word_at words i 6) 0) (eqb (word_at words i 9) missing) l in
-      let no_key = eqb-true (word_at words i 4) 0 a in
-      let no_type = eqb-true (word_at words i 6) 0 b in
-      let no_width = eqb-true (word_at words i 9) missing c in
-      record {
-        no_key_at = rw a at s.key_stands.offset;
-        no_key = no_key;
-        no_type_at = rw b at s.type_at.offset;
-        no_type = no_type;
-        no_text_at = s.no_text_at;
-        no_text = s.no_text;
-        no_width = no_width;
-        no_height = s.sized no_width;
-      }
-
--- What stands before the children.
-module _ (words bytes : List ℕ) (k i end : ℕ) {p left after : ℕ} {due : Bool} {state : ℕ} where
-  pub opens : after < refused → StringsAt words i p (length bytes) → value_levels words i < left → after ≡ p + word_at words i 4 + word_at words i 6
-      → ValuesLead words bytes k i end true due state → Opens words bytes k i end p left after due state
-  opens h s l e v = record { sound = λ t. (s, l, e, v); complete = λ f. absurd (true≢false (sym (place_reached h) ∙ f)) }
-
-  pub opens_none : after ≡ refused → (StringsAt words i p (length bytes) → value_levels words i < left → ValuesLead words bytes k i end false false 0)
-      → Opens words bytes k i end p left after due state
-  opens_none e f = record { sound = λ t. absurd (true≢false (sym t ∙ reached_none e)); complete = λ t. f }
-
-pub bare_levels : (words : List ℕ) (i : ℕ) → BareAt words i → value_levels words i ≡ 0
-unfolding value_levels
-bare_levels words i b = rw (b.no_key, b.no_type, b.no_width)
-
-pub levels_one : (words : List ℕ) (i : ℕ) → value_levels words i ≤ 1
-unfolding value_levels
-levels_one words i = cond_case (λ (n : ℕ). n ≤ 1) (eqb (word_at words i 4) 0 && (eqb (word_at words i 6) 0 && eqb (word_at words i 9) missing)) (λ e. omega arith) (λ e. omega arith)
 
 module _ (words bytes : List ℕ) (i parent p : ℕ) (r : RecordAt words (length bytes) i parent p) where
   within : p ≤ length bytes

@@ -9,6 +9,7 @@ use lib.Dec.{eqb, leb}
 use lib.ListN.{length, get_or}
 use borrow.Author.Tests.{le-leb, lt-leb, eq-eqb, ne_eqb}
 use Rattle.base.proofs.Booleans.{bool_case, and_false}
+use Rattle.elements.specs.rules.Bytes.{same}
 use Rattle.elements.specs.rules.Class.{is_block}
 use Rattle.document.specs.rules.Record.{record_length}
 use Rattle.document.specs.rules.Value.{non_empty}
@@ -75,6 +76,35 @@ module _ (words bytes : List ℕ) where
   -- A node whose kind is above those of blocks has no id.
   pub above_id : (i : ℕ) → 7 < get_or words (record_length * i) 0 → holds_id (entry_of_node words bytes i) ≡ false
   above_id i l = sym (any_block i) ∙ no_block 0 i (above_blocks _ (rw kind_read at l))
+
+  -- One node fewer to look at.
+  ids_before_lem : (only i : ℕ) → 0 < i
+      → ids_before words bytes only i
+      ≡ cond (id_wanted only (i - 1)) (key_at words bytes (i - 1) ∷ ids_before words bytes only (i - 1)) (ids_before words bytes only (i - 1))
+  unfolding ids_before
+  ids_before_lem only i l =
+      let e : i ≡ suc (i - 1) = omega arith in
+      ap (ids_before words bytes only) e
+
+  pub known_here : (s : List ℕ) (only i : ℕ) → 0 < i → id_wanted only (i - 1) ≡ true → same s (key_at words bytes (i - 1)) ≡ true
+      → is_among s (ids_before words bytes only i) ≡ true
+  unfolding is_among
+  known_here s only i l e f = rw (ids_before_lem only i l, e, f)
+
+  pub known_other : (s : List ℕ) (only i : ℕ) → 0 < i → id_wanted only (i - 1) ≡ true → same s (key_at words bytes (i - 1)) ≡ false
+      → is_among s (ids_before words bytes only (i - 1)) ≡ is_among s (ids_before words bytes only i)
+  unfolding is_among
+  known_other s only i l e f = sym (ap (is_among s) (ids_before_lem only i l) ∙ rw (e, f))
+
+  pub known_none : (s : List ℕ) (only i : ℕ) → 0 < i → id_wanted only (i - 1) ≡ false
+      → is_among s (ids_before words bytes only (i - 1)) ≡ is_among s (ids_before words bytes only i)
+  known_none s only i l e = sym (ap (is_among s) (ids_before_lem only i l) ∙ rw e)
+
+  pub known_end : (s : List ℕ) (only i : ℕ) → i ≤ 0 → is_among s (ids_before words bytes only i) ≡ false
+  unfolding is_among ids_before
+  known_end s only i l =
+      let e : i ≡ 0 = omega arith in
+      rw e
 
   -- The entries from node i on, up to count.
   abbrev pub rest : ℕ → ℕ → List Entry

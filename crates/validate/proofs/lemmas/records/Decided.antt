@@ -1,12 +1,11 @@
 -- Answers that tell whether something holds.
-use Prim.Native.Nat.{ℕ, ◌<◌}
-use native.Mathlib.Omega.{arith}
-use mathlib.Core.Path.{◌≡◌, refl, sym, ap, ◌∙◌}
+use Prim.Native.Nat.{ℕ}
+use mathlib.Core.Path.{◌≡◌, refl, sym, ◌∙◌}
 use mathlib.Core.Bool.{Bool, true, false, not, ◌&&◌, true≢false}
 use lib.Dec.{eqb}
-use borrow.Author.Tests.{eq-eqb, ne_eqb, eqb-true, eqb-false, not-true}
+use borrow.Author.Tests.{ne_eqb, eqb-true, eqb-false, not-true}
 use Rattle.base.proofs.Booleans.{both, T_true, true_T}
-use Rattle.validate.specs.internal.DraftWalk.{refused, reached, Decided, DecidesNext}
+use Rattle.validate.specs.internal.DraftWalk.{Decided, DecidesNext}
 
 pub decided_by : {P : Type 0} (b : Bool) → (b ≡ true → P) → (b ≡ false → P → ⊥) → Decided P b
 decided_by true f g = record { sound = f; complete = λ p. refl }
@@ -42,32 +41,10 @@ reworded f g d = record { sound = λ e. f (d.sound e); complete = λ q. d.comple
 pub decides_none : {P : ℕ → ℕ → Type 0} {b : Bool} {n m : ℕ} → b ≡ false → ((e q : ℕ) → P e q → ⊥) → DecidesNext P b n m
 decides_none f h = record { sound = λ e. absurd (true≢false (sym e ∙ f)); complete = λ e q p. absurd (h e q p) }
 
--- Which places are reached.
-pub refused_not : reached refused ≡ false
-refused_not = ap not (eq-eqb refused refused refl)
-
-pub reached_none : {p : ℕ} → p ≡ refused → reached p ≡ false
-reached_none {p} e = ap not (eq-eqb p refused e)
-
-pub reached_some : {p : ℕ} → (p ≡ refused → ⊥) → reached p ≡ true
-reached_some {p} f = ap not (ne_eqb p refused f)
-
-pub place_reached : {p : ℕ} → p < refused → reached p ≡ true
-place_reached {p} h = reached_some (λ (e : p ≡ refused). omega arith)
-
-pub decides_as : {P : ℕ → ℕ → Type 0} {b b' : Bool} {n m : ℕ} → b ≡ b' → DecidesNext P b n m → DecidesNext P b' n m
-decides_as e d = rw e at d
-
-pub decides_reached : {P : ℕ → ℕ → Type 0} {n m : ℕ} → m < refused → DecidesNext P true n m → DecidesNext P (reached m) n m
-decides_reached h d = decides_as (sym (place_reached h)) d
-
 -- Two statements hold of the same numbers.
 pub record Same (P Q : ℕ → ℕ → Type 0) : Type 0 where
   pub to : (e q : ℕ) → P e q → Q e q
   pub from : (e q : ℕ) → Q e q → P e q
-
-pub same : {P : ℕ → ℕ → Type 0} → Same P P
-same = record { to = λ e q p. p; from = λ e q p. p }
 
 pub through : {P Q R : ℕ → ℕ → Type 0} → Same P Q → Same Q R → Same P R
 through s t = record { to = λ e q p. t.to e q (s.to e q p); from = λ e q r. s.from e q (t.from e q r) }

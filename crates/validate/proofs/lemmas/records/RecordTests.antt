@@ -1,7 +1,7 @@
 -- The tests of one record.
 use Prim.Native.Nat.{ℕ, ◌+◌, ◌*◌, ◌-◌, ◌≤◌, ◌<◌}
 use mathlib.Core.Path.{◌≡◌, refl, sym, ◌∙◌}
-use mathlib.Core.Bool.{true, false, not, ◌&&◌, true≢false}
+use mathlib.Core.Bool.{true, false, not, ◌&&◌}
 use mathlib.Core.List.{List, [], ◌∷◌}
 use native.Mathlib.Omega.{arith}
 use lib.Dec.{T, eqb, ltb}
@@ -15,8 +15,8 @@ use Rattle.document.specs.rules.Value.{non_empty}
 use Rattle.document.specs.reference.RulesTest.{is_text}
 use Rattle.table.specs.Stored.{word_at, Recorded}
 use Rattle.table.proofs.Stored.{recorded_word}
-use Rattle.validate.specs.internal.DraftWalk.{refused, Decided, offset_of, NamesStringAt, TextAlone, BareAt, StringsAt, StringsEnd}
-use Rattle.validate.proofs.lemmas.records.Decided.{decided_by, denied, equal_decided, unequal_decided, both_decided, reworded, refused_not, place_reached}
+use Rattle.validate.specs.internal.DraftWalk.{Decided, offset_of, NamesStringAt, TextAlone}
+use Rattle.validate.proofs.lemmas.records.Decided.{decided_by, denied, equal_decided, unequal_decided, both_decided, reworded}
 
 -- ---- the words of a record
 
@@ -86,40 +86,6 @@ alone_tests words i parent end =
     (unequal_decided _ _))
     (equal_decided _ _))
     (equal_decided _ _))
-
--- What stands in the record of an element without values.
-pub bare_tests : (words : List ℕ) (i : ℕ)
-    → Decided (BareAt words i)
-    (((((((eqb (word_at words i 3) 0 && eqb (word_at words i 4) 0) && eqb (word_at words i 5) 0) && eqb (word_at words i 6) 0) && eqb (word_at words i 7) 0)
-    && eqb (word_at words i 8) 0) && eqb (word_at words i 9) missing) && eqb (word_at words i 10) missing)
-bare_tests words i =
-    reworded
-    (λ t. record {
-      no_key_at = t.0.0.0.0.0.0.0;
-      no_key = t.0.0.0.0.0.0.1;
-      no_type_at = t.0.0.0.0.0.1;
-      no_type = t.0.0.0.0.1;
-      no_text_at = t.0.0.0.1;
-      no_text = t.0.0.1;
-      no_width = t.0.1;
-      no_height = t.1;
-    })
-    (λ t. (((((((t.no_key_at, t.no_key), t.no_type_at), t.no_type), t.no_text_at), t.no_text), t.no_width), t.no_height))
-    (both_decided
-    (both_decided
-    (both_decided
-    (both_decided (both_decided (both_decided (both_decided (equal_decided _ _) (equal_decided _ _)) (equal_decided _ _)) (equal_decided _ _)) (equal_decided _ _))
-    (equal_decided _ _))
-    (equal_decided _ _))
-    (equal_decided _ _))
-
--- Where the strings of a record end.
-module _ {words : List ℕ} {i p size : ℕ} where
-  pub no_strings : (StringsAt words i p size → ⊥) → StringsEnd words i p size refused
-  no_strings f = record { sound = λ t. absurd (true≢false (sym t ∙ refused_not)); complete = λ s. absurd (f s) }
-
-  pub strings_end_lem : StringsAt words i p size → size < refused → StringsEnd words i p size (p + word_at words i 4 + word_at words i 6)
-  strings_end_lem s h = record { sound = λ t. (s, refl); complete = λ t. place_reached {p = p + word_at words i 4 + word_at words i 6} (omega (arith, s.type_at.within)) }
 
 -- A text is valid where it has bytes and all are valid.
 pub text_bytes_lem : (s : List ℕ) → T (is_text s) → (length s ≡ 0 → ⊥) × (eqb (valid_up_to s) (length s) ≡ true)

@@ -1,7 +1,7 @@
 -- The values before the trees inside an element: which are taken, and the state after them.
 use Prim.Native.Nat.{ℕ, ◌+◌, ◌≤◌, ◌<◌}
 use mathlib.Core.Path.{◌≡◌, refl, sym, ap, ◌∙◌}
-use mathlib.Core.Bool.{Bool, true, false, not, cond, ◌&&◌, true≢false}
+use mathlib.Core.Bool.{Bool, true, false, cond, ◌&&◌, true≢false}
 use mathlib.Core.List.{List, [], ◌∷◌}
 use native.Mathlib.Omega.{arith}
 use lib.Dec.{eqb, ltb}
@@ -22,7 +22,7 @@ use Rattle.document.specs.rules.Value.{non_empty, every, names_block, target_cha
 use Rattle.document.specs.rules.Canonical.{node_first, place_values, layout, layout_all, value_before, size_before}
 use Rattle.document.proofs.TableDetermines.{count_positive}
 use Rattle.table.specs.Stored.{word_at}
-use Rattle.validate.specs.internal.DraftWalk.{no_state, held, TakesValues, ValuesLead, value_levels, node_values}
+use Rattle.validate.specs.internal.DraftWalk.{TakesValues, ValuesLead, value_levels, node_values}
 use Rattle.validate.proofs.lemmas.records.NodeRecords.{missing_string}
 
 -- ---- the characters of a value
@@ -103,30 +103,9 @@ module _ {k state : ℕ} {ok : Bool} {state' : ℕ} {W W' : Trees → Trees} (t 
   pub takes_not : {other : ℕ} → ok ≡ false → TakesValues k (λ ts. W (W' ts)) state false other
   takes_not e = record { taken = λ ts. t.taken (W' ts) ∙ rw e }
 
--- ---- the state after them, or none
-
-pub held_none : {s : ℕ} → s ≡ no_state → held s ≡ false
-held_none {s} e = ap not (eq-eqb s no_state e)
-
-pub held_some : {s : ℕ} → (s ≡ no_state → ⊥) → held s ≡ true
-held_some {s} f = ap not (ne_eqb s no_state f)
-
-module _ {k state : ℕ} {W : Trees → Trees} where
-  pub takes_as : {ok ok' : Bool} {state' : ℕ} → ok ≡ ok' → TakesValues k W state ok state' → TakesValues k W state ok' state'
-  takes_as e t = rw e at t
-
-  pub takes_held : {state' : ℕ} → state' < no_state → TakesValues k W state true state' → TakesValues k W state (held state') state'
-  takes_held {state'} h t = takes_as (sym (held_some (λ (e : state' ≡ no_state). omega arith))) t
-
-  pub takes_other : {state' other : ℕ} → TakesValues k W state false state' → TakesValues k W state false other
-  takes_other t = record { taken = λ ts. t.taken ts }
-
-  pub takes_none : TakesValues k W state false no_state → TakesValues k W state (held no_state) no_state
-  takes_none t = takes_as (sym (held_none refl)) t
-
 -- ---- no values
 
-pub levels_none : (a b c : Bool) → ◌≡◌ {A = ℕ} (cond (a && (b && c)) 0 1) 0 → (a ≡ true) × (b ≡ true) × (c ≡ true)
+levels_none : (a b c : Bool) → ◌≡◌ {A = ℕ} (cond (a && (b && c)) 0 1) 0 → (a ≡ true) × (b ≡ true) × (c ≡ true)
 levels_none true true true e = (refl, refl, refl)
 levels_none true true false e = absurd (omega arith)
 levels_none true false c e = absurd (omega arith)
