@@ -3,8 +3,8 @@
 
 usage: python3 tools/port_names.py [--check]     at the top of the repository, after /opt/rattle/port/port.py
 
-It rewrites the clauses of .rt files, .antt files and must-fail edits below crates/, and what stands between backquotes in pages.
-A second run changes nothing.
+It rewrites .rt files, .antt files and must-fail edits below crates/, and what stands between backquotes in pages. Strings stay as
+they are, and so do the names of the document language in comments and pages. A second run changes nothing.
 """
 import os
 import re
@@ -13,6 +13,9 @@ import sys
 HERE = os.path.dirname(os.path.abspath(__file__))
 WORD = re.compile(r"[\w'′≢≡₀-₉-]+")
 QUOTED = re.compile(r"`[^`\n]+`")
+STRING = re.compile(r'("(?:[^"\\\n]|\\.)*")')
+# Names of the document language that are names of definitions too.
+LANGUAGE = {"formal-item", "link-ext", "footnote-ref", "list-ordered", "list-unordered"}
 
 
 def table():
@@ -22,6 +25,23 @@ def table():
 
 def turned(text, names):
     return WORD.sub(lambda m: names.get(m[0], m[0]), text)
+
+
+def prose(text, names):
+    """Turns the words of a comment or a page: the names of the document language stay."""
+    return WORD.sub(lambda m: m[0] if m[0] in LANGUAGE else names.get(m[0], m[0]), text)
+
+
+def code(line, names):
+    """Turns a line of code: what stands in strings stays, and a comment is prose."""
+    parts = STRING.split(line)
+    for i in range(0, len(parts), 2):
+        found = re.search(r"(^|\s)(--|//)(\s|$)", parts[i])
+        if found:
+            rest = parts[i][found.start():] + "".join(parts[i + 1:])
+            return "".join(parts[:i]) + turned(parts[i][:found.start()], names) + prose(rest, names)
+        parts[i] = turned(parts[i], names)
+    return "".join(parts)
 
 
 def paths(top):
@@ -37,9 +57,9 @@ def main(argv):
     for path in paths("."):
         inside = path.startswith("./crates/")
         if inside and path.endswith((".rt", ".antt", ".edit")):
-            turn = lambda text: turned(text, names)
+            turn = lambda text: "\n".join(code(line, names) for line in text.split("\n"))
         elif path.endswith(".md"):
-            turn = lambda text: QUOTED.sub(lambda m: turned(m[0], names), text)
+            turn = lambda text: QUOTED.sub(lambda m: prose(m[0], names), text)
         else:
             continue
         with open(path, encoding="utf-8") as it:

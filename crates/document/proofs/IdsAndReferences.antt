@@ -431,14 +431,14 @@ module _ (d : Node) where
         on_none = λ j b h e. a.on_none j b h (true_T (eq-eqb Class.footnote (node_kind b.visited) (omega (arith, e))));
       }
 
-  -- The search decides fault 18, and names the first footnote_ref that has it.
+  -- The search decides fault 18, and names the first footnote-ref that has it.
   pub footnote_found : Finds (UnknownFootnote d) (found_unknown_footnote (entries 0 d))
   unfolding found_unknown_footnote
   footnote_found =
       finds_same (Unfound d Class.footnote_ref (eqb Class.footnote)) (UnknownFootnote d) unfound_footnote footnote_unfound (found_unknown_footnote (entries 0 d))
       (target_found d Class.footnote_ref (eqb Class.footnote))
 
-  -- No footnote_ref has it just where every one's target is the id of a footnote.
+  -- No footnote-ref has it just where every one's target is the id of a footnote.
   pub refs_found_none : (RefsFound d → None (UnknownFootnote d)) × (None (UnknownFootnote d) → RefsFound d)
   unfolding RefsFound
   refs_found_none = (

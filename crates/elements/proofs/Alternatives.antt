@@ -31,7 +31,7 @@ module _ (c : ℕ) where
       (λ b. let (hs, m, a) = one_has kss b in (hs, Memᴰ.tail m, a))
       (or_true (among c ks) (some_has kss c) t)
 
-  pub some_has_lem : {kss : List (List ℕ)} {ks : List ℕ} → Memᴰ ks kss → T (among c ks) → T (some_has kss c)
+  pub some_has_lem : {ks : List ℕ} {kss : List (List ℕ)} → Memᴰ ks kss → T (among c ks) → T (some_has kss c)
   unfolding some_has
   some_has_lem (Memᴰ.head {x = hs} {xs = kss} e) a = or_left (among c hs) (some_has kss c) (subst (λ (xs : List ℕ). T (among c xs)) e a)
   some_has_lem (Memᴰ.tail {x = hs} {xs = kss} m) a = or_right (among c hs) (some_has kss c) (some_has_lem m a)
@@ -42,7 +42,7 @@ apart [] = true
 apart (ks ∷ kss) = every (λ c. not (some_has kss c)) ks && apart kss
 
 -- Then the one that has a class is chosen by it.
-pub chosen_one : (c : ℕ) {kss : List (List ℕ)} {ks : List ℕ} → T (apart kss) → Memᴰ ks kss → T (among c ks) → chosen kss c ≡ go (holding ks)
+pub chosen_one : (c : ℕ) {ks : List ℕ} {kss : List (List ℕ)} → T (apart kss) → Memᴰ ks kss → T (among c ks) → chosen kss c ≡ go (holding ks)
 unfolding chosen
 chosen_one c t (Memᴰ.head {x = hs} {xs = kss} e) a = rw (e, T_true (among c hs) (rw e at a))
 chosen_one c t (Memᴰ.tail {x = hs} {xs = kss} m) a =

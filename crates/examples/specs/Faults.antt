@@ -66,11 +66,11 @@ faults =
     ∷ example nested "[document [title A] [section [title B] [paragraph [item]]]]" 8 50 1 51 0 0
     ∷ example nested "[document [title A] [section [title B] [paragraph [verbatim a b]]]]" 8 62 1 63 0 0
     ∷ example nested "[document [title A] [section [title B] [paragraph [image [target u] [type t] [size 1 2]]]]]" 8 77 1 78 0 0
-    ∷ example nested "[document [title A] [section [title B] [paragraph [footnote_ref [target a] x]]]]" 8 75 1 76 0 0
+    ∷ example nested "[document [title A] [section [title B] [paragraph [footnote-ref [target a] x]]]]" 8 75 1 76 0 0
     ∷ example nested "[document [title A] [section [title B] [paragraph [table [summary] [body] [head]]]]]" 8 74 1 75 0 0
     ∷ example nested "[document [title A] [section [title B] [paragraph [table [summary] [body [row [cell [table [summary] [body]]]]]]]]]" 8 84 1 85 0 0
     -- Only the direct children of a cell are tested for a table.
-    ∷ example nested "[document [title A] [section [title B] [paragraph [table [summary] [body [row [cell [list_ordered [item [table [summary] [body]]]]]]]]]]]" 0 0 1 1 17 2
+    ∷ example nested "[document [title A] [section [title B] [paragraph [table [summary] [body [row [cell [list-ordered [item [table [summary] [body]]]]]]]]]]]" 0 0 1 1 17 2
     -- 8 in a command is at its own place; a loose parameter and a second document command are none.
     ∷ example imperative "a" 8 0 1 1 0 0
     ∷ example imperative "[section [title A]]" 8 0 1 1 0 0
@@ -82,7 +82,7 @@ faults =
     ∷ example imperative "[document [title A]] [id x]" 8 21 1 22 0 0
     ∷ example imperative "[document [title A]] [section [title B]] [title C]" 8 41 1 42 0 0
     ∷ example imperative "[document [title A]] [section [title B]] [paragraph] [type t]" 8 53 1 54 0 0
-    ∷ example imperative "[document [title A]] [section [title B]] [paragraph] [list_ordered [item [paragraph]]]" 8 73 1 74 0 0
+    ∷ example imperative "[document [title A]] [section [title B]] [paragraph] [list-ordered [item [paragraph]]]" 8 73 1 74 0 0
     ∷ example imperative "[document [title A]] [section [title B]] [paragraph] hi [document [title C]]" 8 56 1 57 0 0
     -- 9: at the element, and not at what stands where the parameter is wanted; a loose title is no parameter.
     ∷ example nested "[document [id x] [title A]]" 9 0 1 1 0 0
@@ -92,7 +92,7 @@ faults =
     ∷ example nested "[document [title A] [section [title B] [paragraph [link x]]]]" 9 50 1 51 0 0
     ∷ example nested "[document [title A] [section [title B] [paragraph [image [size 1 2]]]]]" 9 50 1 51 0 0
     ∷ example nested "[document [title A] [section [title B] [paragraph [table [summary] [head]]]]]" 9 50 1 51 0 0
-    ∷ example nested "[document [title A] [section [title B] [paragraph [list_ordered [item [footnote_ref]]]]]]" 9 70 1 71 0 0
+    ∷ example nested "[document [title A] [section [title B] [paragraph [list-ordered [item [footnote-ref]]]]]]" 9 70 1 71 0 0
     ∷ example imperative "[document [id x]] [title A]" 9 0 1 1 0 0
     ∷ example imperative "[document [title A]] [section] [paragraph]" 9 21 1 22 0 0
     ∷ example imperative "[document [title A]] [section [title B]] [footnote [type t]] hi" 9 41 1 42 0 0
@@ -112,8 +112,8 @@ faults =
     ∷ example nested "[document [title A] [section [title B] [paragraph [image [target u] [size 00001 65535]]]]]" 0 0 1 1 8 3
     ∷ example nested "[document [title A] [section [title B] [paragraph [image [target é]]]]]" 10 57 1 58 0 0
     ∷ example nested "[document [title A] [section [title B] [paragraph [link [target a/b]]]]]" 10 56 1 57 0 0
-    ∷ example nested "[document [title A] [section [title B] [paragraph [link_ext [target a/b]]]]]" 0 0 1 1 8 5
-    ∷ example nested "[document [title A] [section [title B] [paragraph [footnote_ref [target \"a b\"]]]]]" 10 64 1 65 0 0
+    ∷ example nested "[document [title A] [section [title B] [paragraph [link-ext [target a/b]]]]]" 0 0 1 1 8 5
+    ∷ example nested "[document [title A] [section [title B] [paragraph [footnote-ref [target \"a b\"]]]]]" 10 64 1 65 0 0
     ∷ example imperative "[document [title A] [id é]] [section]" 10 20 1 21 0 0
     ∷ example imperative "[document [title A]] [section [title B] [type \"t\"]] hi" 10 40 1 41 0 0
     ∷ example imperative "[document [title A]] [section [title B]] [paragraph] [link [target a/b]]" 10 59 1 60 0 0
@@ -140,7 +140,7 @@ faults =
     ∷ example nested "[document [title A] [section [title B] [paragraph [table [summary] [head [name]] [body [row [cell]] [row] [row [cell] [cell]]]]]]]" 15 100 1 101 18 2
     ∷ example nested "[document [title A] [section [title B] [paragraph [table [summary] [head] [body [row [cell]]]]]]]" 15 80 1 81 13 2
     ∷ example nested "[document [title A] [section [title B] [paragraph [table [summary] [body [row [cell]] [row [cell] [cell]]]]]]]" 0 0 1 1 15 2
-    ∷ example nested "[document [title A] [section [title B] [paragraph [table [summary] [head [name]] [body [row [cell [list_ordered [item [table [summary] [body [row]]]]]]]]]]]]" 0 0 1 1 20 2
+    ∷ example nested "[document [title A] [section [title B] [paragraph [table [summary] [head [name]] [body [row [cell [list-ordered [item [table [summary] [body [row]]]]]]]]]]]]" 0 0 1 1 20 2
     ∷ example nested "[document [title A] [section [title B] [paragraph [table [summary] [head [name]] [body]] [table [summary] [body [row]]]]]]" 0 0 1 1 16 2
     ∷ example nested "[document [title A] [id x] [section [title B] [id x] [paragraph [table [summary] [head [name]] [body [row]]]]]]" 15 101 1 102 13 4
     ∷ example imperative "[document [title A]] [section [title B]] [paragraph] [table [summary] [head [name]] [body [row]]]" 15 90 1 91 13 2
@@ -154,12 +154,12 @@ faults =
     -- 17: the target may be on any block, a later one too, and on nothing else; ahead of 18.
     ∷ example nested "[document [title A] [section [title B] [paragraph [image [target x]] [link [target x]]]]]" 17 69 1 70 9 4
     ∷ example nested "[document [title A] [section [title B] [id x] [paragraph [link [target xy]] [link [target y]]]]]" 17 57 1 58 9 6
-    ∷ example nested "[document [title A] [section [title B] [paragraph [footnote_ref [target q]] [link [target q]]]]]" 17 76 1 77 9 4
-    ∷ example nested "[document [title A] [id d] [section [title B] [paragraph [link [target d]] [link [target f]] [link_ext [target q]]] [footnote [id f]]]]" 0 0 1 1 11 7
+    ∷ example nested "[document [title A] [section [title B] [paragraph [footnote-ref [target q]] [link [target q]]]]]" 17 76 1 77 9 4
+    ∷ example nested "[document [title A] [id d] [section [title B] [paragraph [link [target d]] [link [target f]] [link-ext [target q]]] [footnote [id f]]]]" 0 0 1 1 11 7
     ∷ example imperative "[document [title A]] [section [title B]] [paragraph [id p]] [link [target p]] [link [target q]]" 17 78 1 79 9 5
     -- 18: a block that is no footnote will not do.
-    ∷ example nested "[document [title A] [section [title B] [id s] [paragraph [footnote_ref [target s]]]]]" 18 57 1 58 8 4
-    ∷ example nested "[document [title A] [section [title B] [paragraph [footnote_ref [target f]] [footnote_ref [target g]]]]]" 18 50 1 51 9 4
-    ∷ example nested "[document [title A] [section [title B] [footnote [id f]] [paragraph [footnote_ref [target f]]]]]" 0 0 1 1 9 4
-    ∷ example imperative "[document [title A]] [section [title B]] [footnote [id f]] [paragraph [id p]] [footnote_ref [target f]] [footnote_ref [target p]]" 18 104 1 105 10 6
+    ∷ example nested "[document [title A] [section [title B] [id s] [paragraph [footnote-ref [target s]]]]]" 18 57 1 58 8 4
+    ∷ example nested "[document [title A] [section [title B] [paragraph [footnote-ref [target f]] [footnote-ref [target g]]]]]" 18 50 1 51 9 4
+    ∷ example nested "[document [title A] [section [title B] [footnote [id f]] [paragraph [footnote-ref [target f]]]]]" 0 0 1 1 9 4
+    ∷ example imperative "[document [title A]] [section [title B]] [footnote [id f]] [paragraph [id p]] [footnote-ref [target f]] [footnote-ref [target p]]" 18 104 1 105 10 6
     ∷ []

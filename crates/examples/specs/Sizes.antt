@@ -121,7 +121,7 @@ long_ids (n ∷ ns) =
 
 -- n lists in one another, each with one item.
 unfoldable pub lists : ℕ → List ℕ
-lists n = times n (utf8_of "[list_ordered [item ")
+lists n = times n (utf8_of "[list-ordered [item ")
 
 unfoldable pub closed : ℕ → List ℕ
 closed n = replicate n 0x5D
@@ -220,6 +220,6 @@ long_outputs =
     needs (paragraphs_table 100) 1243 1244
     ∷ fills_output (paragraphs_table 100) 1244 (utf8_of "[document [title \"A\"] [section [title \"B\"]" ++ times 100 (utf8_of " [paragraph]") ++ closed 2)
     ∷ needs levels_64 722 723
-    ∷ fills_output levels_64 723 (utf8_of "[document [title] [section [title] [paragraph " ++ lists 30 ++ utf8_of "[list_ordered]" ++ closed 63)
+    ∷ fills_output levels_64 723 (utf8_of "[document [title] [section [title] [paragraph " ++ lists 30 ++ utf8_of "[list-ordered]" ++ closed 63)
     ∷ no_table_of levels_65
     ∷ []

@@ -130,9 +130,9 @@ pub fn class_of(name: &[u8]) -> u8
         8 => words::of_8(name),
         9 => words::if_is(name, b"paragraph", Kind::PARAGRAPH.number),
         10 => words::if_is(name, b"subsection", Kind::SUBSECTION.number),
-        11 => words::if_is(name, b"formal_item", Kind::FORMAL_ITEM.number),
+        11 => words::if_is(name, b"formal-item", Kind::FORMAL_ITEM.number),
         12 => words::of_12(name),
-        14 => words::if_is(name, b"list_unordered", Kind::LIST_UNORDERED.number),
+        14 => words::if_is(name, b"list-unordered", Kind::LIST_UNORDERED.number),
         _ => 0,
     }
 }

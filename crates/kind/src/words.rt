@@ -81,7 +81,7 @@ pub fn of_8(name: &[u8]) -> u8
         b'd' => if_is(name, b"document", Kind::DOCUMENT.number),
         b'f' => if_is(name, b"footnote", Kind::FOOTNOTE.number),
         b'v' => if_is(name, b"verbatim", Kind::VERBATIM.number),
-        b'l' => if_is(name, b"link_ext", Kind::LINK_EXT.number),
+        b'l' => if_is(name, b"link-ext", Kind::LINK_EXT.number),
         _ => 0,
     }
 }
@@ -91,8 +91,8 @@ pub fn of_12(name: &[u8]) -> u8
     ensures { result ≡ class_of name.now }
 {
     match name[0] {
-        b'f' => if_is(name, b"footnote_ref", Kind::FOOTNOTE_REF.number),
-        b'l' => if_is(name, b"list_ordered", Kind::LIST_ORDERED.number),
+        b'f' => if_is(name, b"footnote-ref", Kind::FOOTNOTE_REF.number),
+        b'l' => if_is(name, b"list-ordered", Kind::LIST_ORDERED.number),
         _ => 0,
     }
 }

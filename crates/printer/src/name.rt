@@ -88,7 +88,7 @@ fn put_paragraph_name(out: &mut [u8], at: usize, class: usize) -> usize
 {
     match class {
         PARAGRAPH => put_bytes(out, at, b"paragraph"),
-        FORMAL_ITEM => put_bytes(out, at, b"formal_item"),
+        FORMAL_ITEM => put_bytes(out, at, b"formal-item"),
         FOOTNOTE => put_bytes(out, at, b"footnote"),
         TITLE => put_bytes(out, at, b"title"),
         _ => at,
@@ -105,8 +105,8 @@ fn put_inline_name(out: &mut [u8], at: usize, class: usize) -> usize
         IMAGE => put_bytes(out, at, b"image"),
         VERBATIM => put_bytes(out, at, b"verbatim"),
         LINK => put_bytes(out, at, b"link"),
-        LINK_EXT => put_bytes(out, at, b"link_ext"),
-        FOOTNOTE_REF => put_bytes(out, at, b"footnote_ref"),
+        LINK_EXT => put_bytes(out, at, b"link-ext"),
+        FOOTNOTE_REF => put_bytes(out, at, b"footnote-ref"),
         _ => at,
     }
 }
@@ -117,8 +117,8 @@ fn put_list_name(out: &mut [u8], at: usize, class: usize) -> usize
     ensures { Adds (name_of class) at out.old result out.new }
 {
     match class {
-        LIST_ORDERED => put_bytes(out, at, b"list_ordered"),
-        LIST_UNORDERED => put_bytes(out, at, b"list_unordered"),
+        LIST_ORDERED => put_bytes(out, at, b"list-ordered"),
+        LIST_UNORDERED => put_bytes(out, at, b"list-unordered"),
         ITEM => put_bytes(out, at, b"item"),
         TABLE => put_bytes(out, at, b"table"),
         _ => at,

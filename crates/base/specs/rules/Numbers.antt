@@ -73,7 +73,7 @@ repeated_id = 16
 abbrev pub unknown_target : ℕ
 unknown_target = 17
 
--- "footnote_ref target on no footnote"
+-- "footnote-ref target on no footnote"
 abbrev pub unknown_footnote : ℕ
 unknown_footnote = 18
 

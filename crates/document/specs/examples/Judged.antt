@@ -121,9 +121,9 @@ settlements =
     -- A letter that is not ASCII may not stand in an id.
     ∷ example nested "[document [title A] [id é]]" 10 20 1 21 0 0
     -- A URI has no space in it.
-    ∷ example nested "[document [title A] [section [title B] [paragraph [link_ext [target \"a b\"]]]]]" 10 60 1 61 0 0
+    ∷ example nested "[document [title A] [section [title B] [paragraph [link-ext [target \"a b\"]]]]]" 10 60 1 61 0 0
     -- A URI may have what an id may not.
-    ∷ example nested "[document [title A] [section [title B] [paragraph [link_ext [target \"http://a/?b=c\"]]]]]" 0 0 1 1 8 15
+    ∷ example nested "[document [title A] [section [title B] [paragraph [link-ext [target \"http://a/?b=c\"]]]]]" 0 0 1 1 8 15
     ∷ []
 
 -- The open points, by their number in docs/decisions/readings.md.
@@ -141,7 +141,7 @@ open_points =
     -- B8
     ∷ example nested "[document [title a\\nb]]" 0 0 1 1 3 4
     -- B9
-    ∷ example nested "[document [title A] [section [title B] [paragraph [footnote_ref [target a] (include \"x\")]]]]" 12 75 1 76 0 0
+    ∷ example nested "[document [title A] [section [title B] [paragraph [footnote-ref [target a] (include \"x\")]]]]" 12 75 1 76 0 0
     ∷ example nested "[document [title A] [section [title B] [paragraph [table [summary] [body] (include \"x\")]]]]" 12 74 1 75 0 0
     ∷ example nested "[document [title A] [section [title B] [paragraph [verbatim a (include \"x\")]]]]" 12 62 1 63 0 0
     -- B10
@@ -170,7 +170,7 @@ open_points =
     -- B19
     ∷ example imperative "[document]" 9 0 1 1 0 0
     -- B20
-    ∷ example nested "[document [title A] [section [title B] [paragraph [table [summary] [head [name]] [body [row [cell [list_ordered [item [table [summary] [head [name]] [body [row]]]]]]] [row]]]]]]" 15 155 1 156 23 2
+    ∷ example nested "[document [title A] [section [title B] [paragraph [table [summary] [head [name]] [body [row [cell [list-ordered [item [table [summary] [head [name]] [body [row]]]]]]] [row]]]]]]" 15 155 1 156 23 2
     -- B21
     ∷ example nested "[document [title A] [section [title B] [id x]] [section [title C] [id y]] [section [title D] [id x]]]" 16 74 1 75 12 7
     -- B28
@@ -224,11 +224,11 @@ printable =
     ++ utf8_of " [paragraph [image [target \"http://x\"] [size 7 65535] [type p] \"alt\"] [verbatim \"v\"]]]]")
     ∷ tidied imperative
     (utf8_of "[document [title A]] [part [title P]] [section [title B]] [subsection [title C]] [paragraph [id p]] hi [link"
-    ++ utf8_of " [target p] x] [footnote [id f]] n [formal_item [title F]] [footnote_ref [target f]] [list_unordered [item a]"
+    ++ utf8_of " [target p] x] [footnote [id f]] n [formal-item [title F]] [footnote-ref [target f]] [list-unordered [item a]"
     ++ utf8_of " [item]] [section [title D]] [paragraph] [table [summary s] [type t] [head [name N]] [body [row [cell 1]]]]")
     (utf8_of "[document [title \"A\"] [part [title \"P\"] [section [title \"B\"] [subsection [title \"C\"] [paragraph [id"
-    ++ utf8_of " p] \"hi\" [link [target \"p\"] \"x\"]] [footnote [id f] \"n\"] [formal_item [title \"F\"] [footnote_ref"
-    ++ utf8_of " [target \"f\"]] [list_unordered [item \"a\"] [item]]]]] [section [title \"D\"] [paragraph [table [summary"
+    ++ utf8_of " p] \"hi\" [link [target \"p\"] \"x\"]] [footnote [id f] \"n\"] [formal-item [title \"F\"] [footnote-ref"
+    ++ utf8_of " [target \"f\"]] [list-unordered [item \"a\"] [item]]]]] [section [title \"D\"] [paragraph [table [summary"
     ++ utf8_of " \"s\"] [type t] [head [name \"N\"]] [body [row [cell \"1\"]]]]]]]]")
     ∷ []
 

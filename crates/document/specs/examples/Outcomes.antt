@@ -87,7 +87,7 @@ table_and_list =
       pool = utf8_of "tSN1a";
     }
 
--- The kinds that are left: part, subsection, formal_item, footnote, term, verbatim, link_ext, footnote_ref, list_unordered.
+-- The kinds that are left: part, subsection, formal-item, footnote, term, verbatim, link-ext, footnote-ref, list-unordered.
 unfoldable pub two_spellings : Table
 two_spellings =
     record {
@@ -166,7 +166,7 @@ link_on_line_3 =
       pool = 0xC3 ∷ 0xA9 ∷ 0xC3 ∷ 0xA9 ∷ 0x78 ∷ [];
     }
 
--- a footnote_ref to a section.
+-- a footnote-ref to a section.
 unfoldable pub reference_to_a_section : Table
 reference_to_a_section =
     record {
@@ -194,20 +194,20 @@ outcomes =
     (0 ∷ 10 ∷ 17 ∷ 20 ∷ 29 ∷ 36 ∷ 46 ∷ 57 ∷ 105 ∷ 110 ∷ 128 ∷ 135 ∷ 152 ∷ 154 ∷ [])
     ∷ fills nested
     (utf8_of "[document [title] [section [title] [paragraph [table [summary S] [type t] [head [name N] [name]] [body [row"
-    ++ utf8_of " [cell 1] [cell [list_ordered [item \"a\"] [item]]]] [row [cell] [cell]]]]]]]")
+    ++ utf8_of " [cell 1] [cell [list-ordered [item \"a\"] [item]]]] [row [cell] [cell]]]]]]]")
     0 0 1 1 24 5 table_and_list
     (0 ∷ 10 ∷ 18 ∷ 27 ∷ 35 ∷ 46 ∷ 53 ∷ 62 ∷ 74 ∷ 80 ∷ 86 ∷ 89 ∷ 97 ∷ 103 ∷ 108 ∷ 114 ∷ 117 ∷ 123 ∷ 137 ∷ 143 ∷ 148 ∷ 158 ∷ 163 ∷ 170 ∷ [])
     -- One document in both spellings: the same table, other places.
     ∷ fills nested
     (utf8_of "[document [title A] [part [title] [section [title B] [subsection [title C] [type c] [id s] [footnote [id f]"
-    ++ utf8_of " [term [type t] x] [verbatim v]] [formal_item [title F] [footnote_ref [target f]] [link_ext [target u:/]]"
-    ++ utf8_of " [list_unordered [item]]]] [subsection [title]]]]]")
+    ++ utf8_of " [term [type t] x] [verbatim v]] [formal-item [title F] [footnote-ref [target f]] [link-ext [target u:/]]"
+    ++ utf8_of " [list-unordered [item]]]] [subsection [title]]]]]")
     0 0 1 1 25 14 two_spellings
     (0 ∷ 10 ∷ 17 ∷ 20 ∷ 26 ∷ 34 ∷ 43 ∷ 50 ∷ 53 ∷ 65 ∷ 72 ∷ 91 ∷ 108 ∷ 123 ∷ 126 ∷ 136 ∷ 140 ∷ 153 ∷ 160 ∷ 163 ∷ 189 ∷ 213 ∷ 229 ∷ 239 ∷ 251 ∷ [])
     ∷ fills imperative
     (utf8_of "[document [title A]] [part [title]] [section [title B]] [subsection [title C] [id s] [type c]] [footnote [id"
-    ++ utf8_of " \"f\"]] [term [type t] \"\\u0078\"] [verbatim v] [formal_item [title F]] [footnote_ref [target f]] [link_ext"
-    ++ utf8_of " [target \"u:/\"]] [list_unordered [item]] [subsection [title]]")
+    ++ utf8_of " \"f\"]] [term [type t] \"\\u0078\"] [verbatim v] [formal-item [title F]] [footnote-ref [target f]] [link-ext"
+    ++ utf8_of " [target \"u:/\"]] [list-unordered [item]] [subsection [title]]")
     0 0 1 1 25 14 two_spellings
     (0 ∷ 10 ∷ 17 ∷ 21 ∷ 27 ∷ 36 ∷ 45 ∷ 52 ∷ 56 ∷ 68 ∷ 75 ∷ 95 ∷ 115 ∷ 130 ∷ 140 ∷ 150 ∷ 153 ∷ 166 ∷ 173 ∷ 177 ∷ 203 ∷ 229 ∷ 245 ∷ 253 ∷ 265 ∷ [])
     -- 15 to 18.
@@ -215,7 +215,7 @@ outcomes =
     (0 ∷ 10 ∷ 18 ∷ 27 ∷ 35 ∷ 46 ∷ 53 ∷ 63 ∷ 69 ∷ 77 ∷ 83 ∷ [])
     ∷ fills imperative (utf8_of "[document [title]] [section [title] [id x]] [paragraph [id x]] hi") 16 44 1 45 6 4 id_again (0 ∷ 10 ∷ 19 ∷ 28 ∷ 44 ∷ 63 ∷ [])
     ∷ fills nested (utf8_of "[document\r\n[title é]\n\t[section [title] [paragraph é [link [target x]]]]]") 17 54 3 32 8 5 link_on_line_3 (0 ∷ 11 ∷ 18 ∷ 23 ∷ 32 ∷ 40 ∷ 51 ∷ 54 ∷ [])
-    ∷ fills nested (utf8_of "[document [title A] [section [title B] [id s] [paragraph [footnote_ref [target s]]]]]") 18 57 1 58 8 4 reference_to_a_section (0 ∷ 10 ∷ 17 ∷ 20 ∷ 29 ∷ 36 ∷ 46 ∷ 57 ∷ [])
+    ∷ fills nested (utf8_of "[document [title A] [section [title B] [id s] [paragraph [footnote-ref [target s]]]]]") 18 57 1 58 8 4 reference_to_a_section (0 ∷ 10 ∷ 17 ∷ 20 ∷ 29 ∷ 36 ∷ 46 ∷ 57 ∷ [])
     -- Refusals that the judged examples have not: 2, 3, 6, 10 and 12, and 4 at an escape.
     ∷ refused_as nested (utf8_of "[document [title " ++ (0xC0 ∷ 0x80 ∷ []) ++ utf8_of "]]") 2 17 1 18
     ∷ refused_as imperative (utf8_of "[document [title A]]\r") 3 20 1 21
@@ -238,5 +238,5 @@ drafts =
     ∷ fills nested (utf8_of "[document [title A] [id x] [section [title B] [id x]]]") 0 0 1 1 6 4 same_id_twice (0 ∷ 10 ∷ 17 ∷ 27 ∷ 36 ∷ 43 ∷ [])
     ∷ fills imperative (utf8_of "[document [title]] [section [title] [id x]] [paragraph [id x]] hi") 0 0 1 1 6 4 id_again (0 ∷ 10 ∷ 19 ∷ 28 ∷ 44 ∷ 63 ∷ [])
     ∷ fills nested (utf8_of "[document\r\n[title é]\n\t[section [title] [paragraph é [link [target x]]]]]") 0 0 1 1 8 5 link_on_line_3 (0 ∷ 11 ∷ 18 ∷ 23 ∷ 32 ∷ 40 ∷ 51 ∷ 54 ∷ [])
-    ∷ fills nested (utf8_of "[document [title A] [section [title B] [id s] [paragraph [footnote_ref [target s]]]]]") 0 0 1 1 8 4 reference_to_a_section (0 ∷ 10 ∷ 17 ∷ 20 ∷ 29 ∷ 36 ∷ 46 ∷ 57 ∷ [])
+    ∷ fills nested (utf8_of "[document [title A] [section [title B] [id s] [paragraph [footnote-ref [target s]]]]]") 0 0 1 1 8 4 reference_to_a_section (0 ∷ 10 ∷ 17 ∷ 20 ∷ 29 ∷ 36 ∷ 46 ∷ 57 ∷ [])
     ∷ []

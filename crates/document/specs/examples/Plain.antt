@@ -10,10 +10,10 @@ use Rattle.elements.specs.examples.PlainCharacters.{of_id, of_uri}
 use Rattle.document.specs.rules.Value.{is_value, is_size, decimal_after, is_decimal}
 use Rattle.document.specs.rules.Canonical.{byte_before}
 
--- "ids and the targets of link and footnote_ref": these name a block.
+-- "ids and the targets of link and footnote-ref": these name a block.
 unfoldable pub naming_blocks : List ℕ
 unfolding numbers
-naming_blocks = numbers "link footnote_ref"
+naming_blocks = numbers "link footnote-ref"
 
 -- The elements with a target, and the characters that it may have.
 pub record Target : Type 0 where
@@ -23,8 +23,8 @@ pub record Target : Type 0 where
 unfoldable pub targets : List Target
 unfolding numbers codes of_id of_uri
 targets =
-    record { kinds = numbers "link footnote_ref"; characters = codes of_id }
-    ∷ record { kinds = numbers "image link_ext"; characters = codes of_uri }
+    record { kinds = numbers "link footnote-ref"; characters = codes of_id }
+    ∷ record { kinds = numbers "image link-ext"; characters = codes of_uri }
     ∷ []
 
 -- "(id t) and (target t) hold one text"
@@ -64,11 +64,11 @@ values =
     ∷ may "link" "target" "-.a"
     ∷ may_not "link" "target" ""
     ∷ may_not "link" "target" "a/b"
-    ∷ may "footnote_ref" "target" "a-1"
-    ∷ may_not "footnote_ref" "target" "a:1"
-    ∷ may "link_ext" "target" "http://a/?b=[c]~"
-    ∷ may_not "link_ext" "target" ""
-    ∷ may_not "link_ext" "target" "a b"
+    ∷ may "footnote-ref" "target" "a-1"
+    ∷ may_not "footnote-ref" "target" "a:1"
+    ∷ may "link-ext" "target" "http://a/?b=[c]~"
+    ∷ may_not "link-ext" "target" ""
+    ∷ may_not "link-ext" "target" "a b"
     ∷ may "image" "target" "!a/b.png"
     ∷ may_not "image" "target" "a\u{7f}"
     ∷ may_not "image" "target" "é"

@@ -102,12 +102,12 @@ prints =
     ∷ needs table_and_list 187 188
     ∷ spells_bytes table_and_list 188 188
     (utf8_of "[document [title] [section [title] [paragraph [table [summary \"S\"] [type t] [head [name \"N\"] [name]]"
-    ++ utf8_of " [body [row [cell \"1\"] [cell [list_ordered [item \"a\"] [item]]]] [row [cell] [cell]]]]]]]")
+    ++ utf8_of " [body [row [cell \"1\"] [cell [list-ordered [item \"a\"] [item]]]] [row [cell] [cell]]]]]]]")
     ∷ needs two_spellings 277 278
     ∷ spells_bytes two_spellings 280 278
     (utf8_of "[document [title \"A\"] [part [title] [section [title \"B\"] [subsection [title \"C\"] [id s] [type c]"
-    ++ utf8_of " [footnote [id f] [term [type t] \"x\"] [verbatim \"v\"]] [formal_item [title \"F\"] [footnote_ref [target"
-    ++ utf8_of " \"f\"]] [link_ext [target \"u:/\"]] [list_unordered [item]]]] [subsection [title]]]]]")
+    ++ utf8_of " [footnote [id f] [term [type t] \"x\"] [verbatim \"v\"]] [formal-item [title \"F\"] [footnote-ref [target"
+    ++ utf8_of " \"f\"]] [link-ext [target \"u:/\"]] [list-unordered [item]]]] [subsection [title]]]]]")
     -- Words and pool beyond the counts are not looked at.
     ∷ record {
       words = joined titled_A.rows ++ (5 ∷ 6 ∷ []);
@@ -155,5 +155,5 @@ prints =
     ∷ spells same_id_twice 60 58 "[document [title \"A\"] [id x] [section [title \"B\"] [id x]]]"
     ∷ needs link_to_nowhere 75 76
     ∷ spells link_to_nowhere 80 76 "[document [title \"A\"] [section [title \"B\"] [paragraph [link [target \"x\"]]]]]"
-    ∷ spells reference_to_a_section 100 91 "[document [title \"A\"] [section [title \"B\"] [id s] [paragraph [footnote_ref [target \"s\"]]]]]"
+    ∷ spells reference_to_a_section 100 91 "[document [title \"A\"] [section [title \"B\"] [id s] [paragraph [footnote-ref [target \"s\"]]]]]"
     ∷ []

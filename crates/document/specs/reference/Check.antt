@@ -93,7 +93,7 @@ found_unknown_target k ids (e ∷ es) =
 unfoldable pub found_unknown_link : List Entry → First
 found_unknown_link es = found_unknown_target Class.link (ids_where Class.is_block es) es
 
--- 18, "footnote_ref target on no footnote"
+-- 18, "footnote-ref target on no footnote"
 unfoldable pub found_unknown_footnote : List Entry → First
 found_unknown_footnote es = found_unknown_target Class.footnote_ref (ids_where (eqb Class.footnote) es) es
 

@@ -63,7 +63,7 @@ unfoldable pub LinksFound : Node → Type 0
 LinksFound d =
     (e : Entry) → Memᴰ e (entries 0 d) → e.kind ≡ Class.link → (b : Entry) × HasIdAmong (entries 0 d) e.key b
 
--- The target of every footnote_ref is the id of a footnote.
+-- The target of every footnote-ref is the id of a footnote.
 unfoldable pub RefsFound : Node → Type 0
 RefsFound d =
     (e : Entry) → Memᴰ e (entries 0 d) → e.kind ≡ Class.footnote_ref

@@ -11,7 +11,7 @@ unfoldable pub every : (ℕ → Bool) → List ℕ → Bool
 every p [] = true
 every p (x ∷ xs) = p x && every p xs
 
--- The targets of link and footnote_ref name a block; those of image and link_ext are URIs.
+-- The targets of link and footnote-ref name a block; those of image and link-ext are URIs.
 unfoldable pub names_block : ℕ → Bool
 names_block k = eqb k Class.link || eqb k Class.footnote_ref
 

@@ -50,7 +50,7 @@ pub record UnknownLink (d : Node) (i : ℕ) : Type 0 where
   pub is_link : NodeAt d i Class.link link
   pub on_none : (j : ℕ) (b : Visit) → HasId d (node_key link.visited) j b → ⊥
 
--- 18, "footnote_ref target on no footnote"
+-- 18, "footnote-ref target on no footnote"
 pub record UnknownFootnote (d : Node) (i : ℕ) : Type 0 where
   pub reference : Visit
   pub is_reference : NodeAt d i Class.footnote_ref reference

@@ -10,7 +10,7 @@ of_digit = "0123456789"
 unfoldable pub of_type : String
 of_type = "ABCDEFGHIJKLMNOPQRSTUVWXYZabcdefghijklmnopqrstuvwxyz0123456789_"
 
--- "ids and the targets of link and footnote_ref add `-` and `.`"
+-- "ids and the targets of link and footnote-ref add `-` and `.`"
 unfoldable pub of_id : String
 of_id = "ABCDEFGHIJKLMNOPQRSTUVWXYZabcdefghijklmnopqrstuvwxyz0123456789_-."
 

@@ -19,14 +19,14 @@ pub data Line : Type 0 where
 
 -- "Inline is text and kinds 10 to 17 and 19."
 abbrev inline : String
-inline = "text term image verbatim link link_ext footnote_ref list_ordered list_unordered table"
+inline = "text term image verbatim link link-ext footnote-ref list-ordered list-unordered table"
 
 -- "inline but no table"
 abbrev without_table : String
-without_table = "text term image verbatim link link_ext footnote_ref list_ordered list_unordered"
+without_table = "text term image verbatim link link-ext footnote-ref list-ordered list-unordered"
 
 abbrev blocks : String
-blocks = "paragraph formal_item footnote"
+blocks = "paragraph formal-item footnote"
 
 unfoldable pub lines : List Line
 lines =
@@ -49,11 +49,11 @@ lines =
     ∷ holds "part" "title" "section" "section" ""
     -- section | title, id?/type? | subsections only, or paragraphs, formal items and footnotes
     ∷ needs "section" "" "title"
-    ∷ takes "section" "title" "id type" "subsection paragraph formal_item footnote"
-    ∷ takes "section" "title id" "type" "subsection paragraph formal_item footnote"
-    ∷ takes "section" "title type" "id" "subsection paragraph formal_item footnote"
-    ∷ takes "section" "title id type" "" "subsection paragraph formal_item footnote"
-    ∷ takes "section" "title type id" "" "subsection paragraph formal_item footnote"
+    ∷ takes "section" "title" "id type" "subsection paragraph formal-item footnote"
+    ∷ takes "section" "title id" "type" "subsection paragraph formal-item footnote"
+    ∷ takes "section" "title type" "id" "subsection paragraph formal-item footnote"
+    ∷ takes "section" "title id type" "" "subsection paragraph formal-item footnote"
+    ∷ takes "section" "title type id" "" "subsection paragraph formal-item footnote"
     ∷ holds "section" "title" "subsection" "subsection" blocks
     ∷ holds "section" "title" blocks blocks "subsection"
     -- subsection | title, id?/type? | paragraphs, formal items, footnotes
@@ -64,14 +64,14 @@ lines =
     ∷ takes "subsection" "title id type" "" blocks
     ∷ takes "subsection" "title type id" "" blocks
     ∷ holds "subsection" "title" blocks blocks ""
-    -- formal_item | title, id?/type? | inline
-    ∷ needs "formal_item" "" "title"
-    ∷ takes "formal_item" "title" "id type" inline
-    ∷ takes "formal_item" "title id" "type" inline
-    ∷ takes "formal_item" "title type" "id" inline
-    ∷ takes "formal_item" "title id type" "" inline
-    ∷ takes "formal_item" "title type id" "" inline
-    ∷ holds "formal_item" "title" inline inline ""
+    -- formal-item | title, id?/type? | inline
+    ∷ needs "formal-item" "" "title"
+    ∷ takes "formal-item" "title" "id type" inline
+    ∷ takes "formal-item" "title id" "type" inline
+    ∷ takes "formal-item" "title type" "id" inline
+    ∷ takes "formal-item" "title id type" "" inline
+    ∷ takes "formal-item" "title type id" "" inline
+    ∷ holds "formal-item" "title" inline inline ""
     -- paragraph | id?/type? | inline
     ∷ takes "paragraph" "" "id type" inline
     ∷ takes "paragraph" "id" "type" inline
@@ -99,16 +99,16 @@ lines =
     ∷ lacks "verbatim" "" "type" "text"
     ∷ lacks "verbatim" "type" "" "text"
     ∷ holds "verbatim" "" "text" "" ""
-    -- link, link_ext | target | text, images
-    ∷ needs "link link_ext" "" "target"
-    ∷ takes "link link_ext" "target" "" "text image"
-    ∷ holds "link link_ext" "target" "text image" "text image" ""
-    -- footnote_ref | target | none
-    ∷ needs "footnote_ref" "" "target"
-    ∷ takes "footnote_ref" "target" "" ""
-    -- list_ordered, list_unordered | none | items
-    ∷ takes "list_ordered list_unordered" "" "" "item"
-    ∷ holds "list_ordered list_unordered" "" "item" "item" ""
+    -- link, link-ext | target | text, images
+    ∷ needs "link link-ext" "" "target"
+    ∷ takes "link link-ext" "target" "" "text image"
+    ∷ holds "link link-ext" "target" "text image" "text image" ""
+    -- footnote-ref | target | none
+    ∷ needs "footnote-ref" "" "target"
+    ∷ takes "footnote-ref" "target" "" ""
+    -- list-ordered, list-unordered | none | items
+    ∷ takes "list-ordered list-unordered" "" "" "item"
+    ∷ holds "list-ordered list-unordered" "" "item" "item" ""
     -- item; cell | none | inline; inline but no table
     ∷ takes "item" "" "" inline
     ∷ holds "item" "" inline inline ""

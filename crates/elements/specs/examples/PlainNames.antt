@@ -25,8 +25,8 @@ words s = split (codes s)
 unfoldable pub in_order : List (List ℕ)
 unfolding words
 in_order =
-    words "document part section subsection paragraph formal_item footnote title text term image verbatim link link_ext footnote_ref"
-    ++ words "list_ordered list_unordered item table summary head name body row cell id type target size include import"
+    words "document part section subsection paragraph formal-item footnote title text term image verbatim link link-ext footnote-ref"
+    ++ words "list-ordered list-unordered item table summary head name body row cell id type target size include import"
 
 unfoldable pub place_in : List (List ℕ) → ℕ → List ℕ → ℕ
 unfolding same
@@ -63,12 +63,12 @@ unfoldable pub endings : List ℕ → List (List ℕ)
 endings [] = []
 endings (c ∷ w) = w ∷ endings w
 
--- The names that other names begin with, in the order of the longer ones: link_ext, footnote_ref.
+-- The names that other names begin with, in the order of the longer ones: link-ext, footnote-ref.
 unfoldable pub beginning : List ℕ
 unfolding numbers
 beginning = numbers "link footnote"
 
--- The names that other names end with, in the order of the longer ones: subsection, formal_item.
+-- The names that other names end with, in the order of the longer ones: subsection, formal-item.
 unfoldable pub ending : List ℕ
 unfolding numbers
 ending = numbers "section item"

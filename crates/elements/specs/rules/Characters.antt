@@ -12,7 +12,7 @@ is_letter b = (leb 0x41 b && leb b 0x5A) || (leb 0x61 b && leb b 0x7A)
 unfoldable pub type_character : ℕ → Bool
 type_character b = is_letter b || is_digit b || eqb b 0x5F
 
--- "ids and the targets of link and footnote_ref add `-` and `.`"
+-- "ids and the targets of link and footnote-ref add `-` and `.`"
 unfoldable pub id_character : ℕ → Bool
 id_character b = type_character b || eqb b 0x2D || eqb b 0x2E
 
