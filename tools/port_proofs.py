@@ -72,7 +72,10 @@ def rewrite_body(body,e,placeidx,var='c'):
             k+=1
         rest=parts[k:]
         if not rest:
-            return ('\0%d'%i)
+            if full==var: return full
+            chain=[];q=placeidx
+            while q is not None: chain.append(q); q=parents(q)
+            return var+'.before'*(chain.index(i) if i in chain else 0)
         f=rest[0]
         if f in('args','requires','ranges','well-formed','well_formed','utf8'):
             return '.'.join([var,f.replace('-','_')]+rest[1:])
@@ -82,6 +85,7 @@ def rewrite_body(body,e,placeidx,var='c'):
         want=chain.index(i) if i in chain else 0
         fn=norm(re.sub(r'^Is','',f).lower() if f.startswith('Is') else f)
         hits=[(abs(chain.index(q)-want),q) for q in chain if norm(pl[q][2][0])==fn]
+        if not hits: hits=[(abs(chain.index(q)-want),q) for q in chain if norm(pl[q][2][0])==re.sub(r'-lem$','',fn)]
         if hits:
             q=min(hits)[1]
             rest2=fix_new(rest[1:],pl[q][3],e)
@@ -156,6 +160,9 @@ def imports_used(uselines,body):
                 x=x.strip()
                 nm=x.split(' as ')[-1].strip()
                 ps=[p for p in nm.split('◌') if p]
+                if nm=='[]':
+                    if '[]' in body: keep.append(x)
+                    continue
                 if all(any(p==t or (not p[0].isalnum() and p in t) for t in toks) for p in ps): keep.append(x)
             if keep: out.append(f"use {m[1]}.{{{', '.join(keep)}}}")
         else:
@@ -196,7 +203,25 @@ def convert(path):
             if not defs and all(x.startswith('--') for x in rest): head+=rest
             else: defs.append('\n'.join(rest))
     uses=[u for u in uses if not re.search(r"\.Statement\.\{|\.Tie\b|\.Lts\b|\.Lts-|\.Reads as|\.Kinds as|borrow\.Fn\.(Kinds|PlainCycle)|\+[\w-]*\.\{statement\}",u)]
-    inv=[];ans=[];other=[];allnotes=[]
+    inv=[];ans=[];other=[];allnotes=[];helpers=[]
+    def unhelp(b,hs):
+        for h in hs:
+            b=re.sub(r"(?<![\w.'-])"+re.escape(h[0])+r"\s+c(?:\.before)*(?![\w.'-])",h[0],b)
+            b=b.replace('('+h[0]+')',h[0])
+        return b
+    def inlined(b,unf):
+        b=unhelp(b,helpers)
+        need=[]
+        def add(t):
+            for h in helpers:
+                if re.search(r"(?<![\w.'-])"+re.escape(h[0])+r"(?![\w'-])",t) and h not in need:
+                    add(h[1]+' '+h[2]); need.append(h)
+        add(b)
+        us=set(unf.split()[1:]) if unf else set()
+        for h in need:
+            us|=set(h[3].split()[1:])
+        pre=''.join(f"\n    let {n} : ({t}) = ({d}) in" for n,t,d,_ in need)
+        return (pre+'\n    '+b.strip() if pre else b), ('unfolding '+' '.join(sorted(us))+'\n' if us else '')
     def entry(fn):
         if not cyc: return J[keys[0]]
         for k in keys:
@@ -220,6 +245,22 @@ def convert(path):
             other.append(d); allnotes.append('unparsed: '+code[:60]); continue
         ab,pub,dn,ty,unf,body=m.groups()
         # which function
+        ml=re.search(r"\(c : (?:tie|[\w-]+-lts)\.([\w'-]+)[^()]*\)",ty)
+        if ml and not re.search(r"(?:tie|[\w-]+-lts)\.(invariant|decreases|Need)-",ty.split('→')[0]):
+            k=keys[0]
+            if cyc:
+                owner=re.search(r"\(c : ([\w-]+)-lts\.",ty)
+                k=prefixes.get(owner[1].replace('_','-')) if owner else k
+            e=J[k]
+            i=next((i for i,p in enumerate(e['places']) if norm(p[0])==norm(ml[1])),None)
+            mdef=re.match(re.escape(dn)+r"\s*(.*?)\s*=(?!=)\s*(.*)$",body,re.S)
+            if i is not None and mdef:
+                ty2=ty[ty.index(ml[0])+len(ml[0]):].strip()
+                ty2=re.sub(r"^→\s*","",ty2)
+                ty2,n1=rewrite_body(ty2,e,i,'c')
+                b2,n2=rewrite_body(mdef[2],e,i,'c'); allnotes+=n1+n2
+                helpers.append((dn,unhelp(ty2,helpers),unhelp(b2,helpers),unf))
+                continue
         mk=re.search(r"(?:tie|[\w-]+-lts)\.(invariant|decreases|Need)-([\w'-]+)",ty)
         mm=re.search(r": Measures \d+ ",': '+ty)
         if mk:
@@ -276,6 +317,7 @@ def convert(path):
                 extra=[x for x in ps[1:] if x!='κs']
                 newname=nn if not (cyc and len(keys)>1) else f"{fnname}-{nn}"
                 done.add((k,ni))
+                b,unf=inlined(b,unf)
                 lhs=' '.join(([ 't'] if cyc else [])+[v]+extra)
                 ans.append((comment,f"pub {newname} : goal.{newname}\n{unf}{newname} {lhs} ={' ' if not b.startswith(chr(10)) else ''}{b}",dn))
         elif mm:

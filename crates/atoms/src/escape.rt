@@ -3,7 +3,7 @@ ghost use Rattle.std.specs.Prelude.{◌≡◌, cond, ◌&&◌, ◌+◌, ◌*◌,
 ghost use Rattle.syntax.specs.rules.Syntax.{is_hex, hex_digit, hex_value, is_piece, number};
 
 // An escape by number: whether it is one, and its value, which is 0 where it is none.
-#[derive(Drop)]
+#[derive(Clone, Copy)]
 pub struct Escape {
     pub good: bool,
     pub value: u32,

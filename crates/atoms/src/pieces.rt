@@ -10,7 +10,7 @@ use characters::byte_at;
 
 // The piece at a place: the place after it, and the one to three bytes that it stands for. Where no piece
 // stands, which is at a quote and at a backslash that begins no escape, the place itself and no bytes.
-#[derive(Drop)]
+#[derive(Clone, Copy)]
 pub struct PieceSeen {
     pub next: usize,
     pub size: usize,

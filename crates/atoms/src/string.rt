@@ -10,7 +10,7 @@ use characters::byte_at;
 
 // The string at a place: number 0, the place after its closing quote and the length of what it stands
 // for; or number 4 and the place of the fault.
-#[derive(Drop)]
+#[derive(Clone, Copy)]
 pub struct StringEnd {
     pub number: u32,
     pub place: usize,

@@ -18,7 +18,11 @@ pub takes_contents : {s : ℕ} {es content rest : Exprs} (blocks : List ℕ) →
     → contents_of (s ∷ blocks) es ≡ content ∷ contents_of blocks rest
 unfolding contents_of opened still_open child_of at_innermost
 takes_contents blocks at_end = refl
-takes_contents blocks (at_command {s = s} {x = x} c h) = rw (c, le-leb s (Class.significance (expr_class x)) h)
+takes_contents blocks (at_command {s = s} {x = x} c h) =
+    let t = Class.significance (expr_class x) in
+    let l : leb s t ≡ true = le-leb s t h in
+    let o : still_open t (s ∷ blocks) ≡ still_open t blocks = rw l in
+    cc
 takes_contents blocks (expression {s = s} c t) = rw (c, takes_contents blocks t)
 takes_contents blocks (a_block {s = s} {x = x} c h t u) =
     rw (c, lt-leb s (Class.significance (expr_class x)) h, takes_contents (s ∷ blocks) t, takes_contents blocks u)

@@ -47,6 +47,8 @@ mutual
 
   all_written_levels : (ts : Trees) (es : Exprs) → WritesAll ts es → most_levels_in ts ≤ depth_all es
   all_written_levels empty none writes_none = omega arith
+  all_written_levels empty (and e es) ws = elim ws [ ]
+  all_written_levels (holds t ts) none ws = elim ws [ ]
   all_written_levels (holds t ts) (and e es) (writes_and w ws) = omega (arith, written_levels t e w, all_written_levels ts es ws)
 
 -- The canonical spelling of a document that a text within the limits spells nests within 64 levels.

@@ -105,12 +105,12 @@ alternatives_apart k = each_kind row_apart tt k tt
 -- The alternative that a first child chooses is one of the content's, and has it.
 chosen_is : {t : Content} {c : ℕ} {ks : List ℕ} → Chooses c t ks → Memᴰ ks (alternatives_of t) × T (among c ks)
 unfolding alternatives_of among
-chosen_is (Chooses.one_of_lem m a) = (m, a)
+chosen_is (Chooses.one_of m a) = (m, a)
 chosen_is {c} Chooses.the_one = (Memᴰ.head refl, or_left (eqb c c) false (eqb_refl c))
 
 is_chosen : (t : Content) (c : ℕ) {ks : List ℕ} → Memᴰ ks (alternatives_of t) → T (among c ks) → Chooses c t ks
 unfolding alternatives_of among
-is_chosen (alternatives kss) c m a = Chooses.one_of_lem m a
+is_chosen (alternatives kss) c m a = Chooses.one_of m a
 is_chosen (exactly_one k) c {ks} m a =
     let only : ks ≡ k ∷ [] = Memᴰ.eq_of_singleton m in
     let same : c ≡ k = ⊎_elim (eqb→eq c k) (λ f. absurd f) (or_true (eqb c k) false (rw only at a)) in
@@ -118,7 +118,7 @@ is_chosen (exactly_one k) c {ks} m a =
 
 first_allowed : {t : Content} {c : ℕ} {ps : List Slot} → Allowed c t (due ps) → T (some_has (alternatives_of t) c)
 unfolding alternatives_of some_has among
-first_allowed {c} (Allowed.one_of_lem m a) = some_has_lem c m a
+first_allowed {c} (Allowed.one_of m a) = some_has_lem c m a
 first_allowed {c} Allowed.the_one = or_left (eqb c c || false) false (or_left (eqb c c) false (eqb_refl c))
 
 -- The test of what may follow a first child.
@@ -127,10 +127,10 @@ may_follow (alternatives kss) c = some_has kss c
 may_follow (exactly_one k) c = false
 
 allowed_test : {t : Content} {c : ℕ} {ks : List ℕ} → Allowed c t (children ks) → T (may_follow t c)
-allowed_test {c} (Allowed.one_of_lem m a) = some_has_lem c m a
+allowed_test {c} (Allowed.one_of m a) = some_has_lem c m a
 
 test_allowed : (t : Content) (c : ℕ) {ks : List ℕ} → T (may_follow t c) → Allowed c t (children ks)
-test_allowed (alternatives kss) c a = let (hs, m, h) = one_has c kss a in Allowed.one_of_lem m h
+test_allowed (alternatives kss) c a = let (hs, m, h) = one_has c kss a in Allowed.one_of m h
 test_allowed (exactly_one k) c a = absurd a
 
 same_sort : {c : ℕ} {ks : List ℕ} → SameSort c (children ks) → T (among c ks)

@@ -4,7 +4,7 @@ use mathlib.Core.Path.{◌≡◌, refl, ap, ◌∙◌}
 use mathlib.Core.Bool.{true, false, cond}
 use mathlib.Core.List.{List, [], ◌∷◌}
 use native.Mathlib.Omega.{arith}
-use lib.Dec.{T, eqb}
+use lib.Dec.{T, eqb, leb}
 use borrow.Author.Tests.{le-leb, lt-leb}
 use Rattle.base.proofs.Booleans.{bool_case, true_T, T_true}
 use Rattle.elements.specs.rules.Bytes.{among}
@@ -34,7 +34,11 @@ ends_lesser s t (and e es) l h = (h.0, let m : s ≤ Class.significance (expr_cl
 ended_empty : (s : ℕ) (blocks : List ℕ) (r : Exprs) → EndsBlock s r → contents_of (s ∷ blocks) r ≡ none ∷ contents_of blocks r
 unfolding EndsBlock contents_of opened still_open
 ended_empty s blocks none h = refl
-ended_empty s blocks (and e es) h = rw (h.0, le-leb s (Class.significance (expr_class e)) h.1)
+ended_empty s blocks (and e es) h =
+    let t = Class.significance (expr_class e) in
+    let l : leb s t ≡ true = le-leb s t h.1 in
+    let o : still_open t (s ∷ blocks) ≡ still_open t blocks = rw l in
+    cc
 
 -- A command in the content of a block of greater significance opens a child there.
 open_child : (s : ℕ) (blocks : List ℕ) (e : Expr) (es : Exprs) → is_command e ≡ true → Class.significance (expr_class e) < s

@@ -87,6 +87,8 @@ mutual
 
   all_places_lem : (k : ℕ) (ts : Trees) (es : Exprs) (ws : WritesAll ts es) → Kept k ts → places_of_all ts es ws ≡ all_places es
   all_places_lem k empty none writes_none h = refl
+  all_places_lem k empty (and e es) ws h = elim ws [ ]
+  all_places_lem k (holds t ts) none ws h = elim ws [ ]
   all_places_lem k (holds t ts) (and e es) (writes_and w ws) h = rw (written_places k t e w h.0, all_places_lem k ts es ws h.1)
 
 -- ---- a block: from the nested expression to the run
@@ -94,6 +96,8 @@ mutual
 written_parameters : (k : ℕ) (ts : Trees) (es : Exprs) → Kept k ts → WritesAll ts es → WritesAll (parameters_of ts) (parameters es)
 unfolding parameters_of parameters
 written_parameters k empty none h writes_none = writes_none
+written_parameters k empty (and e es) h ws = elim ws [ ]
+written_parameters k (holds t ts) none h ws = elim ws [ ]
 written_parameters k (holds t ts) (and e es) h (writes_and w ws) =
     rw (written_class k t e w h.0) (go (is_block_parameter (tree_class t)) (written_parameters k ts es h.1 ws))
   where
@@ -243,6 +247,8 @@ mutual
 
   content_flat : (k : ℕ) (ts : Trees) (es rest : Exprs) → Kept k ts → WritesAll ts es → FlatAll (content_of ts) (join (flatten_content es) rest) rest
   content_flat k empty none rest h writes_none = flat_none
+  content_flat k empty (and e es) rest h ws = elim ws [ ]
+  content_flat k (holds t ts) none rest h ws = elim ws [ ]
   content_flat k (holds t ts) (and e es) rest h (writes_and w ws) =
       rw (written_class k t e w h.0)
       (cond_flat (is_block_parameter (tree_class t)) (nested_flat k t e (join (flatten_content es) rest) h.0 w) (content_flat k ts es rest h.1 ws))

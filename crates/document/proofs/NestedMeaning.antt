@@ -208,6 +208,8 @@ mutual
   pub run_complete : (at k : ℕ) (s : State) (ts : Trees) (es : Exprs) → WritesAll ts es → T (keep_rules k s ts)
       → (trees_of es ≡ ts) × (finish at k (run at k s es) ≡ fine)
   run_complete at k s empty none writes_none h = (refl, rw (T_true (ended k s) h))
+  run_complete at k s empty (and e es) ws h = elim ws [ ]
+  run_complete at k s (holds t ts) none ws h = elim ws [ ]
   run_complete at k s (holds t ts) (and e es) (writes_and w ws) h =
       let h' = both (keeps_rules k t) (step_goes_on (step k s (tree_class t)) (λ s'. keep_rules k s' ts)) h in
       let on = goes_on (step k s (tree_class t)) (λ s'. keep_rules k s' ts) h'.1 in

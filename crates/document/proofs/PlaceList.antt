@@ -123,6 +123,8 @@ mutual
   trees_laid : (s : List ℕ) (k : ℕ) (ts : Trees) (es : Exprs) (ws : WritesAll ts es) → Kept k ts → (i j : ℕ) → StandAll s i es j
       → Laid s i (trees_nodes ts) (places_of_all ts es ws) j
   trees_laid s k empty none writes_none h i j st = no_nodes st
+  trees_laid s k empty (and e es) ws h i j st = elim ws [ ]
+  trees_laid s k (holds t ts) none ws h i j st = elim ws [ ]
   trees_laid s k (holds t ts) (and e es) (writes_and w ws) h i j (m, st, sts) =
       rw (holds_nodes t ts) (laid_both (tree_laid s k t e w h.0 i m st) (trees_laid s k ts es ws h.1 m j sts))
 

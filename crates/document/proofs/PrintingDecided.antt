@@ -1,5 +1,5 @@
 -- The draft whose table a caller lends is found by the test, and no other. Document 01, "Printing returns number and length."
-use Prim.Native.Nat.{ℕ, ◌*◌, ◌≤◌}
+use Prim.Native.Nat.{ℕ, ◌*◌}
 use mathlib.Core.Path.{◌≡◌, refl, sym, ap, ◌∙◌}
 use mathlib.Core.Bool.{Bool, true, false, not, ◌&&◌}
 use mathlib.Core.List.{List}
@@ -11,7 +11,7 @@ use lib.Seq.{length-take-le}
 use Rattle.base.proofs.Booleans.{both, T_true, false_not_T, cond_case, true_T}
 use Rattle.elements.specs.rules.Bytes.{same}
 use Rattle.elements.proofs.Same.{same_equal}
-use Rattle.document.specs.rules.Document.{Tree, Node, says, Document}
+use Rattle.document.specs.rules.Document.{Tree, Node, says}
 use Rattle.document.specs.reference.RulesTest.{is_document}
 use Rattle.document.specs.rules.Record.{record_length}
 use Rattle.document.specs.rules.Table.{table_of, pool, count}

@@ -69,7 +69,7 @@ taken_leading (Taken.first_child d i a) t = tt
 taken_leading (Taken.next_child i a e) t = tt
 
 allowed_in : {t : Content} {c : ℕ} {b : Begun} → Allowed c t b → T (all_children t) → T (is_child c)
-allowed_in {c} (Allowed.one_of_lem {ks = ks} m a) t = each_among is_child c ks a (each (every is_child) m t)
+allowed_in {c} (Allowed.one_of {ks = ks} m a) t = each_among is_child c ks a (each (every is_child) m t)
 allowed_in Allowed.the_one t = t
 
 -- What an element's content allows is an element or a text, and what its first child is.
@@ -77,7 +77,7 @@ pub allowed_child : (k : ℕ) {c : ℕ} {b : Begun} → Allowed c (rule_of k).co
 allowed_child k a = allowed_in a (rule_of_lem k).1
 
 pub chosen_allowed : {t : Content} {c : ℕ} {ks : List ℕ} {ps : List Slot} → Chooses c t ks → Allowed c t (due ps)
-chosen_allowed (Chooses.one_of_lem m a) = Allowed.one_of_lem m a
+chosen_allowed (Chooses.one_of m a) = Allowed.one_of m a
 chosen_allowed Chooses.the_one = Allowed.the_one
 
 pub chosen_child : (k : ℕ) {c : ℕ} {ks : List ℕ} → Chooses c (rule_of k).content ks → T (is_child c)

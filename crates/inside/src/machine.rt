@@ -14,7 +14,7 @@ use base::number;
 use kind::{Keyword, Kind};
 
 // A step in numbers: fault 0 and the next state, or the number of the fault and state 0.
-#[derive(Drop)]
+#[derive(Clone, Copy)]
 pub struct Stepped {
     pub fault: u8,
     pub state: u8,

@@ -18,7 +18,7 @@ pub const MAY: u8 = 64;
 pub const ID_TYPE: u8 = 255;
 
 // A row: its parameters, and the classes that may follow them.
-#[derive(Drop)]
+#[derive(Clone, Copy)]
 struct Row(u32, u32);
 
 // Parameters: a byte each, from the lowest on.

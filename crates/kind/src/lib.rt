@@ -7,13 +7,13 @@ ghost use Rattle.std.specs.Prelude.{◌≡◌};
 ghost use Rattle.elements.specs.rules.Class.{class_of, kind_of, significance};
 
 // An element's kind: "Kinds are numbered 1 to 25". Number 0 is no kind.
-#[derive(Drop)]
+#[derive(Clone, Copy)]
 pub struct Kind {
     pub number: u8,
 }
 
 // A name that leads a list which is no element: a parameter's value, include and import.
-#[derive(Drop)]
+#[derive(Clone, Copy)]
 pub struct Keyword {
     pub number: u8,
 }

@@ -13,14 +13,14 @@ use characters::class::{BLANK, FORBIDDEN, ORDINARY, QUOTE, RETURN, ROUND, ROUND_
 use characters::{byte_at, byte_class};
 
 // The scan's answer: number 0, or a fault 3 to 6 and its place.
-#[derive(Drop)]
+#[derive(Clone, Copy)]
 pub struct Scanned {
     pub number: u32,
     pub place: usize,
 }
 
 // Number 0 and the place where the scan goes on; or the number of a fault and its place.
-#[derive(Drop)]
+#[derive(Clone, Copy)]
 struct Passed {
     number: u32,
     place: usize,

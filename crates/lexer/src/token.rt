@@ -19,7 +19,7 @@ pub const A_STRING: u8 = 2;
 pub const A_LIST: u8 = 3;
 
 // What is seen at a place after white space: the end of the run, a symbol, a string or a list.
-#[derive(Drop)]
+#[derive(Clone, Copy)]
 pub struct Seen {
     pub sort: u8,
     pub place: usize,
@@ -29,7 +29,7 @@ pub struct Seen {
 }
 
 // The name that leads a list: its class, and the place after it.
-#[derive(Drop)]
+#[derive(Clone, Copy)]
 pub struct Lead {
     pub class: u8,
     pub next: usize,

@@ -14,7 +14,7 @@ use spell::spelled;
 use table::RECORD;
 
 // "Printing returns number and length."
-#[derive(Drop)]
+#[derive(Clone, Copy)]
 pub struct Printed {
     pub number: u32,
     pub length: u32,

@@ -21,7 +21,7 @@ use table::MISSING;
 use table::record::{Record, put_record};
 
 // What the tape says of a node: where it stands, its words, and the places of what its id or target and its type hold, 0 where there is none.
-#[derive(Drop)]
+#[derive(Clone, Copy)]
 struct Entry {
     place: u32,
     class: u32,

@@ -24,7 +24,7 @@ use nested::judge_nested;
 use walk::Walked;
 
 // "A read returns number, place, line, column, node count, pool count."
-#[derive(Drop)]
+#[derive(Clone, Copy)]
 pub struct Answer {
     pub number: u32,
     pub place: u32,
@@ -34,13 +34,13 @@ pub struct Answer {
     pub pool: u32,
 }
 
-#[derive(Drop)]
+#[derive(Clone, Copy)]
 enum Spelling {
     Nested,
     Imperative,
 }
 
-#[derive(Drop)]
+#[derive(Clone, Copy)]
 struct Group {
     number: u32,
     place: usize,

@@ -47,7 +47,7 @@ const MOST_DIGITS: usize = 5;
 const NO_NUMBER: usize = MOST_NUMBER + 1;
 
 // The one text or symbol of a run: its place, the length of what it stands for, and the place where the run ends.
-#[derive(Drop)]
+#[derive(Clone, Copy)]
 pub struct One {
     pub good: bool,
     pub place: usize,
@@ -56,7 +56,7 @@ pub struct One {
 }
 
 // A width or height, or 65,536 where there is none, and the place after it.
-#[derive(Drop)]
+#[derive(Clone, Copy)]
 pub struct Number {
     pub number: usize,
     pub next: usize,

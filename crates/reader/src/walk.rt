@@ -46,7 +46,7 @@ const LIST_ORDERED: u8 = Kind::LIST_ORDERED.number;
 
 const LIST_UNORDERED: u8 = Kind::LIST_UNORDERED.number;
 
-#[derive(Drop)]
+#[derive(Clone, Copy)]
 pub struct Walked {
     pub number: u32,
     pub place: usize,
@@ -56,7 +56,7 @@ pub struct Walked {
 }
 
 // One turn of a walk.
-#[derive(Drop)]
+#[derive(Clone, Copy)]
 pub enum Turn {
     // The walk is over.
     Done(Walked),

@@ -9,7 +9,7 @@ use super::{
 };
 
 // "kind; parent; end; offset and length in the pool of id or target; of type; of text; image width; height"
-#[derive(Drop)]
+#[derive(Clone, Copy)]
 pub struct Record {
     pub kind: u32,
     pub parent: u32,

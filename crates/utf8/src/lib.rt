@@ -6,7 +6,7 @@ ghost use Rattle.std.specs.Prelude.{◌≡◌, cond, true, [], ◌∷◌, ◌+�
 ghost use Rattle.utf8.specs.reference.Sequence.{begins, begins_ascii, leading_ones, sequence_length, to, valid_up_to};
 ghost use Rattle.utf8.specs.rules.Position.{column_of, is_continuation, line_of};
 
-#[derive(Drop)]
+#[derive(Clone, Copy)]
 pub struct LineColumn {
     pub line: usize,
     pub column: usize,

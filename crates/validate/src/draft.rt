@@ -28,7 +28,7 @@ use utf8::valid_up_to;
 const MOST_WORDS: usize = MOST_NODES * RECORD;
 
 // Whether what was looked for stands there, and the number and the place in the pool that follow it.
-#[derive(Drop)]
+#[derive(Clone, Copy)]
 pub struct Walked {
     pub ok: bool,
     pub next: usize,
@@ -36,7 +36,7 @@ pub struct Walked {
 }
 
 // The same of a child, with the state of its parent after it.
-#[derive(Drop)]
+#[derive(Clone, Copy)]
 struct Entered {
     ok: bool,
     next: usize,
@@ -45,7 +45,7 @@ struct Entered {
 }
 
 // Whether the values that stand before the children are taken, or due behind the first child, and the state after them.
-#[derive(Drop)]
+#[derive(Clone, Copy)]
 struct Led {
     ok: bool,
     due: bool,

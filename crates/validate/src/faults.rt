@@ -35,14 +35,14 @@ const BODY: usize = Kind::BODY.number as usize;
 const ROW: usize = Kind::ROW.number as usize;
 
 // A fault 15 to 18 with the number of the first node that has it; number 0 where there is none.
-#[derive(Drop)]
+#[derive(Clone, Copy)]
 pub struct Fault {
     pub number: u32,
     pub node: usize,
 }
 
 // A number that may be missing: of a node, or of a head's names.
-#[derive(Drop)]
+#[derive(Clone, Copy)]
 enum Found {
     At(usize),
     Nothing,

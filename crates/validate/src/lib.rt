@@ -20,7 +20,7 @@ use table::RECORD;
 const OK: u8 = base::number::OK as u8;
 
 // 20, or a fault 15 to 18 with the number of the first node that has it, or 0 at node 0.
-#[derive(Drop)]
+#[derive(Clone, Copy)]
 pub struct Checked {
     pub number: u32,
     pub node: u32,

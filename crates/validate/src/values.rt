@@ -18,7 +18,7 @@ use table::{HEIGHT, KEY, KEY_LENGTH, MISSING, TYPE, TYPE_LENGTH, WIDTH, key_clas
 const MOST_SIZE: usize = 65535;
 
 // Whether what stands before the rest is taken, and the state after it.
-#[derive(Drop)]
+#[derive(Clone, Copy)]
 pub struct Taken {
     pub ok: bool,
     pub state: u8,

@@ -54,7 +54,7 @@ unfoldable pub after_reading : List ℕ → Memory → Reading → Outcome
 after_reading text m (refused n p) = refusal text m n p
 after_reading text m (read e) = stored text m (places e) (says (tree_of e))
 
--- "text over 65,536 bytes" is 1 at 65,536; ill_formed UTF-8 is 2 at the "first byte of the sequence".
+-- "text over 65,536 bytes" is 1 at 65,536; ill-formed UTF-8 is 2 at the "first byte of the sequence".
 unfoldable pub outcome : Spelling → List ℕ → Memory → Outcome
 outcome s text m =
     cond (ltb most_bytes (length text)) (refusal text m Number.text_too_long most_bytes)

@@ -1,0 +1,28 @@
+-- `fit::word_fits` meets its contract. The loop's invariant: what is left of the symbol from `i` on fits if the whole does.
+use mathlib.Core.Path.{refl, sym, ◌∙◌}
+use Prim.Native.Nat.{◌-◌}
+use lib.ListN.{get_or, drop_of_length-le}
+use Rattle.syntax.specs.reference.Scan.{ordinary_run}
+use Rattle.atoms.specs.Atom.{fits}
+use Rattle.atoms.proofs.fit.CharactersFit.{symbol_turn, symbol_refused, named_ordinary}
+use Rattle.atoms.proofs.fit.word_fits.Goals as goal
+
+pub loop-i-init : goal.loop-i-init
+loop-i-init c = refl
+
+pub returns-then-not-character : goal.returns-then-not-character
+returns-then-not-character c = symbol_refused _ _ c.loop-i.i _ c.loop-i-test.true
+    c.byte_class.ensures (sym c.character.ensures ∙ c.if-not-character.true)
+    ∙ c.loop-i.invariant
+
+pub loop-i-preserved : goal.loop-i-preserved
+loop-i-preserved c = let text = c.args.text.now in
+    let loop = c.loop-i in
+    let stands = sym c.character.ensures ∙ c.if-not-character.false in
+    symbol_turn text c.args.sort loop.i _ c.loop-i-test.true refl
+    (named_ordinary c.args.sort (get_or text loop.i 0) c.requires stands) stands
+    ∙ loop.invariant
+
+pub returns : goal.returns
+unfolding fits ordinary_run
+returns c = rw (drop_of_length-le _ c.loop-i-test.false) at c.loop-i.invariant

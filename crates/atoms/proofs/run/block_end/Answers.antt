@@ -1,0 +1,7 @@
+-- `run::block_end` meets its contract.
+use mathlib.Core.Path.{sym, ◌∙◌}
+use Rattle.atoms.proofs.run.PlainRuns.{plain_passed}
+use Rattle.atoms.proofs.run.block_end.Goals as goal
+
+pub returns-then-plain_8 : goal.returns-then-plain_8
+returns-then-plain_8 c = plain_passed c.args.text.now c.args.from 8 (sym c.plain_8.ensures ∙ c.if-plain_8.true)

@@ -1,0 +1,30 @@
+-- `machine::none_required` meets its contract. The loop's invariant: what the specification says from the place on is what it says from the first one on.
+use Prim.Native.Nat.{◌-◌}
+use mathlib.Core.Path.{◌∙◌, refl, sym}
+use Rattle.elements.specs.rules.Rules.{rule_of}
+use Rattle.inside.proofs.Table.{past_four}
+use Rattle.inside.proofs.Steps.{no_parameter_left, none_required_end, required_first, not_required}
+use Rattle.inside.proofs.machine.none_required.Goals as goal
+
+pub loop-place-init : goal.loop-place-init
+loop-place-init c = refl
+
+pub returns-then-parameter-eq0 : goal.returns-then-parameter-eq0
+returns-then-parameter-eq0 c = let end = no_parameter_left (rule_of c.args.kind).parameters
+    c.loop-place.place _ c.slot-parameter.ensures
+    c.if-parameter-eq0.true in
+    sym (none_required_end end) ∙ c.loop-place.invariant
+
+pub returns-then-parameter-lt-MAY : goal.returns-then-parameter-lt-MAY
+returns-then-parameter-lt-MAY c = sym (required_first (rule_of c.args.kind).parameters
+    c.loop-place.place _ c.slot-parameter.ensures
+    c.if-parameter-eq0.false
+    c.if-parameter-lt-MAY.true) ∙ c.loop-place.invariant
+
+pub loop-place-preserved : goal.loop-place-preserved
+loop-place-preserved c = sym (not_required (rule_of c.args.kind).parameters
+    c.loop-place.place _ c.slot-parameter.ensures
+    c.if-parameter-lt-MAY.false) ∙ c.loop-place.invariant
+
+pub returns : goal.returns
+returns c = sym (none_required_end (past_four c.args.kind c.loop-place.place c.loop-place-test.false)) ∙ c.loop-place.invariant
