@@ -5,6 +5,70 @@ import json,os,re,sys
 crate=os.path.abspath(sys.argv[1]); name=os.path.basename(crate)
 J=json.load(open(sys.argv[2]))
 W=r"[\w'′₀-₉≢≡-]+"
+def signatures(root):
+    """the parameters and the names of the clauses of each function, by its path"""
+    out={}
+    for d,ds,fs in os.walk(os.path.join(root,'crates')):
+        if '/src' not in d: continue
+        for f in fs:
+            if not f.endswith('.rt'): continue
+            path=os.path.join(d,f); rel=os.path.relpath(path,os.path.join(root,'crates')).split('/')
+            mod=[x for x in rel[2:]]; mod[-1]=mod[-1][:-3]
+            if mod[-1] in('lib','main','mod'): mod=mod[:-1]
+            t=open(path).read()
+            for m in re.finditer(r"^( *)(?:pub )?(?:unsafe )?(?:extern \"C\" )?fn (\w+)\(",t,re.M):
+                i=m.end(); depth=1; j=i
+                while depth:
+                    if t[j]=='(' : depth+=1
+                    if t[j]==')' : depth-=1
+                    j+=1
+                ps=[x.strip().split(':')[0].replace('mut ','').strip() for x in re.split(r",(?![^<(\[]*[>)\]])",t[i:j-1]) if x.strip()]
+                k=re.search(r"^"+m[1]+r"\{",t[j:],re.M)
+                head=t[j:j+(k.start() if k else 0)]
+                cl=lambda w:[x or None for x in re.findall(r"^\s+"+w+r"(?: (\w+))? \{",head,re.M)]
+                out['::'.join([rel[0]]+mod+[m[2]])]=(ps,cl('requires'),cl('ensures'))
+    return out
+SIG=signatures(os.path.dirname(os.path.dirname(crate)))
+def tail_tuple(b):
+    """the position of a tuple that ends the term b, if b is lets and then a tuple"""
+    t=b.rstrip()
+    if not t.endswith(')'): return None
+    depth=0
+    for i in range(len(t)-1,-1,-1):
+        if t[i] in ')]}': depth+=1
+        if t[i] in '([{': depth-=1
+        if depth==0: break
+    before=t[:i].rstrip()
+    if before and not re.search(r"(?<![\w.'-])in$",before): return None
+    inner=t[i+1:-1]; parts=[];depth=0;cur=''
+    for ch in inner:
+        if ch in '([{': depth+=1
+        if ch in ')]}': depth-=1
+        if ch==',' and depth==0: parts.append(cur); cur=''; continue
+        cur+=ch
+    if cur.strip(): parts.append(cur)
+    return t[:i],parts
+def as_record(b,names):
+    """an answer to several clauses"""
+    if len(names)<2: return b
+    tt=tail_tuple(b)
+    while tt and len(tt[1])<len(names):
+        more=tail_tuple(tt[1][-1].strip())
+        if not more or more[0].strip(): break
+        tt=(tt[0],tt[1][:-1]+more[1])
+    if tt and len(tt[1])==len(names):
+        return tt[0]+'record { '+'; '.join(f"{n} = {p.strip()}" for n,p in zip(names,tt[1]))+' }'
+    if tt and len(tt[1])>len(names):
+        k=len(names)-1
+        ps=[p.strip() for p in tt[1][:k]]+['('+', '.join(p.strip() for p in tt[1][k:])+')']
+        return tt[0]+'record { '+'; '.join(f"{n} = {p}" for n,p in zip(names,ps))+' }'
+    m=re.match(r"^(.*?)((?:(?<=in)\s+|^\s*)rw (?:\((?:[^()]|\([^()]*\))*\)|[\w.'-]+))\s+(\(.*\))\s*$",b.rstrip(),re.S)
+    if m:
+        tt=tail_tuple(m[3])
+        if tt and not tt[0].strip() and len(tt[1])==len(names):
+            return m[1]+'\n    record { '+'; '.join(f"{n} = {m[2].strip()} {('('+p.strip()+')') if ' ' in p.strip() else p.strip()}" for n,p in zip(names,tt[1]))+' }'
+    body=b.strip()
+    return f"\n    let whole = {body} in\n    record {{ "+'; '.join(f"{n} = whole.{i}" for i,n in enumerate(names))+' }'
 def norm(s):
     s=s.replace('_','-')
     s=re.sub(r'^overflow-','',s)
@@ -24,6 +88,7 @@ def blocks(text):
         cur.append(l)
     if cur: out.append('\n'.join(cur))
     return out
+CYC=[False]
 class Place:
     pass
 def resolver(e):
@@ -77,6 +142,10 @@ def rewrite_body(body,e,placeidx,var='c'):
             while q is not None: chain.append(q); q=parents(q)
             return var+'.before'*(chain.index(i) if i in chain else 0)
         f=rest[0]
+        if f=='requires' and CYC[0]:
+            if rest[1:2]==['0']: return '.'.join([var,'decreases']+rest[2:])
+            if rest[1:2]==['1']: return '.'.join([var,'requires']+rest[2:])
+            if len(rest)==1: return '\x01requires'
         if f in('args','requires','ranges','well-formed','well_formed','utf8'):
             return '.'.join([var,f.replace('-','_')]+rest[1:])
         # the step of that name nearest to the depth that the path says
@@ -94,8 +163,12 @@ def rewrite_body(body,e,placeidx,var='c'):
                 best=None
                 for nf,ostep,opath in arm[2]:
                     if rest2[:len(opath)]==opath and (best is None or len(opath)>len(best[1])): best=(nf,opath)
-                if best and best[0]: rest2=[best[0]]+rest2[len(best[1]):]
+                if best and best[0]:
+                    return '.'.join([var,arm[0],best[0]]+rest2[len(best[1]):])
             steps['.'.join([var,pl[q][2][1]])]=pl[q][3]
+            callee=pl[q][3]
+            if rest2==['ensures'] and callee in SIG and len(SIG[callee][2])>1:
+                return '('+', '.join('.'.join([var,pl[q][2][1],'ensures',n]) for n in SIG[callee][2])+')'
             return '.'.join([var,pl[q][2][1]]+rest2)
         notes.append('field '+f+' of place '+pl[i][0]+' has step '+pl[i][2][0])
         return '.'.join([var]+rest)
@@ -129,6 +202,8 @@ def rewrite_body(body,e,placeidx,var='c'):
             callee=steps[m[2]]
             def fx(mm):
                 r=fix_new(mm[2].strip('.').split('.'),callee,e)
+                if r==['ensures'] and callee in SIG and len(SIG[callee][2])>1:
+                    return '('+', '.join(mm[1]+'.ensures.'+n for n in SIG[callee][2])+')'
                 return mm[1]+'.'+'.'.join(r)
             out=re.sub(r"(?<![\w.-])("+re.escape(m[1])+r")((?:\."+W+r")+)",fx,out)
     nots=set(m[1] for m in re.finditer(r"let ("+W+r") = "+re.escape(var)+r"\.if-not-"+W+r" in",out))
@@ -137,11 +212,41 @@ def rewrite_body(body,e,placeidx,var='c'):
         if '.if-not-' in m[3] or root[0] in nots: return m[3]
         return m[0]
     out=re.sub(r"(?<![\w.-])not-(true|false)\s+("+W+r"(?:\."+W+r")*|_)\s+("+W+r"(?:\."+W+r")*\.(?:true|false))",unnot,out)
+    # a variable that stands for the whole requires of a member of a cycle
+    while True:
+        m=re.search(r"let ("+W+r") = \x01requires in",out)
+        if not m: break
+        v=m[1]
+        rest=out[m.end():]
+        rest=re.sub(r"(?<![\w.'-])"+re.escape(v)+r"\.0(?![\w'-])",var+'.decreases',rest)
+        rest=re.sub(r"(?<![\w.'-])"+re.escape(v)+r"\.1(?![\w'-])",v,rest)
+        out=out[:m.start()]+f"let {v} = {var}.requires in"+rest
+    out=out.replace('\x01requires',var+'.requires')
+    # what a callee ensures at the variant that it returned
+    def given(m):
+        return f"let {m[1]} = {var}.{m[2]}.ensures in"
+    while True:
+        m=re.search(r"let ("+W+r") = rw "+re.escape(var)+r"\.(in-"+W+r")\.is\s+at\s+(\(("+re.escape(var)+r"\."+W+r"\.ensures\."+W+r"(?:,\s*)?)+\)|"+re.escape(var)+r"\."+W+r"\.ensures(?!\."+W+r")) in",out)
+        if not m: break
+        names=re.findall(r"\.ensures\.("+W+r")",m[3])
+        rest=out[m.end():]
+        v=m[1]
+        if names:
+            for i,n in enumerate(names):
+                rest=re.sub(r"(?<![\w.'-])"+re.escape(v)+rf"\.{i}(?![\w'-])",f"{v}.{n}",rest)
+            rest=re.sub(r"(?<![\w.'-])"+re.escape(v)+r"(?![\w.'-])",'('+', '.join(f"{v}.{n}" for n in names)+')',rest)
+        out=out[:m.start()]+f"let {v} = {var}.{m[2]}.ensures in"+rest
+    out=re.sub(r"rw "+re.escape(var)+r"\.(in-"+W+r")\.is\s+at\s+\(((?:"+re.escape(var)+r"\."+W+r"\.ensures\."+W+r"(?:,\s*)?)+)\)",
+        lambda m: '('+', '.join(f"{var}.{m[1]}.ensures.{n}" for n in re.findall(r"\.ensures\.("+W+r")",m[2]))+')',out)
+    out=re.sub(r"rw "+re.escape(var)+r"\.(in-"+W+r")\.is\s+at\s+"+re.escape(var)+r"\."+W+r"\.ensures(?![\w.'-])",lambda m: f"{var}.{m[1]}.ensures",out)
     if '\0' in out:
         notes.append('place itself used')
         out=re.sub('\0\\d+',var,out)
     return out,notes
 def fix_new(rest,callee,e):
+    if rest and rest[0]=='ensures' and callee in SIG and len(SIG[callee][2])>1 and len(rest)>1 and rest[1].isdigit():
+        names=SIG[callee][2]; n=int(rest[1])
+        if n<len(names)-1 or (n==len(names)-1): return ['ensures',names[n]]+rest[2:]
     if rest and rest[0]in('new','auto') and len(rest)>1 and rest[1] in('0','1') and callee and callee in e.get('params',{}):
         n=0;k=1
         while k<len(rest) and rest[k]=='1': n+=1;k+=1
@@ -189,6 +294,7 @@ def convert(path):
     text=open(path).read()
     key=f"Rattle-{name}-proofs.{mod}.Lts"
     cyc='+' in rel
+    CYC[0]=cyc
     keys=[k for k in J if k==key] if not cyc else [k for k in J if k.startswith(f"Rattle-{name}-proofs.{mod}.Lts")]
     if not keys: report.append((rel,'no names')); return
     bl=blocks(text)
@@ -206,7 +312,7 @@ def convert(path):
     inv=[];ans=[];other=[];allnotes=[];helpers=[]
     def unhelp(b,hs):
         for h in hs:
-            b=re.sub(r"(?<![\w.'-])"+re.escape(h[0])+r"\s+c(?:\.before)*(?![\w.'-])",h[0],b)
+            b=re.sub(r"(?<![\w.'-])"+re.escape(h[0])+r"(?:\s+t)?\s+c(?:\.before)*(?![\w.'-])",h[0],b)
             b=b.replace('('+h[0]+')',h[0])
         return b
     def inlined(b,unf):
@@ -240,12 +346,12 @@ def convert(path):
     for d in defs:
         comment=[l for l in d.split('\n') if l.startswith('--')]
         code='\n'.join(l for l in d.split('\n') if not l.startswith('--'))
-        m=re.match(r"(abbrev |unfoldable )?(pub )?(\S+) : ([^\n]*(?:\n\s+[^\n]*)*)\n((?:unfolding [^\n]*\n)?)(.*)$",code,re.S)
+        m=re.match(r"(abbrev |unfoldable )?(pub )?(\S+) :\s+([^\n]*(?:\n\s+[^\n]*)*)\n((?:unfolding [^\n]*\n)?)(.*)$",code,re.S)
         if not m:
             other.append(d); allnotes.append('unparsed: '+code[:60]); continue
         ab,pub,dn,ty,unf,body=m.groups()
         # which function
-        ml=re.search(r"\(c : (?:tie|[\w-]+-lts)\.([\w'-]+)[^()]*\)",ty)
+        ml=re.search(r"\(c : (?:tie|[\w-]+-lts)\.([\w'-]+)(?:[^()]|\([^()]*\))*\)",ty)
         if ml and not re.search(r"(?:tie|[\w-]+-lts)\.(invariant|decreases|Need)-",ty.split('→')[0]):
             k=keys[0]
             if cyc:
@@ -318,6 +424,11 @@ def convert(path):
                 newname=nn if not (cyc and len(keys)>1) else f"{fnname}-{nn}"
                 done.add((k,ni))
                 b,unf=inlined(b,unf)
+                own='::'.join([name]+[x for x in mod.split('.') if not x.startswith('+')]) if not cyc else '::'.join([name]+[x for x in mod.split('.') if not x.startswith('+')]+[fnname])
+                if own in SIG:
+                    if nn.startswith('returns'): b=as_record(b,SIG[own][2])
+                    m2=re.match(r"(.+)-requires(-|$)",nn)
+                callee=e['places'][pidx][3] if pidx is not None else None
                 lhs=' '.join(([ 't'] if cyc else [])+[v]+extra)
                 ans.append((comment,f"pub {newname} : goal.{newname}\n{unf}{newname} {lhs} ={' ' if not b.startswith(chr(10)) else ''}{b}",dn))
         elif mm:
@@ -326,7 +437,7 @@ def convert(path):
             mdef=re.match(re.escape(dn)+r"\s*(.*?)\s*=\s*(.*)$",body,re.S)
             rhs=mdef[2]
             e=J[k]
-            args=e.get('args') or []
+            args=SIG.get('::'.join([name]+[x for x in mod.split('.') if not x.startswith('+')]+[fnname]),([],))[0]
             def pa(mo):
                 n=mo[1].count('.1'); 
                 return f"l.{args[n]}" if n<len(args) else mo[0]

@@ -44,7 +44,7 @@ only {c} t = ⊎_elim (eqb→eq c 18) (λ f. absurd f) (or_true (eqb c 18) false
 
 an_item : {c : ℕ} {t : Content} {b : Begun} → t ≡ alternatives ((Class.item ∷ []) ∷ []) → Allowed c t b → c ≡ 18
 unfolding among
-an_item {c} e (Allowed.one_of_lem {kss} {ks} m a) =
+an_item {c} e (Allowed.one_of {kss} {ks} m a) =
     let h : kss ≡ (Class.item ∷ []) ∷ [] = cc in
     let i : ks ≡ Class.item ∷ [] = Memᴰ.eq_of_singleton (rw h at m) in
     only (rw i at a)
@@ -65,4 +65,5 @@ item_taken k st c st' l b e = by (state_of k st) (state_of k st') b (rw e at (st
     by : (s s' : State) → Bare s → Taken k c (begun_of s) (begun_of s') → (c ≡ 18) × Bare s'
     by (expecting ps) (expecting qs) b (Taken.parameter r) = absurd (none_next b r)
     by (expecting ps) (holding ks) b (Taken.first_child d i a) = (an_item (list_content k l) (chosen_allowed {ps = ps} a), tt)
+    by (holding ks) (expecting qs) b x3 = elim x3 [ ]
     by (holding ks) (holding ks') b (Taken.next_child i a f) = (an_item (list_content k l) a, tt)

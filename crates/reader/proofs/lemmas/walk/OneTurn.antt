@@ -65,6 +65,7 @@ none_taken k st st' e =
     taken_none : (s s' : State) → Leading (begun_of s) → Taken k 0 (begun_of s) (begun_of s') → ⊥
     taken_none (expecting ps) (expecting qs) t (Taken.parameter r) = next_leads r t
     taken_none (expecting ps) (holding ks) t (Taken.first_child d i a) = no_child k (chosen_allowed {ps = ps} a)
+    taken_none (holding ks) (expecting qs) t x3 = elim x3 [ ]
     taken_none (holding ks) (holding ks') t (Taken.next_child i a f) = no_child k a
 
 -- A state of number 0 is the first.

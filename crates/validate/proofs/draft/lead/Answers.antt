@@ -1,0 +1,22 @@
+-- `draft::lead` meets its contract: each way out is one law of `ValueSteps`.
+use native.Mathlib.Omega.{arith}
+use mathlib.Core.Path.{◌≡◌, sym, ◌∙◌}
+use mathlib.Core.Bool.{false}
+use mathlib.Core.Logic.{⊎_elim}
+use Rattle.elements.specs.rules.Rules.{rule_of}
+use Rattle.document.specs.rules.Canonical.{node_first}
+use Rattle.validate.proofs.lemmas.values.ValueSteps.{lead_none, lead_due, lead_taken}
+use Rattle.validate.proofs.draft.lead.Goals as goal
+
+pub returns-then-levels-eq0 : goal.returns-then-levels-eq0
+returns-then-levels-eq0 c = lead_none _ _ _ _ _ (sym c.requires.1 ∙ c.if-levels-eq0.true)
+
+pub returns-then-is_titled : goal.returns-then-is_titled
+returns-then-is_titled c = lead_due _ _ _ _ _ (sym c.is_titled.ensures ∙ c.if-is_titled.true) c.if-i-end.true
+
+pub returns : goal.returns
+returns c = let args = c.args in
+    lead_taken _ _ _ _ _
+    (λ h. ⊎_elim {C = node_first (rule_of args.kind).parameters ≡ false} (λ w. sym w.1.ensures ∙ w.2.left) (λ w. absurd (omega arith))
+    c.if-i-end.branch)
+    c.values-taken.ensures
