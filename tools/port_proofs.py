@@ -89,6 +89,7 @@ def blocks(text):
     if cur: out.append('\n'.join(cur))
     return out
 CYC=[False]
+SOURCE=['\n'.join(open(os.path.join(d,f)).read() for d,ds,fs in os.walk(os.path.join(crate,'src')) for f in fs if f.endswith('.rt'))]
 class Place:
     pass
 def resolver(e):
@@ -207,8 +208,13 @@ def rewrite_body(body,e,placeidx,var='c'):
                 return mm[1]+'.'+'.'.join(r)
             out=re.sub(r"(?<![\w.-])("+re.escape(m[1])+r")((?:\."+W+r")+)",fx,out)
     nots=set(m[1] for m in re.finditer(r"let ("+W+r") = "+re.escape(var)+r"\.if-not-"+W+r" in",out))
+    alias=dict((m[1],m[2]) for m in re.finditer(r"let ("+W+r") = "+re.escape(var)+r"\.if-not-("+W+r") in",out))
     def unnot(m):
         root=m[3].split('.')
+        step=re.search(r"\.if-not-("+W+")",m[3])
+        step=step[1] if step else alias.get(root[0],'')
+        # a test of a field keeps its `not`
+        if step and re.search(r"!\s*"+re.escape(re.sub(r"-.*$","",step))+r"\.\w",SOURCE[0]): return m[0]
         if '.if-not-' in m[3] or root[0] in nots: return m[3]
         return m[0]
     out=re.sub(r"(?<![\w.-])not-(true|false)\s+("+W+r"(?:\."+W+r")*|_)\s+("+W+r"(?:\."+W+r")*\.(?:true|false))",unnot,out)

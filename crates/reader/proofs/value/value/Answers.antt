@@ -1,5 +1,6 @@
 -- `value` meets its contract: each way out is one law of `TextValues`.
 use native.Mathlib.Omega.{arith}
+use borrow.Author.Tests.{not-true, not-false}
 use Rattle.reader.proofs.lemmas.value.TextValues.{value_size_lem, value_nothing, value_bad, value_good, word_small}
 use Rattle.reader.proofs.value.value.Goals as goal
 
@@ -12,14 +13,14 @@ pub returns-then-not-one : goal.returns-then-not-one
 returns-then-not-one c =
     let whole = rw c.refusal.ensures
     (value_nothing _ _ _ _ c.if-class-eq-SIZE.false c.only-one.ensures
-    (c.if-not-one.true)) in
+    (not-true _ c.if-not-one.true)) in
     record { bounded = whole.0; value = whole.1; notes = whole.2 }
 
 pub returns-then-not-is_value : goal.returns-then-not-is_value
 returns-then-not-is_value c =
     let whole = rw c.refusal-then-not-is_value.ensures
     (value_bad _ _ _ _ c.if-class-eq-SIZE.false c.only-one.ensures
-    (c.if-not-one.false) (c.if-not-is_value.true) c.is_value.ensures) in
+    (not-false _ c.if-not-one.false) (c.if-not-is_value.true) c.is_value.ensures) in
     record { bounded = whole.0; value = whole.1; notes = whole.2 }
 
 pub note-requires : goal.note-requires
@@ -29,7 +30,7 @@ note-requires c = (
   omega (
     arith,
     c.only-one.ensures.within
-        (c.if-not-one.false),
+        (not-false _ c.if-not-one.false),
     c.requires,
   ),
 )
@@ -38,7 +39,7 @@ pub overflow_add-result : goal.overflow_add-result
 overflow_add-result c = omega (
   arith,
   c.only-one.ensures.within
-      (c.if-not-one.false),
+      (not-false _ c.if-not-one.false),
   c.requires,
 )
 
@@ -47,7 +48,7 @@ returns c =
     let whole = let pre = c.requires in
     value_good _ _ _ _ c.if-class-eq-SIZE.false
     c.only-one.ensures
-    (c.if-not-one.false) (c.if-not-is_value.false)
+    (not-false _ c.if-not-one.false) (c.if-not-is_value.false)
     c.is_value.ensures
     pre.1
     pre.2 c.word_of.ensures

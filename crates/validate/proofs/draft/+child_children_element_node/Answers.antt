@@ -3,6 +3,7 @@ use native.Mathlib.Omega.{arith}
 use mathlib.Core.Path.{◌≡◌, refl, sym, ◌∙◌}
 use mathlib.Core.Bool.{true, true≢false}
 use Prim.Native.Nat.{◌+◌, ◌-◌}
+use borrow.Author.Tests.{not-true, not-false}
 use lib.ListN.{get_or}
 use Rattle.base.proofs.Booleans.{T_true, not_T_false}
 use Rattle.document.specs.rules.Canonical.{layout_all}
@@ -20,23 +21,23 @@ child-node-w-requires t c = let pre = c.requires in
     (omega (arith, pre), pre.2)
 
 pub child-returns-then-not-w : goal.child-returns-then-not-w
-child-returns-then-not-w t c = child_refused _ _ _ _ c.node-w.ensures (c.if-not-w.true)
+child-returns-then-not-w t c = child_refused _ _ _ _ c.node-w.ensures (not-true _ c.if-not-w.true)
 
 pub child-words-r-requires : goal.child-words-r-requires
-child-words-r-requires t c = let here = c.node-w.ensures.sound (c.if-not-w.false) in
+child-words-r-requires t c = let here = c.node-w.ensures.sound (not-false _ c.if-not-w.false) in
     (stored_node here.made _ _ _ _ _ here.stored c.requires.2).recorded.whole
 
 pub child-overflow_cast-r : goal.child-overflow_cast-r
 child-overflow_cast-r t c = let node = c.node-w in
     let if1 = c.if-not-w in
-    omega (arith, word_in _ _ _ 0 c.words-r.ensures.0 (omega arith), kind_word (node.ensures.sound (if1.false)))
+    omega (arith, word_in _ _ _ 0 c.words-r.ensures.0 (omega arith), kind_word (node.ensures.sound (not-false _ if1.false)))
 
 pub child-returns : goal.child-returns
 child-returns t c = let node = c.node-w in
     let if1 = c.if-not-w in
     let words = c.words-r in
     let step = c.step-taken in
-    child_stepped _ _ _ _ node.ensures step.result.fault (if1.false)
+    child_stepped _ _ _ _ node.ensures step.result.fault (not-false _ if1.false)
     (rw (word_in _ _ _ 0 words.ensures.0 (omega arith)) at step.ensures.stands)
 
 pub children-lead-led-requires : goal.children-lead-led-requires
@@ -46,7 +47,7 @@ children-lead-led-requires t c = let pre = c.requires in
 pub children-returns-then-not-led : goal.children-returns-then-not-led
 children-returns-then-not-led t c = let lead = c.lead-led in
     decides_none c.refused.ensures
-    (values_none _ _ _ _ (λ ns e. lead.ensures.taken ns e ∙ rw (c.if-not-led.true)))
+    (values_none _ _ _ _ (λ ns e. lead.ensures.taken ns e ∙ rw (not-true lead.result.ok c.if-not-led.true)))
 
 pub children-overflow_add-j : goal.children-overflow_add-j
 children-overflow_add-j t c = omega (arith, c.requires.0)
@@ -58,7 +59,7 @@ children-loop-j-init t c = let pre = c.requires in
       pre.1,
       lead.ensures.before_child,
       values_same _ _ _ _
-          (λ ns e. lead.ensures.taken ns e ∙ rw (c.if-not-led.false)),
+          (λ ns e. lead.ensures.taken ns e ∙ rw (not-false lead.result.ok c.if-not-led.false)),
     )
 
 pub children-child-c-requires : goal.children-child-c-requires
@@ -72,7 +73,7 @@ children-returns-then-not-c t c = let loop = c.loop-j in
     let child = c.child-c in
     decides_none c.refused-then-not-c.ensures
     (none_same loop.invariant.3
-    (child_none _ _ _ _ _ _ (behind_child loop.due _) child.ensures loop-test.true (c.if-not-c.true)))
+    (child_none _ _ _ _ _ _ (behind_child loop.due _) child.ensures loop-test.true (not-true _ c.if-not-c.true)))
 
 pub children-returns-then-not-taken : goal.children-returns-then-not-taken
 children-returns-then-not-taken t c = let loop = c.loop-j in
@@ -82,14 +83,14 @@ children-returns-then-not-taken t c = let loop = c.loop-j in
     let if3 = c.if-due in
     let values = c.values-taken in
     decides_none c.refused-then-not-taken.ensures (none_same loop.invariant.3
-    (none_same (child_same _ _ _ _ _ _ (behind_child loop.due _) child.ensures loop-test.true (if2.false))
+    (none_same (child_same _ _ _ _ _ _ (behind_child loop.due _) child.ensures loop-test.true (not-false _ if2.false))
     (values_none _ _ _ _ (λ ns e. rw if3.true
-    (values.ensures.taken (layout_all ns) ∙ rw (c.if-not-taken.true))))))
+    (values.ensures.taken (layout_all ns) ∙ rw (not-true values.result.ok c.if-not-taken.true))))))
 
 pub children-loop-j-smaller-then-due : goal.children-loop-j-smaller-then-due
 children-loop-j-smaller-then-due t c = let child = c.child-c in
     let if2 = c.if-not-c in
-    omega (arith, node_forward (child.ensures.sound (if2.false)).0)
+    omega (arith, node_forward (child.ensures.sound (not-false _ if2.false)).0)
 
 pub children-loop-j-preserved-then-due : goal.children-loop-j-preserved-then-due
 children-loop-j-preserved-then-due t c = let loop = c.loop-j in
@@ -98,30 +99,30 @@ children-loop-j-preserved-then-due t c = let loop = c.loop-j in
     let if2 = c.if-not-c in
     let if3 = c.if-due in
     let values = c.values-taken in
-    let here = (child.ensures.sound (if2.false)).0 in (
+    let here = (child.ensures.sound (not-false _ if2.false)).0 in (
       omega (arith, node_forward here, loop.invariant.0),
       node_within here loop.invariant.1,
       λ d. absurd (true≢false (sym d)),
       through (values_same _ _ _ _
-          (λ ns e. rw if3.true (values.ensures.taken (layout_all ns) ∙ rw (c.if-not-taken.false))))
-          (through (child_same _ _ _ _ _ _ (behind_child loop.due _) child.ensures loop-test.true (if2.false))
+          (λ ns e. rw if3.true (values.ensures.taken (layout_all ns) ∙ rw (not-false values.result.ok c.if-not-taken.false))))
+          (through (child_same _ _ _ _ _ _ (behind_child loop.due _) child.ensures loop-test.true (not-false _ if2.false))
           loop.invariant.3),
     )
 
 pub children-loop-j-smaller : goal.children-loop-j-smaller
-children-loop-j-smaller t c = omega (arith, node_forward (c.child-c.ensures.sound (c.if-not-c.false)).0)
+children-loop-j-smaller t c = omega (arith, node_forward (c.child-c.ensures.sound (not-false _ c.if-not-c.false)).0)
 
 pub children-loop-j-preserved : goal.children-loop-j-preserved
 children-loop-j-preserved t c = let loop = c.loop-j in
     let loop-test = c.loop-j-test in
     let child = c.child-c in
     let if2 = c.if-not-c in
-    let here = (child.ensures.sound (if2.false)).0 in (
+    let here = (child.ensures.sound (not-false _ if2.false)).0 in (
       omega (arith, node_forward here, loop.invariant.0),
       node_within here loop.invariant.1,
       λ d. absurd (true≢false (sym d ∙ c.if-due.false)),
       through (values_same _ _ _ _ (λ ns e. rw c.if-due.false))
-          (through (child_same _ _ _ _ _ _ (behind_child loop.due _) child.ensures loop-test.true (if2.false)) loop.invariant.3),
+          (through (child_same _ _ _ _ _ _ (behind_child loop.due _) child.ensures loop-test.true (not-false _ if2.false)) loop.invariant.3),
     )
 
 pub children-returns-then-j-end : goal.children-returns-then-j-end

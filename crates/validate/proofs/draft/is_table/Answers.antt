@@ -5,7 +5,7 @@ use mathlib.Core.Bool.{true≢false}
 use lib.Dec.{eqb}
 use Prim.Native.Nat.{◌/◌}
 use lib.ListN.{length}
-use borrow.Author.Tests.{eqb-true, eqb-false}
+use borrow.Author.Tests.{not-true, not-false, eqb-true, eqb-false}
 use Rattle.document.specs.rules.Record.{record_length}
 use Rattle.elements.specs.rules.Class as Class
 use Rattle.table.specs.Stored.{word_at}
@@ -32,7 +32,7 @@ element-w-requires c = let args = c.args in
     (omega (arith, word_there args.nodes.now 0 0 (omega arith)), omega arith, λ t. omega arith)
 
 pub returns-then-not-w : goal.returns-then-not-w
-returns-then-not-w c = no_draft (λ e q r. true≢false (sym (c.element-w.ensures.complete e q r.root).0 ∙ c.if-not-w.true))
+returns-then-not-w c = no_draft (λ e q r. true≢false (sym (c.element-w.ensures.complete e q r.root).0 ∙ not-true _ c.if-not-w.true))
 
 pub returns-then-w-pool : goal.returns-then-w-pool
 returns-then-w-pool c = no_draft (λ e q r. c.if-w-pool.true ((c.element-w.ensures.complete e q r.root).2 ∙ sym r.all_bytes))
@@ -50,7 +50,7 @@ returns c = let args = c.args in
     let count = length args.nodes.now / record_length in
     draft_told (eqb next count)
     (λ t. record {
-      root = element.ensures.sound (if5.false);
+      root = element.ensures.sound (not-false _ if5.false);
       of_kind = sym word.ensures ∙ if4.false;
       all_words = omega (arith, eqb-true next count t, if3.false);
       all_bytes = sym c.if-w-pool.false;

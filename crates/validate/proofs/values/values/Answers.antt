@@ -1,6 +1,7 @@
 -- `values::values` meets its contract.
 use native.Mathlib.Omega.{arith}
 use mathlib.Core.Path.{sym, ap, ◌∙◌}
+use borrow.Author.Tests.{not-true, not-false}
 use Rattle.base.proofs.Booleans.{cond_case}
 use Prim.Native.Nat.{ℕ, ◌≤◌}
 use lib.ListN.{length}
@@ -32,7 +33,7 @@ returns-then-not-key c = let words = c.words-r in
     let take-value = c.take_value-key in
     let r = words.ensures.0 in
     let key = rw (key_class_lem.ensures, part.ensures, word_in _ _ _ 3 r (omega arith), word_in _ _ _ 4 r (omega arith)) at take-value.ensures in
-    takes_not key (c.if-not-key.true)
+    takes_not key (not-true _ c.if-not-key.true)
 
 pub overflow_cast-r-3 : goal.overflow_cast-r-3
 overflow_cast-r-3 c = omega (arith, c.shared_slice_known-5-1.given 9)
@@ -51,7 +52,7 @@ returns-then-not-size c = let words = c.words-r in
     let r = words.ensures.0 in
     let key = rw (key_class_lem.ensures, part.ensures, word_in _ _ _ 3 r (omega arith), word_in _ _ _ 4 r (omega arith)) at take-value.ensures in
     let size = rw (word_in _ _ _ 9 r (omega arith), word_in _ _ _ 10 r (omega arith)) at take-size.ensures in
-    takes_then key (if1.false) (takes_not size (c.if-not-size.true))
+    takes_then key (not-false _ if1.false) (takes_not size (not-true _ c.if-not-size.true))
 
 pub returns-then-r-eq0 : goal.returns-then-r-eq0
 unfolding node_values string_at
@@ -67,8 +68,8 @@ returns-then-r-eq0 c = let args = c.args in
     let key = rw (key_class_lem.ensures, part.ensures, word_in _ _ _ 3 r (omega arith), word_in _ _ _ 4 r (omega arith)) at take-value.ensures in
     let size = rw (word_in _ _ _ 9 r (omega arith), word_in _ _ _ 10 r (omega arith)) at take-size.ensures in
     let none = missing_string args.nodes.now args.pool.now args.i 5 (sym (word_in _ _ _ 6 r (omega arith)) ∙ c.if-r-eq0.true) in
-    rw (if2.false)
-    (takes_then key (if1.false) (takes_then size (if2.false) (value_missing _ _ _ _ (ap length none))))
+    rw (not-false take-size.result.ok if2.false)
+    (takes_then key (not-false _ if1.false) (takes_then size (not-false _ if2.false) (value_missing _ _ _ _ (ap length none))))
 
 pub overflow_cast-r-5 : goal.overflow_cast-r-5
 overflow_cast-r-5 c = omega (arith, c.shared_slice_known-8-1.given 5)
@@ -89,4 +90,4 @@ returns c = let words = c.words-r in
     let key = rw (key_class_lem.ensures, part.ensures, word_in _ _ _ 3 r (omega arith), word_in _ _ _ 4 r (omega arith)) at take-value.ensures in
     let size = rw (word_in _ _ _ 9 r (omega arith), word_in _ _ _ 10 r (omega arith)) at take-size.ensures in
     let type = rw (c.part.ensures, word_in _ _ _ 5 r (omega arith), word_in _ _ _ 6 r (omega arith)) at c.take_value.ensures in
-    takes_then key (if1.false) (takes_then size (if2.false) type)
+    takes_then key (not-false _ if1.false) (takes_then size (not-false _ if2.false) type)
