@@ -7,7 +7,7 @@ use Rattle.validate.proofs.lemmas.check.CheckAnswers.{not_there, few_nodes, node
 use Rattle.validate.proofs.check.Goals as goal
 
 pub returns-then-not-is_draft : goal.returns-then-not-is_draft
-returns-then-not-is_draft c = not_there _ _ _ _ _ c.is_draft.ensures c.if-not-is_draft.true
+returns-then-not-is_draft c = not_there _ _ _ _ _ c.is_draft.ensures (rw c.if-not-is_draft.true)
 
 pub slice_bounds-check_table-end : goal.slice_bounds-check_table-end
 slice_bounds-check_table-end c = let (d, h) = is_there_lem _ _ _ _ _ c.is_draft.ensures (c.if-not-is_draft.false) in

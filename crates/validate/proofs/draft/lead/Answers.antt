@@ -2,11 +2,11 @@
 use native.Mathlib.Omega.{arith}
 use mathlib.Core.Path.{◌≡◌, sym, ◌∙◌}
 use mathlib.Core.Bool.{false}
-use mathlib.Core.Logic.{⊎_elim}
 use Rattle.elements.specs.rules.Rules.{rule_of}
 use Rattle.document.specs.rules.Canonical.{node_first}
 use Rattle.validate.proofs.lemmas.values.ValueSteps.{lead_none, lead_due, lead_taken}
 use Rattle.validate.proofs.draft.lead.Goals as goal
+use Rattle.validate.proofs.draft.lead.Goals.{then-i-end+else-is_titled, else-i-end}
 
 pub returns-then-levels-eq0 : goal.returns-then-levels-eq0
 returns-then-levels-eq0 c = lead_none _ _ _ _ _ (sym c.requires.1 ∙ c.if-levels-eq0.true)
@@ -17,6 +17,5 @@ returns-then-is_titled c = lead_due _ _ _ _ _ (sym c.is_titled.ensures ∙ c.if-
 pub returns : goal.returns
 returns c = let args = c.args in
     lead_taken _ _ _ _ _
-    (λ h. ⊎_elim {C = node_first (rule_of args.kind).parameters ≡ false} (λ w. sym w.1.ensures ∙ w.2.left) (λ w. absurd (omega arith))
-    c.if-i-end.branch)
+    (λ h. elim c.if-i-end.branch [ then-i-end+else-is_titled w ↦ sym w.is_titled.ensures ∙ w.if-is_titled.false | else-i-end w ↦ absurd (omega arith) ])
     c.values-taken.ensures

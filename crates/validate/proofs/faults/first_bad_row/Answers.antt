@@ -1,13 +1,13 @@
 -- `validate::first_bad_row` meets its contract. The loop's invariant: the first bad row is the first from node `i` on.
 use Prim.Native.Nat.{◌*◌, ◌-◌}
 use mathlib.Core.Path.{◌≡◌, ◌∙◌, sym, ap}
-use mathlib.Core.Logic.{⊎_elim}
 use native.Mathlib.Omega.{arith}
 use Rattle.document.specs.rules.Record.{record_length}
 use Rattle.validate.specs.internal.TableWords.{found}
 use Rattle.validate.proofs.lemmas.index.BlockIds.{kind_read}
 use Rattle.validate.proofs.lemmas.faults.BadRows.{spot_other, search_step, search_end}
 use Rattle.validate.proofs.faults.first_bad_row.Goals as goal
+use Rattle.validate.proofs.faults.first_bad_row.Goals.{then-nodes-i-eq-ROW+else-row_differs, else-nodes-i-eq-ROW}
 
 pub loop-i-init : goal.loop-i-init
 loop-i-init c = λ f s.
@@ -37,8 +37,10 @@ loop-i-preserved c = let args = c.args in
     let loop-test = c.loop-i-test in
     λ f s.
     let t = search_step args.nodes.now args.count loop.i f loop-test.true (loop.invariant f s) in
-    t.on (⊎_elim (λ w. sym (w.1.ensures t.test t.spot) ∙ w.2.left)
-    (λ w. sym (spot_other _ _ _ t.spot (λ k. w.left (kind_read _ _ ∙ k)))) c.if-nodes-i-eq-ROW.branch)
+    t.on (elim c.if-nodes-i-eq-ROW.branch [
+      | then-nodes-i-eq-ROW+else-row_differs w ↦ sym (w.row_differs.ensures t.test t.spot) ∙ w.if-row_differs.false
+      | else-nodes-i-eq-ROW w ↦ sym (spot_other _ _ _ t.spot (λ k. w.if-nodes-i-eq-ROW.false (kind_read _ _ ∙ k)))
+    ])
 
 pub returns : goal.returns
 unfolding found

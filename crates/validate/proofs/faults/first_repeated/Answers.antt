@@ -2,7 +2,6 @@
 use Prim.Native.Nat.{ℕ, ◌+◌, ◌*◌, ◌-◌}
 use mathlib.Core.Path.{◌≡◌, ◌∙◌, sym, ap}
 use mathlib.Core.Bool.{false}
-use mathlib.Core.Logic.{⊎_elim}
 use native.Mathlib.Omega.{arith}
 use Rattle.document.specs.rules.Record.{record_length}
 use Rattle.validate.specs.internal.TableWords.{ids_before, repeats_at, found}
@@ -10,6 +9,7 @@ use Rattle.validate.specs.internal.IdIndex.{Indexed}
 use Rattle.validate.proofs.lemmas.index.BlockIds.{above_id, repeated_here, repeated_on, repeated_end}
 use Rattle.validate.proofs.lemmas.index.SlotChains.{no_id}
 use Rattle.validate.proofs.faults.first_repeated.Goals as goal
+use Rattle.validate.proofs.faults.first_repeated.Goals.{then-nodes-i-le-FOOTNOTE+else-repeats, else-nodes-i-le-FOOTNOTE}
 
 pub loop-i-init : goal.loop-i-init
 unfolding ids_before
@@ -42,10 +42,13 @@ loop-i-preserved c = let args = c.args in
     let loop-test = c.loop-i-test in
     let turn : (repeats_at args.nodes.now args.pool.now loop.i ≡ false)
     × Indexed args.nodes.now args.pool.now (loop.i + 1) c.if-nodes-i-le-FOOTNOTE.heads c.if-nodes-i-le-FOOTNOTE.nexts =
-    ⊎_elim (λ w. (sym w.3.ensures.0 ∙ w.4.left, rw (w.5, w.6) (w.3.ensures.1 w.4.left)))
-    (λ w.
-    let h = above_id args.nodes.now args.pool.now loop.i w.0.left in
-    (rw h, rw (w.1, w.2) (no_id _ _ _ _ _ loop.invariant.1 (omega (arith, pre.0, loop-test.true)) h))) c.if-nodes-i-le-FOOTNOTE.branch in
+    elim c.if-nodes-i-le-FOOTNOTE.branch [
+      | then-nodes-i-le-FOOTNOTE+else-repeats w ↦
+          (sym w.repeats.ensures.0 ∙ w.if-repeats.false, rw (w.heads-is, w.nexts-is) (w.repeats.ensures.1 w.if-repeats.false))
+      | else-nodes-i-le-FOOTNOTE w ↦
+          (let h = above_id args.nodes.now args.pool.now loop.i w.if-nodes-i-le-FOOTNOTE.false in
+          (rw h, rw (w.heads-is, w.nexts-is) (no_id _ _ _ _ _ loop.invariant.1 (omega (arith, pre.0, loop-test.true)) h)))
+    ] in
     (omega (arith, loop-test.true), turn.1, repeated_on _ _ _ _ loop-test.true turn.0 ∙ loop.invariant.2)
 
 pub returns : goal.returns

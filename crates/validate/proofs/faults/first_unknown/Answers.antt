@@ -1,13 +1,13 @@
 -- `validate::first_unknown` meets its contract. The loop's invariant: the first unknown target from node `i` on is the first of all.
 use Prim.Native.Nat.{◌*◌, ◌-◌}
 use mathlib.Core.Path.{◌≡◌, ◌∙◌, sym, ap}
-use mathlib.Core.Logic.{⊎_elim}
 use native.Mathlib.Omega.{arith}
 use borrow.Author.Tests.{ne_eqb}
 use Rattle.document.specs.rules.Record.{record_length}
 use Rattle.validate.specs.internal.TableWords.{found}
 use Rattle.validate.proofs.lemmas.index.BlockIds.{kind_read, unknown_here, unknown_on, unknown_end}
 use Rattle.validate.proofs.faults.first_unknown.Goals as goal
+use Rattle.validate.proofs.faults.first_unknown.Goals.{then-nodes-i+else-dangles, else-nodes-i}
 
 pub loop-i-init : goal.loop-i-init
 loop-i-init c = let e : c.args.count - 0 ≡ c.args.count = omega arith in
@@ -30,7 +30,10 @@ pub loop-i-preserved : goal.loop-i-preserved
 loop-i-preserved c = let loop = c.loop-i in
     let loop-test = c.loop-i-test in
     unknown_on _ _ _ _ _ _ loop-test.true
-    (⊎_elim (λ w. sym w.1.ensures ∙ w.2.left) (λ w. rw (ne_eqb _ _ (λ e. w.left (kind_read _ _ ∙ e)))) c.if-nodes-i.branch)
+    (elim c.if-nodes-i.branch [
+      | then-nodes-i+else-dangles w ↦ sym w.dangles.ensures ∙ w.if-dangles.false
+      | else-nodes-i w ↦ rw (ne_eqb _ _ (λ e. w.if-nodes-i.false (kind_read _ _ ∙ e)))
+    ])
     ∙ loop.invariant
 
 pub returns : goal.returns

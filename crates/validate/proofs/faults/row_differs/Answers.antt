@@ -29,10 +29,9 @@ returns c = let pre = c.requires in
     let word = c.word in
     let if1 = c.if-word-ne-TABLE in
     let head-names = c.head_names-names in
-    let names = c.in-At.in-At-own in
     let kind = word in
     λ b s.
     spot_head _ _ b s pre _
     binder.ensures (sym kind.ensures ∙ if1.false) _
     head-names.ensures _ _
-    names.given.1 c.child_count.ensures
+    c.in-At.is c.child_count.ensures

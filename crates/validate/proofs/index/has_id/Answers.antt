@@ -1,12 +1,12 @@
 -- `index::has_id` meets its contract.
 use mathlib.Core.Path.{◌≡◌, sym, ◌∙◌}
 use mathlib.Core.Bool.{true}
-use mathlib.Core.Logic.{⊎_elim}
 use Rattle.elements.specs.rules.Class.{is_block}
 use Rattle.table.specs.Stored.{word_at}
 use Rattle.validate.specs.internal.TableWords.{wanted}
 use Rattle.validate.proofs.lemmas.index.BlockIds.{below_blocks, above_blocks, a_block, no_block, other_kind, is_wanted, wanted_any, wanted_kind}
 use Rattle.validate.proofs.index.has_id.Goals as goal
+use Rattle.validate.proofs.index.has_id.Goals.{then-only-ne-ANY+else-only-kind, else-only-ne-ANY}
 
 pub returns-then-kind-lt-DOCUMENT : goal.returns-then-kind-lt-DOCUMENT
 returns-then-kind-lt-DOCUMENT c = let args = c.args in
@@ -34,6 +34,8 @@ returns c = let args = c.args in
     let if3 = c.if-only-ne-ANY in
     let k = word_at args.nodes.now args.i 0 in
     let b : is_block k ≡ true = a_block k (rw kind.ensures at if1.false) (rw kind.ensures at if2.false) in
-    let w : wanted args.only k ≡ true = ⊎_elim (λ w. wanted_kind args.only k w.0.taken (w.1.left ∙ kind.ensures))
-    (λ w. wanted_any args.only k w.left b) if3.branch in
+    let w : wanted args.only k ≡ true = elim c.if-only-ne-ANY.branch [
+      | then-only-ne-ANY+else-only-kind w ↦ wanted_kind args.only k w.if-only-ne-ANY.true (w.if-only-kind.false ∙ kind.ensures)
+      | else-only-ne-ANY w ↦ wanted_any args.only k w.if-only-ne-ANY.false b
+    ] in
     rw c.string.ensures (sym (is_wanted args.nodes.now args.pool.now args.only args.i b w))

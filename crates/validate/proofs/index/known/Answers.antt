@@ -1,7 +1,6 @@
 -- `index::known` meets its contract. The loop's invariant: what is known among the first `j` nodes is what is known at all.
 use Prim.Native.Nat.{◌-◌, ◌<◌}
 use mathlib.Core.Path.{◌≡◌, ◌∙◌, sym, ap}
-use mathlib.Core.Logic.{⊎_elim}
 use native.Mathlib.Omega.{arith}
 use Rattle.elements.specs.rules.Bytes.{same}
 use Rattle.elements.proofs.Same.{same_told}
@@ -10,6 +9,7 @@ use Rattle.validate.specs.internal.TableWords.{ids_before}
 use Rattle.validate.proofs.lemmas.index.BlockIds.{known_here, known_other, known_none, known_end}
 use Rattle.validate.proofs.lemmas.index.SlotChains.{slot_below, left_first, left_next, next_below}
 use Rattle.validate.proofs.index.known.Goals as goal
+use Rattle.validate.proofs.index.known.Goals.{then-has_id+else-equal, else-has_id}
 
 pub offset_bounds-heads-s : goal.offset_bounds-heads-s
 offset_bounds-heads-s c = let args = c.args in
@@ -75,9 +75,12 @@ loop-j-preserved c = let args = c.args in
     let only = args.only in
     let j = loop.j in
     let e : is_among id (ids_before words bytes only (j - 1)) ≡ is_among id (ids_before words bytes only j) =
-    ⊎_elim (λ w. known_other words bytes id only j loop-test.true (sym has_id.ensures ∙ w.0.taken)
-    (sym (ap (same id) w.1.ensures) ∙ (sym (same_told _ _ _ w.2.ensures) ∙ w.3.left)))
-    (λ w. known_none words bytes id only j loop-test.true (sym has_id.ensures ∙ w.left)) if1.branch in
+    elim c.if-has_id.branch [
+      | then-has_id+else-equal w ↦
+          known_other words bytes id only j loop-test.true (sym has_id.ensures ∙ w.if-has_id.true)
+          (sym (ap (same id) w.string.ensures) ∙ (sym (same_told _ _ _ w.equal.ensures) ∙ w.if-equal.false))
+      | else-has_id w ↦ known_none words bytes id only j loop-test.true (sym has_id.ensures ∙ w.if-has_id.false)
+    ] in
     left_next _ _ _ _ _ _ _ pre.1 _ loop-test.true loop.invariant e
 
 pub returns : goal.returns

@@ -1,7 +1,6 @@
 -- `record::element_fits` meets its contract.
 use native.Mathlib.Omega.{arith}
 use mathlib.Core.Path.{◌≡◌, sym, ◌∙◌}
-use mathlib.Core.Logic.{⊎_elim}
 use lib.Dec.{ltb}
 use borrow.Author.Tests.{ltb-true, ltb-false}
 use Rattle.base.specs.rules.Limits.{missing}
@@ -9,6 +8,7 @@ use Rattle.table.specs.Stored.{word_at}
 use Rattle.validate.proofs.lemmas.records.Decided.{decided_by, denied}
 use Rattle.validate.proofs.lemmas.records.RecordTests.{word_in}
 use Rattle.validate.proofs.record.element_fits.Goals as goal
+use Rattle.validate.proofs.record.element_fits.Goals.{then-r+else-r-2, else-r}
 
 pub returns-then-r-lt-FIRST_KIND : goal.returns-then-r-lt-FIRST_KIND
 returns-then-r-lt-FIRST_KIND c = λ words i e l. denied (λ s. omega (arith, word_in words _ i 0 e (omega arith), s.kind_low))
@@ -35,8 +35,10 @@ returns c = let args = c.args in
       kind_low = omega (arith, word_in words _ i 0 e (omega arith));
       kind_high = omega (arith, word_in words _ i 0 e (omega arith));
       no_text = sym (word_in words _ i 8 e (omega arith)) ∙ if3.false;
-      sized = λ m. ⊎_elim {C = word_at words i 10 ≡ missing} (λ b. sym (word_in words _ i 10 e (omega arith)) ∙ b.2.left)
-          (λ b. absurd (b.left (word_in words _ i 9 e (omega arith) ∙ m))) c.if-r.branch;
+      sized = λ m. elim c.if-r.branch [
+        | then-r+else-r-2 w ↦ sym (word_in words _ i 10 e (omega arith)) ∙ w.if-r-2.false
+        | else-r w ↦ absurd (w.if-r.false (word_in words _ i 9 e (omega arith) ∙ m))
+      ];
       levels = omega (arith, ltb-true levels left t);
     })
     (λ t s. omega (arith, ltb-false levels left t, s.levels))

@@ -14,4 +14,4 @@ returns c = let if1 = c.if-bytes-eq0 in
     let step = c.step-taken in
     let if2 = c.if-taken-ne-OK in
     let sort = c.sort in
-    value_taken _ _ _ _ _ step.ensures.stands (character_of sort.result) _ if1.false if2.false (sort.ensures _) c.fits2.ensures
+    value_taken _ _ _ _ _ step.ensures.stands (character_of sort.result) _ if1.false if2.false (sort.ensures _) c.fits.ensures
