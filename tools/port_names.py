@@ -14,8 +14,8 @@ HERE = os.path.dirname(os.path.abspath(__file__))
 WORD = re.compile(r"[\w'′≢≡₀-₉-]+")
 QUOTED = re.compile(r"`[^`\n]+`")
 STRING = re.compile(r'("(?:[^"\\\n]|\\.)*")')
-# Names of the document language that are names of definitions too.
-LANGUAGE = {"formal-item", "link-ext", "footnote-ref", "list-ordered", "list-unordered"}
+# Names of the document language, and a word of its paper, that are names of definitions too.
+LANGUAGE = {"formal-item", "link-ext", "footnote-ref", "list-ordered", "list-unordered", "ill-formed"}
 
 
 def table():

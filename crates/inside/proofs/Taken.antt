@@ -1,5 +1,5 @@
 -- A child without significance that is taken at once: no parameter that may still come is required, or has its class.
-use Prim.Native.Nat.{ℕ, zero, suc, ◌+◌, ◌-◌, ◌<◌, ◌≤◌}
+use Prim.Native.Nat.{ℕ, zero, suc, ◌+◌, ◌<◌, ◌≤◌}
 use mathlib.Core.Path.{◌≡◌, ◌∙◌, refl, sym, ap}
 use mathlib.Core.Bool.{Bool, true, false, not, ◌&&◌, ◌||◌}
 use mathlib.Core.List.{List, [], ◌∷◌}
@@ -11,7 +11,7 @@ use lib.ListN.{drop}
 use lib.Seq.{drop-drop}
 use borrow.Author.Tests.{lt-ltb, ne_eqb, not-true, leb-true, leb-false}
 use Rattle.base.proofs.Booleans.{bool_case, both, T_true, true_T}
-use Rattle.base.proofs.Tables.{every, below, each_below}
+use Rattle.base.proofs.Tables.{below, each_below}
 use Rattle.elements.specs.rules.Bytes.{among}
 use Rattle.elements.specs.rules.Class as Class
 use Rattle.elements.specs.rules.Rules.{Slot, must, may, id_type, Content, alternatives_of, Rule, rules, rule_of}

@@ -1,5 +1,5 @@
 -- The table of `specs/reference/Sequence.antt` and the encodings of `specs/rules/Scalar.antt` say the same: a text is valid up to its end exactly where it is UTF-8,
--- and up to p exactly where its first ill_formed sequence begins at p. The texts are all lists of numbers.
+-- and up to p exactly where its first ill-formed sequence begins at p. The texts are all lists of numbers.
 -- Beside that: UTF-8 texts join, a UTF-8 text parts before an ASCII byte, and what follows an ASCII byte in front is UTF-8.
 use mathlib.Core.Path.{◌≡◌, refl, ap, ap₂, sym, ◌∙◌}
 use mathlib.Core.Bool.{Bool, true, ◌&&◌}

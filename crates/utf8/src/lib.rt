@@ -150,7 +150,7 @@ fn ascii_end(text: &[u8], place: usize) -> bool
     false
 }
 
-// The place of the first ill_formed sequence, and the text's length where there is none. Most text is ASCII,
+// The place of the first ill-formed sequence, and the text's length where there is none. Most text is ASCII,
 // whose bytes are sequences by themselves.
 pub fn valid_up_to(text: &[u8]) -> usize
     ensures { result ≡ valid_up_to text.now }

@@ -10,7 +10,7 @@ use lib.Dec.{T, eqb, leb, eqb→eq}
 use lib.ListN.{length, drop, get_or, drop_of_length-le}
 use borrow.Author.Tests.{eqb-true, eqb-false, leb-true, leb-false}
 use Rattle.base.proofs.Booleans.{bool_case, both, cond_case, and_true}
-use Rattle.base.proofs.Tables.{below, each_below}
+use Rattle.base.proofs.Tables.{each_below}
 use Rattle.utf8.specs.rules.Scalar.{encode}
 use Rattle.elements.specs.rules.Characters.{is_letter, is_digit, type_character, id_character, uri_character, character_of}
 use Rattle.syntax.specs.rules.Syntax.{Piece, raw, letter, number, hex_value, is_piece, piece_value, pieces_value}

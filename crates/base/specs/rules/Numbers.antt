@@ -9,7 +9,7 @@ ok = 0
 abbrev pub text_too_long : ℕ
 text_too_long = 1
 
--- "ill_formed UTF-8"
+-- "ill-formed UTF-8"
 abbrev pub not_utf8 : ℕ
 not_utf8 = 2
 

@@ -1,6 +1,5 @@
 -- `put_nodes` meets its contract. The loop's invariant: the lines of the first k nodes are put.
 use mathlib.Core.Path.{refl, ◌∙◌}
-use Prim.Native.Nat.{◌-◌}
 use borrow.Author.Rules.{rules}
 use Rattle.listing.proofs.Lines.{lines_none, lines_next, lines_all}
 use Rattle.listing.proofs.put_nodes.Goals as goal

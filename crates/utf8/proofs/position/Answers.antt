@@ -1,8 +1,8 @@
 -- `utf8::position` meets its contract. The loop's invariant: line and column, counted on through what is left before the place, are the answer.
 use mathlib.Core.Path.{◌≡◌, refl, sym, ◌∙◌}
-use Prim.Native.Nat.{◌-◌, ◌<◌, min}
+use Prim.Native.Nat.{◌<◌, min}
 use native.Mathlib.Omega.{arith}
-use borrow.Author.Tests.{eq-eqb, ne_eqb, not-true, not-false}
+use borrow.Author.Tests.{eq-eqb, ne_eqb}
 use lib.ListN.{length, get_or}
 use Rattle.utf8.specs.rules.Position.{line_of, column_of, line_feeds}
 use Rattle.utf8.proofs.Column.{next_line, next_column, column_start, column_end, column_step, line_step, next_line_bound, next_column_bound, left_step, left_end}

@@ -1,6 +1,5 @@
 -- `utf8::valid_up_to` meets its contract. The loop's invariant: the answer is `i` and as many bytes more as are well formed from there on.
 use mathlib.Core.Path.{sym, ◌∙◌}
-use Prim.Native.Nat.{◌-◌}
 use native.Mathlib.Omega.{arith}
 use borrow.Author.Tests.{lt-ltb}
 use lib.ListN.{drop_of_length-le}

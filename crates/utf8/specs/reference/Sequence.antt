@@ -55,6 +55,6 @@ valid_from skip [] = 0
 valid_from zero (b ∷ text) = elim (sequence_length (b ∷ text)) [ zero ↦ 0 | suc k ↦ suc (valid_from k text) ]
 valid_from (suc k) (b ∷ text) = suc (valid_from k text)
 
--- The place of the first ill_formed sequence, and the text's length where there is none.
+-- The place of the first ill-formed sequence, and the text's length where there is none.
 unfoldable pub valid_up_to : List ℕ → ℕ
 valid_up_to text = valid_from 0 text

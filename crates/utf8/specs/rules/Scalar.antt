@@ -32,7 +32,7 @@ pub record IsUtf8 (text : List ℕ) : Type 0 where
   pub are_scalar : T (all_scalar scalars)
   pub encoded : encode_all scalars ≡ text
 
--- The first ill_formed sequence of a text begins at p (number 2 of document 01): all before it is UTF-8, and no scalar value's encoding stands there.
+-- The first ill-formed sequence of a text begins at p (number 2 of document 01): all before it is UTF-8, and no scalar value's encoding stands there.
 pub record IllFormedAt (text : List ℕ) (p : ℕ) : Type 0 where
   pub inside : p < length text
   pub before : IsUtf8 (take p text)

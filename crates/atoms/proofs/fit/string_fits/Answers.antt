@@ -1,5 +1,4 @@
 -- `fit::string_fits` meets its contract. The loop's invariant is `StringLeft`.
-use Prim.Native.Nat.{◌-◌}
 use native.Mathlib.Omega.{arith}
 use Rattle.atoms.proofs.fit.CharactersFit.{string_start, string_none, string_past, string_stopped, string_further, string_turn, string_refused}
 use Rattle.atoms.proofs.fit.string_fits.Goals as goal

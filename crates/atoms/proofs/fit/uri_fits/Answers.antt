@@ -1,6 +1,5 @@
 -- `fit::uri_fits` meets its contract. The loop's invariant: what is left of the symbol from `i` on fits if the whole does.
 use mathlib.Core.Path.{refl, sym, ◌∙◌}
-use Prim.Native.Nat.{◌-◌}
 use lib.ListN.{drop_of_length-le}
 use Rattle.syntax.specs.reference.Scan.{ordinary_run}
 use Rattle.atoms.specs.Atom.{fits}

@@ -1,6 +1,5 @@
 -- `run::blocks_end` meets its contract. The loop's invariant: from `i` on the run ends where it ends from `from` on.
 use mathlib.Core.Path.{refl, sym, ◌∙◌}
-use Prim.Native.Nat.{◌-◌}
 use borrow.Author.Rules.{rules}
 use Rattle.atoms.proofs.run.PlainRuns.{plain_passed}
 use Rattle.atoms.proofs.run.blocks_end.Goals as goal

@@ -1,6 +1,5 @@
 -- `run::plain_end` meets its contract. The loop's invariant: from `i` on the run ends where it ends from `from` on.
 use mathlib.Core.Path.{sym, ◌∙◌}
-use Prim.Native.Nat.{◌-◌}
 use native.Mathlib.Omega.{arith}
 use Rattle.atoms.proofs.run.PlainRuns.{plain_passed, plain_past, plain_one, plain_stop}
 use Rattle.atoms.proofs.run.plain_end.Goals as goal

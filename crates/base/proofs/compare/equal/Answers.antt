@@ -1,5 +1,4 @@
 -- `compare::equal` meets its contract. The loop's invariant: the strings are equal if what is left of them from `i` on is.
-use Prim.Native.Nat.{◌-◌}
 use mathlib.Core.Path.{refl, sym, ap}
 use mathlib.Core.Bool.{true≢false}
 use native.Mathlib.Omega.{arith}

@@ -1,6 +1,5 @@
 -- `symbol::symbol_end` meets its contract. The loop's invariant: what is left of the symbol from `i` on ends where the whole does.
 use mathlib.Core.Path.{refl, ap}
-use Prim.Native.Nat.{◌-◌}
 use native.Mathlib.Omega.{arith}
 use lib.ListN.{length, drop_of_length-le}
 use Rattle.syntax.specs.reference.Scan.{ordinary_run}

@@ -1,5 +1,4 @@
 -- `machine::none_required` meets its contract. The loop's invariant: what the specification says from the place on is what it says from the first one on.
-use Prim.Native.Nat.{◌-◌}
 use mathlib.Core.Path.{◌∙◌, refl, sym}
 use Rattle.elements.specs.rules.Rules.{rule_of}
 use Rattle.inside.proofs.Table.{past_four}

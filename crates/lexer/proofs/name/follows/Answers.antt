@@ -1,6 +1,5 @@
 -- `name::follows` meets its contract. The loop's invariant: the word stands there if all compared so far were the same and what is left of it stands after them.
 use mathlib.Core.Path.{sym, ◌∙◌}
-use Prim.Native.Nat.{◌-◌}
 use native.Mathlib.Omega.{arith}
 use Rattle.lexer.proofs.Names.{word_start, word_turn, word_done}
 use Rattle.lexer.proofs.name.follows.Goals as goal

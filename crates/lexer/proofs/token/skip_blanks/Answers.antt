@@ -1,7 +1,5 @@
 -- `token::skip_blanks` meets its contract. The loop's invariant: what is left of the white space from `at` on ends where the whole does.
 use mathlib.Core.Path.{refl, ◌∙◌}
-use mathlib.Core.Logic.{⊎_elim}
-use Prim.Native.Nat.{◌-◌}
 use native.Mathlib.Omega.{arith}
 use Rattle.lexer.proofs.Blanks.{blanks_end, blank_on, blank_stop, return_on, return_stop}
 use Rattle.characters.proofs.ClassNumbers.{above_space}

@@ -1,6 +1,5 @@
 -- `put::put_escaped` meets its contract. The loop's invariant: the first i bytes are written.
 use borrow.Author.Rules.{rules}
-use Prim.Native.Nat.{◌-◌}
 use mathlib.Core.Path.{refl, ◌∙◌}
 use Rattle.document.specs.rules.Canonical.{bytes_before}
 use Rattle.base.proofs.Adding.{adds_as, adds_none, adds_join, adds_put}

@@ -1,9 +1,6 @@
 -- `put::raw_blocks` meets its contract. The loop's invariant: the bytes from the first to i stand for themselves.
-use mathlib.Core.Bool.{◌&&◌}
 use native.Mathlib.Omega.{arith}
-use borrow.Author.Tests.{not-false}
 use borrow.Author.Rules.{rules}
-use Prim.Native.Nat.{◌-◌}
 use Rattle.printer.proofs.put.RawBytes.{raw_start, raw_two}
 use Rattle.printer.proofs.put.raw_blocks.Goals as goal
 

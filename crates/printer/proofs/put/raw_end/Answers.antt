@@ -1,5 +1,4 @@
 -- `put::raw_end` meets its contract. The loop's invariant: the bytes from the first to i stand for themselves.
-use Prim.Native.Nat.{◌-◌}
 use native.Mathlib.Omega.{arith}
 use lib.ListN.{length}
 use Rattle.printer.proofs.put.RawBytes.{raw_first, raw_on, raw_join}

@@ -1,6 +1,5 @@
 -- The walks over blocks meet their contracts. The invariant of each loop is `Gone`; each way through a loop's body is one law of `BlockLoops`.
 use mathlib.Core.Path.{sym, ◌∙◌}
-use Prim.Native.Nat.{◌-◌}
 use native.Mathlib.Omega.{arith}
 use Rattle.reader.proofs.lemmas.commands.CommandClasses.{not_ended}
 use Rattle.reader.proofs.lemmas.commands.BlockLoops.{begun, answered, gone_on, later, place_from, place_within, past_bounded}

@@ -1,5 +1,5 @@
 -- `fill::fill` meets its contract. The loop's invariant: the rows of the entries passed are written, each with two strings of the text at most.
-use Prim.Native.Nat.{◌+◌, ◌-◌}
+use Prim.Native.Nat.{◌+◌}
 use mathlib.Core.Path.{refl, ap, ◌∙◌}
 use native.Mathlib.Omega.{arith}
 use Rattle.reader.specs.internal.Filling.{Filling}

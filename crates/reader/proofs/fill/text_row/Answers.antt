@@ -6,11 +6,8 @@ use Rattle.reader.proofs.lemmas.fill.Rows.{text_rowed}
 use Rattle.reader.proofs.lemmas.walk.QuotedStrings.{atom_within}
 use Rattle.reader.proofs.fill.text_row.Goals as goal
 
-cast-length : tie.Need-overflow-cast-t20
-cast-length c =
-    let put = c.before.before.before.before.before in
-    let start = put.before.before.before.before.before.before.before in
-    omega (arith, put.put-atom.ensures.0, atom_within start.args.text.now start.args.e.place, start.requires.short)
+pub overflow_cast-length : goal.overflow_cast-length
+overflow_cast-length c = omega (arith, c.put_atom-length.ensures.0, atom_within c.args.text.now c.args.e.place, c.requires.short)
 
 pub overflow_add-result : goal.overflow_add-result
 overflow_add-result c = omega (

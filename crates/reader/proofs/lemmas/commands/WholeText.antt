@@ -7,7 +7,7 @@ use native.Mathlib.Omega.{arith}
 use lib.ListN.{length}
 use borrow.Author.Tests.{le-ltb, ne_eqb}
 use Rattle.elements.specs.rules.Class as Class
-use Rattle.syntax.specs.rules.Expression.{Expr, Exprs, and, place, depth, depth_all}
+use Rattle.syntax.specs.rules.Expression.{Expr, Exprs, and, depth, depth_all}
 use Rattle.lexer.specs.Token.{Seen}
 use Rattle.document.specs.rules.Spelling.{imperative}
 use Rattle.document.specs.rules.Lead.{expr_class, list_class}

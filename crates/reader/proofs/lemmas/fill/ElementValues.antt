@@ -12,7 +12,7 @@ use Rattle.elements.specs.rules.Characters.{type_character}
 use Rattle.syntax.specs.rules.Expression.{Expr, symbol, quoted, list, Exprs, none, and}
 use Rattle.document.specs.rules.Value.{non_empty, every, is_value}
 use Rattle.base.specs.rules.Limits.{missing}
-use Rattle.document.specs.rules.Document.{Tree, size, key_of, type_of, width_or, height_or, key_in, type_in, width_in, height_in}
+use Rattle.document.specs.rules.Document.{Tree, key_of, type_of, width_or, height_or, key_in, type_in, width_in, height_in}
 use Rattle.document.specs.reference.RulesTest.{keeps_rules}
 use Rattle.document.specs.rules.Spelling.{holds_text}
 use Rattle.document.specs.rules.Lead.{lead_class, list_class, expr_class}

@@ -1,7 +1,7 @@
 -- Places and counts of an answer are within the text.
-use Prim.Native.Nat.{ℕ, suc, ◌+◌, ◌-◌, ◌≤◌}
+use Prim.Native.Nat.{ℕ, ◌+◌, ◌-◌, ◌≤◌}
 use mathlib.Core.Path.{◌≡◌, refl, ap}
-use mathlib.Core.List.{List, [], ◌∷◌, ◌++◌}
+use mathlib.Core.List.{List, [], ◌∷◌}
 use native.Mathlib.Omega.{arith}
 use borrow.Author.Tests.{ltb-false, ltb-true}
 use lib.Dec.{ltb}
@@ -10,7 +10,7 @@ use Rattle.base.proofs.Booleans.{cond_case}
 use Rattle.utf8.specs.reference.Sequence.{valid_up_to}
 use Rattle.syntax.specs.rules.Byte.{open_byte}
 use Rattle.syntax.specs.rules.Syntax.{pieces_before, bytes_before}
-use Rattle.syntax.specs.rules.Expression.{Expr, symbol, quoted, list, Exprs, none, and, place}
+use Rattle.syntax.specs.rules.Expression.{Expr, symbol, quoted, list, Exprs, none, and}
 use Rattle.syntax.specs.reference.Scan as Scan
 use Rattle.syntax.specs.reference.Scan.{Scanned, scan}
 use Rattle.lexer.specs.Token.{scan_place}

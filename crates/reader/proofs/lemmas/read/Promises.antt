@@ -1,6 +1,6 @@
 -- From what the parts of a read ensure to what the read promises, way by way.
 use Prim.Native.Nat.{ℕ, ◌*◌, ◌/◌, ◌≤◌, ◌<◌, min}
-use mathlib.Core.Path.{◌≡◌, refl, sym, ap, ◌∙◌}
+use mathlib.Core.Path.{◌≡◌, refl, sym, ◌∙◌}
 use mathlib.Core.Bool.{Bool, true, false, cond}
 use mathlib.Core.List.{List, []}
 use native.Mathlib.Nat.{zero-add}
@@ -10,7 +10,7 @@ use lib.Dec.{ltb}
 use lib.ListN.{length, replicate, length-replicate}
 use lib.Seq.{sets, sets-eq}
 use Rattle.base.specs.rules.Limits.{most_nodes}
-use Rattle.syntax.specs.rules.Expression.{Expr, none, and}
+use Rattle.syntax.specs.rules.Expression.{Expr}
 use Rattle.document.specs.rules.Document.{Node, says}
 use Rattle.document.specs.rules.Spelling.{Spelling, most_levels}
 use Rattle.document.specs.reference.Meaning.{fine, judge_root, tree_of, places}

@@ -1,5 +1,4 @@
 -- `run_end` meets its contract: each way through the loop is one law of `TopExpressions`.
-use Prim.Native.Nat.{◌-◌}
 use native.Mathlib.Omega.{arith}
 use Rattle.reader.proofs.lemmas.nested.TopExpressions.{running, run_ends, run_unclosed, run_stuck, run_closes, run_opens, run_passes, run_over, looked_within}
 use Rattle.reader.proofs.nested.run_end.Goals as goal

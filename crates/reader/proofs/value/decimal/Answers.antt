@@ -1,5 +1,4 @@
 -- `decimal` meets its contract: the invariant is `Counting`, and each way is one law of `Decimals`.
-use Prim.Native.Nat.{◌-◌}
 use native.Mathlib.Omega.{arith}
 use Rattle.reader.proofs.lemmas.value.Decimals.{decimal_empty, decimal_long, decimal_start, decimal_small, decimal_next, decimal_below, decimal_above}
 use Rattle.reader.proofs.lemmas.value.Decimals.{decimal_end}

@@ -1,23 +1,16 @@
 -- `is_value` meets its contract: each way out is one law of `TextValues`.
+use native.Mathlib.Omega.{arith}
 use Rattle.reader.proofs.lemmas.value.TextValues.{value_id, value_type, value_target, value_none}
 use Rattle.reader.proofs.value.is_value.Goals as goal
 
--- src/value.rt:75:15
--- src/value.rt:76:15
--- src/value.rt:77:38
--- src/value.rt:77:15
--- src/value.rt:71:1
 pub returns-in-26 : goal.returns-in-26
 returns-in-26 c = value_id _ _ _ _ c.in-26.is c.atom_fits.ensures
 
--- src/value.rt:71:1
 pub returns-in-27 : goal.returns-in-27
 returns-in-27 c = value_type _ _ _ _ c.in-27.is c.atom_fits-in-27.ensures
 
--- src/value.rt:71:1
 pub returns-in-28 : goal.returns-in-28
 returns-in-28 c = value_target _ _ _ _ _ c.in-28.is c.target_sort.ensures c.atom_fits-in-28.ensures
 
--- src/value.rt:71:1
 pub returns-in_default : goal.returns-in_default
-returns-in_default c = value_none _ _ _ c.in_default.in_default-own.rest.0.0.1 c.in_default.in_default-own.rest.0.1 c.in_default.in_default-own.rest.1
+returns-in_default c = value_none _ _ _ (λ e. omega arith) (λ e. omega arith) (λ e. omega arith)

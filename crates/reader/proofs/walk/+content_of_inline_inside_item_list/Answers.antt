@@ -1,7 +1,6 @@
 -- The walks over an element's content meet their contracts. The invariant of a loop is `Walking`; each way through a loop's body is one law of `LoopInvariant`.
 use mathlib.Core.Path.{◌≡◌, refl, sym, ◌∙◌}
-use mathlib.Core.Logic.{⊎_elim}
-use Prim.Native.Nat.{◌-◌, ◌≤◌}
+use Prim.Native.Nat.{◌≤◌}
 use native.Mathlib.Omega.{arith}
 use borrow.Author.Rules.{rules}
 use lib.ListN.{length}
@@ -14,10 +13,11 @@ use Rattle.reader.proofs.lemmas.walk.ListItems.{Bare, is_list, bare_start, item_
 use Rattle.reader.proofs.lemmas.walk.OneTurn.{step_goes, turn_end, turn_fault, turn_stuck, turn_item}
 use Prim.Native.Nat.{◌<◌}
 use Rattle.reader.proofs.walk.+content_of_inline_inside_item_list.Goals as goal
+use Rattle.reader.proofs.walk.+content_of_inline_inside_item_list.Goals.{inline-in-16, inline-in_default}
 
 pub content_of-list-requires : goal.content_of-list-requires
 content_of-list-requires t c = let pre = c.requires in
-    (omega (arith, c.decreases), (pre, is_list _ c.if-kind-lt16.false c.in-16.if-kind-lt16-own.true))
+    (omega (arith, c.decreases), (pre, is_list c.args.kind (omega arith) (omega arith)))
 
 pub content_of-inline-requires : goal.content_of-inline-requires
 content_of-inline-requires t c = let pre = c.requires in
@@ -82,7 +82,7 @@ inline-list-items-requires t c = let turn = c.in-List.ensures in
       omega (arith, turn.turn_within, c.decreases),
       (
         (turn.turn_within.1, omega (arith, turn.turn_within, loop), omega (arith, turn.turn_within, loop), pre.3, omega (arith, turn.turn_within, loop, pre)),
-        is_list _ c.if-class-lt16.false c.in-16.if-class-lt16-own.true,
+        is_list c.in-List.class (omega arith) (omega arith),
       ),
     )
 
@@ -104,58 +104,64 @@ inline-past_bracket-w-requires t c = search rules
 
 pub inline-returns-then-w-ne0 : goal.inline-returns-then-w-ne0
 inline-returns-then-w-ne0 t c =
-    let whole = let inline-child : (let a = c.args in
-    let l = c.loop-w in
-    let f = c.in-List.in-List-own.given.0 in
-    Bounded a.text.now f.1.1.0 c.if-class-lt16.child
-    × JudgesList a.text.now f.0 f.1.1.0 a.kind f.1.0 l.n l.p a.node
-    c.next_turn-t.new.tape c.if-class-lt16.tape c.if-class-lt16.child) = (let turn = c.in-List.ensures in
-    ⊎_elim
-    (λ w. rw (w.8, w.9)
-    (list_judges (is_list _ w.0.left w.1.taken) (omega (arith, turn.turn_within)) w.5.ensures w.3.ensures w.7.ensures))
-    (λ w. rw (w.3, w.4) w.2.ensures)
-    c.if-class-lt16.branch) in
     let turn = c.in-List.ensures in
-    list_answered c.loop-w.invariant (turn.turn_within, turn.turn_from)
-    inline-child c.past_bracket-w.ensures c.if-w-ne0.true in
+    let child : (let a = c.args in
+    let l = c.loop-w in
+    let f = c.in-List in
+    let j = c.if-class-lt16 in
+    Bounded a.text.now f.next j.child
+    × JudgesList a.text.now f.place f.next a.kind f.class l.n l.p a.node c.next_turn-t.new.tape j.tape j.child)
+    = elim c.if-class-lt16.branch [
+      | inline-in-16 w ↦ rw (w.tape-is, w.child-is)
+          (list_judges (is_list c.in-List.class (omega arith) (omega arith)) (omega (arith, turn.turn_within))
+          (w.list-items.ensures.bounded, w.list-items.ensures.answers_from) w.enter.ensures w.leave.ensures)
+      | inline-in_default w ↦ rw (w.tape-is, w.child-is)
+          (w.inside-child.ensures.bounded, w.inside-child.ensures.judges_list)
+    ] in
+    let whole = list_answered c.loop-w.invariant (turn.turn_within, turn.turn_from)
+    child c.past_bracket-w.ensures c.if-w-ne0.true in
     record { bounded = whole.0; answers_from = whole.1 }
 
 pub inline-loop-w-smaller : goal.inline-loop-w-smaller
 inline-loop-w-smaller t c =
-    let inline-child : (let a = c.args in
-    let l = c.loop-w in
-    let f = c.in-List.in-List-own.given.0 in
-    Bounded a.text.now f.1.1.0 c.if-class-lt16.child
-    × JudgesList a.text.now f.0 f.1.1.0 a.kind f.1.0 l.n l.p a.node
-    c.next_turn-t.new.tape c.if-class-lt16.tape c.if-class-lt16.child) = (let turn = c.in-List.ensures in
-    ⊎_elim
-    (λ w. rw (w.8, w.9)
-    (list_judges (is_list _ w.0.left w.1.taken) (omega (arith, turn.turn_within)) w.5.ensures w.3.ensures w.7.ensures))
-    (λ w. rw (w.3, w.4) w.2.ensures)
-    c.if-class-lt16.branch) in
     let turn = c.in-List.ensures in
+    let child : (let a = c.args in
+    let l = c.loop-w in
+    let f = c.in-List in
+    let j = c.if-class-lt16 in
+    Bounded a.text.now f.next j.child
+    × JudgesList a.text.now f.place f.next a.kind f.class l.n l.p a.node c.next_turn-t.new.tape j.tape j.child)
+    = elim c.if-class-lt16.branch [
+      | inline-in-16 w ↦ rw (w.tape-is, w.child-is)
+          (list_judges (is_list c.in-List.class (omega arith) (omega arith)) (omega (arith, turn.turn_within))
+          (w.list-items.ensures.bounded, w.list-items.ensures.answers_from) w.enter.ensures w.leave.ensures)
+      | inline-in_default w ↦ rw (w.tape-is, w.child-is)
+          (w.inside-child.ensures.bounded, w.inside-child.ensures.judges_list)
+    ] in
     omega (
       arith,
       list_forward c.loop-w.invariant (turn.turn_within, turn.turn_from)
-          inline-child c.past_bracket-w.ensures c.if-w-ne0.false,
+          child c.past_bracket-w.ensures c.if-w-ne0.false,
     )
 
 pub inline-loop-w-preserved : goal.inline-loop-w-preserved
 inline-loop-w-preserved t c =
-    let inline-child : (let a = c.args in
-    let l = c.loop-w in
-    let f = c.in-List.in-List-own.given.0 in
-    Bounded a.text.now f.1.1.0 c.if-class-lt16.child
-    × JudgesList a.text.now f.0 f.1.1.0 a.kind f.1.0 l.n l.p a.node
-    c.next_turn-t.new.tape c.if-class-lt16.tape c.if-class-lt16.child) = (let turn = c.in-List.ensures in
-    ⊎_elim
-    (λ w. rw (w.8, w.9)
-    (list_judges (is_list _ w.0.left w.1.taken) (omega (arith, turn.turn_within)) w.5.ensures w.3.ensures w.7.ensures))
-    (λ w. rw (w.3, w.4) w.2.ensures)
-    c.if-class-lt16.branch) in
     let turn = c.in-List.ensures in
+    let child : (let a = c.args in
+    let l = c.loop-w in
+    let f = c.in-List in
+    let j = c.if-class-lt16 in
+    Bounded a.text.now f.next j.child
+    × JudgesList a.text.now f.place f.next a.kind f.class l.n l.p a.node c.next_turn-t.new.tape j.tape j.child)
+    = elim c.if-class-lt16.branch [
+      | inline-in-16 w ↦ rw (w.tape-is, w.child-is)
+          (list_judges (is_list c.in-List.class (omega arith) (omega arith)) (omega (arith, turn.turn_within))
+          (w.list-items.ensures.bounded, w.list-items.ensures.answers_from) w.enter.ensures w.leave.ensures)
+      | inline-in_default w ↦ rw (w.tape-is, w.child-is)
+          (w.inside-child.ensures.bounded, w.inside-child.ensures.judges_list)
+    ] in
     list_gone_on c.loop-w.invariant (turn.turn_within, turn.turn_from)
-    inline-child c.past_bracket-w.ensures c.if-w-ne0.false
+    child c.past_bracket-w.ensures c.if-w-ne0.false
 
 pub inside-value-requires : goal.inside-value-requires
 inside-value-requires t c = let pre = c.requires in (
@@ -169,7 +175,7 @@ inside-value-requires t c = let pre = c.requires in (
 pub inside-returns-then-not-is_element : goal.inside-returns-then-not-is_element
 inside-returns-then-not-is_element t c =
     let whole = value_judges (sym c.is_element.ensures ∙ c.if-not-is_element.true)
-    (c.value.ensures.bounded, c.value.ensures.value, c.value.ensures.notes) in
+    (c.value.ensures.bounded, (c.value.ensures.value, c.value.ensures.notes)) in
     record { bounded = whole.0; judges_list = whole.1 }
 
 pub inside-enter-requires : goal.inside-enter-requires

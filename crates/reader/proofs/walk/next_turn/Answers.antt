@@ -1,34 +1,48 @@
 -- `next_turn` meets its contract: each way out is one law of `OneTurn`.
 use native.Mathlib.Omega.{arith}
 use mathlib.Core.Path.{refl}
+use Rattle.reader.specs.internal.Walk.{TurnWithin, TurnFrom}
+use Rattle.reader.specs.declared.walk.Turn.TheVariants.{Done}
 use Rattle.reader.proofs.lemmas.walk.OneTurn.{ended_here, turn_end, turn_fault, turn_stuck, turn_atom, turn_list, seen_within}
 use Rattle.reader.proofs.lemmas.walk.SeenExpressions.{seen_bounds}
 use Rattle.reader.proofs.walk.next_turn.Goals as goal
 
 pub returns-then-closes : goal.returns-then-closes
 returns-then-closes c =
-    let whole = let pre = c.requires in
-    rw c.at_end.ensures (turn_end (ended_here _ _ (c.closes.ensures c.if-closes.true)) pre.0
+    let pre = c.requires in
+    let a = c.args in
+    let whole : TurnWithin a.text.now a.i (Done c.at_end.result)
+    × TurnFrom a.text.now a.at a.kind a.i a.state a.nodes a.pool a.node a.tape.now a.tape.now (Done c.at_end.result)
+    = rw c.at_end.ensures (turn_end (ended_here _ _ (c.closes.ensures c.if-closes.true)) pre.0
     pre.1 pre.2 refl) in
     record { turn_within = whole.0; turn_from = whole.1 }
 
 pub returns-then-seen-eq-THE_END : goal.returns-then-seen-eq-THE_END
 returns-then-seen-eq-THE_END c =
-    let whole = let pre = c.requires in
-    rw c.at_end-then-seen-eq-THE_END.ensures (turn_end c.look-seen.ensures pre.0
+    let pre = c.requires in
+    let a = c.args in
+    let whole : TurnWithin a.text.now a.i (Done c.at_end-then-seen-eq-THE_END.result)
+    × TurnFrom a.text.now a.at a.kind a.i a.state a.nodes a.pool a.node a.tape.now a.tape.now (Done c.at_end-then-seen-eq-THE_END.result)
+    = rw c.at_end-then-seen-eq-THE_END.ensures (turn_end c.look-seen.ensures pre.0
     pre.1 pre.2 c.if-seen-eq-THE_END.true) in
     record { turn_within = whole.0; turn_from = whole.1 }
 
 pub returns-then-taken-ne0 : goal.returns-then-taken-ne0
 returns-then-taken-ne0 c =
-    let whole = rw c.fault_at.ensures (turn_fault c.look-seen.ensures
+    let a = c.args in
+    let whole : TurnWithin a.text.now a.i (Done c.fault_at.result)
+    × TurnFrom a.text.now a.at a.kind a.i a.state a.nodes a.pool a.node a.tape.now a.tape.now (Done c.fault_at.result)
+    = rw c.fault_at.ensures (turn_fault c.look-seen.ensures
     c.requires.0 _ _ c.step-taken.ensures.stands
     c.if-seen-eq-THE_END.false c.if-taken-ne0.true) in
     record { turn_within = whole.0; turn_from = whole.1 }
 
 pub returns-then-next-i : goal.returns-then-next-i
 returns-then-next-i c =
-    let whole = rw c.refusal.ensures (turn_stuck c.look-seen.ensures
+    let a = c.args in
+    let whole : TurnWithin a.text.now a.i (Done c.refusal.result)
+    × TurnFrom a.text.now a.at a.kind a.i a.state a.nodes a.pool a.node a.tape.now a.tape.now (Done c.refusal.result)
+    = rw c.refusal.ensures (turn_stuck c.look-seen.ensures
     c.requires.0 c.if-seen-eq-THE_END.false c.if-next-i.true) in
     record { turn_within = whole.0; turn_from = whole.1 }
 
@@ -72,11 +86,11 @@ overflow_add-result-2 c = let args = c.args in
 
 pub returns : goal.returns
 returns c =
-    let whole = let pre = c.requires in
-    turn_atom c.look-seen.ensures
+    let pre = c.requires in
+    let whole = turn_atom c.look-seen.ensures
     pre.0 _ _
     c.step-taken.ensures.stands
-    c.if-seen-eq-THE_END.false
+    c.if-seen-eq-THE_END.false {at = c.args.at}
     pre.1
     pre.2
     c.if-taken-ne0.false c.if-next-i.false c.if-seen-eq-A_LIST.false

@@ -1,8 +1,8 @@
 -- The walks over a node, an element, its children and a child meet their contracts: each way out is one law of `Nodes` or `Walks`.
 use native.Mathlib.Omega.{arith}
 use mathlib.Core.Path.{◌≡◌, refl, sym, ◌∙◌}
-use mathlib.Core.Bool.{true, true≢false}
-use Prim.Native.Nat.{◌+◌, ◌-◌}
+use mathlib.Core.Bool.{true≢false}
+use Prim.Native.Nat.{◌+◌}
 use borrow.Author.Tests.{not-true, not-false}
 use lib.ListN.{get_or}
 use Rattle.base.proofs.Booleans.{T_true, not_T_false}

@@ -1,9 +1,6 @@
 -- `draft::lead` meets its contract: each way out is one law of `ValueSteps`.
 use native.Mathlib.Omega.{arith}
-use mathlib.Core.Path.{◌≡◌, sym, ◌∙◌}
-use mathlib.Core.Bool.{false}
-use Rattle.elements.specs.rules.Rules.{rule_of}
-use Rattle.document.specs.rules.Canonical.{node_first}
+use mathlib.Core.Path.{sym, ◌∙◌}
 use Rattle.validate.proofs.lemmas.values.ValueSteps.{lead_none, lead_due, lead_taken}
 use Rattle.validate.proofs.draft.lead.Goals as goal
 use Rattle.validate.proofs.draft.lead.Goals.{then-i-end+else-is_titled, else-i-end}

@@ -1,5 +1,4 @@
 -- `validate::child_count` meets its contract. The loop's invariant: `n` and the children from `at` on are as many as the children.
-use Prim.Native.Nat.{◌-◌}
 use mathlib.Core.Path.{sym}
 use native.Mathlib.Omega.{arith}
 use Rattle.validate.proofs.lemmas.faults.Children.{counted_start, counted_on, counted_end}

@@ -1,5 +1,4 @@
 -- `validate::head_names` meets its contract. The loop's invariant: the first head among the children from `at` on is that of all.
-use Prim.Native.Nat.{◌-◌}
 use mathlib.Core.Path.{◌∙◌, sym}
 use native.Mathlib.Omega.{arith}
 use Rattle.validate.specs.internal.TableWords.{cells_found}

@@ -1,5 +1,4 @@
 -- `index::known` meets its contract. The loop's invariant: what is known among the first `j` nodes is what is known at all.
-use Prim.Native.Nat.{◌-◌}
 use Rattle.validate.proofs.lemmas.index.SlotChains.{LeftInSlot}
 use Rattle.validate.proofs.index.known.Given as goal
 

@@ -1,5 +1,5 @@
 -- `index::slot` meets its contract. The loop's invariant: the bytes from `i` on make of `h` what all make of the start.
-use Prim.Native.Nat.{◌-◌, ◌%◌}
+use Prim.Native.Nat.{◌%◌}
 use mathlib.Core.Path.{◌∙◌, refl, sym, ap}
 use native.Mathlib.Nat.{mod-lt}
 use native.Mathlib.Omega.{arith}

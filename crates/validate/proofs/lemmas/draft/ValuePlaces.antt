@@ -1,5 +1,5 @@
 -- What the trees inside an element say, where its values stand before its children's trees or behind the first.
-use Prim.Native.Nat.{ℕ, ◌+◌, max}
+use Prim.Native.Nat.{ℕ, max}
 use mathlib.Core.Path.{◌≡◌, refl, sym, ap, ◌∙◌}
 use mathlib.Core.Bool.{Bool, true, false, cond, ◌&&◌}
 use mathlib.Core.List.{List, [], ◌∷◌, ◌++◌, append-nil}

@@ -1,10 +1,8 @@
 -- `record::element_fits` meets its contract.
 use native.Mathlib.Omega.{arith}
-use mathlib.Core.Path.{◌≡◌, sym, ◌∙◌}
+use mathlib.Core.Path.{sym, ◌∙◌}
 use lib.Dec.{ltb}
 use borrow.Author.Tests.{ltb-true, ltb-false}
-use Rattle.base.specs.rules.Limits.{missing}
-use Rattle.table.specs.Stored.{word_at}
 use Rattle.validate.proofs.lemmas.records.Decided.{decided_by, denied}
 use Rattle.validate.proofs.lemmas.records.RecordTests.{word_in}
 use Rattle.validate.proofs.record.element_fits.Goals as goal

@@ -1,5 +1,4 @@
 -- `values::fits` meets its contract. The loop's invariant: the bytes from `i` on pass where all do.
-use Prim.Native.Nat.{◌-◌}
 use mathlib.Core.Path.{refl, sym, ◌∙◌}
 use Rattle.elements.specs.rules.Characters.{character_of}
 use Rattle.validate.proofs.lemmas.values.AllBytes.{every_on, every_not, every_end}
