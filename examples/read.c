@@ -1,6 +1,6 @@
 /* Reads a file, checks what reading left, and prints what they answer. In the repository's root:
  *
- *     rt staticlib structural
+ *     tools/archive
  *     cc -std=c99 -Wall -Wextra -Werror -I include examples/read.c target/staticlib/libstructural.a -o target/read
  *     target/read examples/crew-manual.sd
  *     target/read --imperative - < examples/crew-manual.sdi

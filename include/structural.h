@@ -6,8 +6,8 @@
  * list has the place of that node. Reading and then, under 0, checking answer together what reading alone answered in
  * version 0.1.0; line and column of the place are then for the caller to count.
  *
- * The functions are in target/staticlib/libstructural.a, which `rt staticlib structural` writes, for
- * x86-64 Linux. docs/LANGUAGE.md has the rules that the numbers below answer for.
+ * The functions are in target/staticlib/libstructural.a, which `tools/archive` writes, for x86-64 Linux.
+ * docs/LANGUAGE.md has the rules that the numbers below answer for.
  *
  * Every slice is a pointer and a length, the length counted in elements and not in bytes. It may be 0.
  * What a caller owes:

@@ -13,7 +13,7 @@ fn folder() -> PathBuf {
 
 fn missing(archive: &Path) -> ! {
     eprintln!("{} is not there.", archive.display());
-    eprintln!("Run `rt staticlib structural` in the repository's root, or set {VARIABLE} to the folder that has it.");
+    eprintln!("Run `tools/archive` in the repository's root, or set {VARIABLE} to the folder that has it.");
     exit(1)
 }
 

@@ -1,14 +1,14 @@
 // Lists the document that standard input holds in the imperative spelling (document 01, "Judged examples").
 #![tactic(auto)]
 
-ghost use Rattle.io.specs.Counts.{IsPrefixLen};
+ghost use Rattle.std.specs.Counts.{IsPrefixLen};
 ghost use Rattle.document.specs.rules.Spelling.{imperative};
 ghost use Rattle.listing.specs.Listing.{Lists, printed};
 
-use libc::{STDIN_FILENO, STDOUT_FILENO};
 use listing::{LENT_NODES, LENT_POOL, LENT_WORDS, LONGEST_TEXT};
+use std::io;
 
-// The bytes of a buffer of `io`.
+// The bytes of the input that are read, and of the output.
 const BUFFER: usize = 65536;
 
 // All that is printed for a text, with the memory lent that `printed` names. A line has at most 44 bytes, so the output holds those of 1,024 nodes.
@@ -33,12 +33,12 @@ fn list(text: &[u8], out: &mut [u8; BUFFER]) -> usize
     listing::put_document(&nodes, a.nodes, a.pool, out)
 }
 
-// Hands on what is read and what is printed, which no contract of `io` can speak of: the first 65,536 bytes of standard input, so that a text
-// of over 32,768 shows itself, and the bytes that `list` counts.
-fn main() {
-    let mut text = io::large_buffer();
-    let n = io::read_full(STDIN_FILENO, &mut text);
-    let mut out = io::large_buffer();
+// Hands on what is read and what is printed, which no contract of std can speak of: the first 65,536 bytes of standard input, so that a text
+// of over 32,768 shows itself, and the bytes that `list` counts. A read or a write that fails ends the program with its error.
+fn main(rt: HostRuntime) -> io::Result<()> {
+    let mut text = [0u8; BUFFER];
+    let n = input::read_full(&mut rt.stdin(), &mut text)?;
+    let mut out = [0u8; BUFFER];
     let k = list(&text[..n], &mut out);
-    io::write_all(STDOUT_FILENO, &out[..k]);
+    rt.write_all(&out[..k])
 }

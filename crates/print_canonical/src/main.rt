@@ -1,12 +1,15 @@
 // Prints the canonical spelling of the document that standard input holds in the nested spelling (document 01, "Canonical spelling").
 #![tactic(auto)]
 
-ghost use Rattle.io.specs.Counts.{IsPrefixLen};
+ghost use Rattle.std.specs.Counts.{IsPrefixLen};
 ghost use Rattle.listing.specs.Listing.{Lists};
 ghost use Rattle.print_canonical.specs.Tidying.{tidied};
 
-use libc::{STDIN_FILENO, STDOUT_FILENO};
 use listing::{LENT_NODES, LENT_POOL, LENT_WORDS, LONGEST_TEXT};
+use std::io;
+
+// The bytes of the input that are read.
+const BUFFER: usize = 65536;
 
 // A spelling and a line end have at most 6 bytes for each byte of the pool and 100 for each node.
 const LONGEST_LINE: usize = 6 * LENT_POOL + 100 * LENT_NODES;
@@ -35,10 +38,10 @@ fn tidy(text: &[u8], out: &mut [u8; LONGEST_LINE]) -> usize
 }
 
 // Hands on what is read and what is printed, as the listing programs do.
-fn main() {
-    let mut text = io::large_buffer();
-    let n = io::read_full(STDIN_FILENO, &mut text);
+fn main(rt: HostRuntime) -> io::Result<()> {
+    let mut text = [0u8; BUFFER];
+    let n = input::read_full(&mut rt.stdin(), &mut text)?;
     let mut out = [0u8; LONGEST_LINE];
     let k = tidy(&text[..n], &mut out);
-    io::write_all(STDOUT_FILENO, &out[..k]);
+    rt.write_all(&out[..k])
 }

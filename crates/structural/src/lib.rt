@@ -1,4 +1,4 @@
-// What others call: reading in both spellings, the check of a table, and printing; the same for C and Rust, under plain names, each slice a pointer and a length.
+// What others call: reading in both spellings, the check of a table, and printing; the same with the answer in words, as `structural_c` hands it to C and Rust.
 // What holds of calls one after the other is in proofs/.
 #![tactic(auto)]
 
@@ -35,8 +35,7 @@ fn put_answer(a: Answer, answer: &mut [u32])
 }
 
 // read_nested, with its answer in six words; returns the number.
-#[unsafe(no_mangle)]
-pub extern "C" fn structural_read_nested(
+pub fn structural_read_nested(
     text: &[u8],
     nodes: &mut [u32],
     places: &mut [u32],
@@ -55,8 +54,7 @@ pub extern "C" fn structural_read_nested(
 }
 
 // read_imperative in the same way.
-#[unsafe(no_mangle)]
-pub extern "C" fn structural_read_imperative(
+pub fn structural_read_imperative(
     text: &[u8],
     nodes: &mut [u32],
     places: &mut [u32],
@@ -75,8 +73,7 @@ pub extern "C" fn structural_read_imperative(
 }
 
 // check, with its answer in two words; returns the number.
-#[unsafe(no_mangle)]
-pub extern "C" fn structural_check(
+pub fn structural_check(
     nodes: &[u32],
     node_count: u32,
     pool: &[u8],
@@ -95,8 +92,7 @@ pub extern "C" fn structural_check(
 }
 
 // print, with its answer in two words; returns the number.
-#[unsafe(no_mangle)]
-pub extern "C" fn structural_print(
+pub fn structural_print(
     nodes: &[u32],
     node_count: u32,
     pool: &[u8],

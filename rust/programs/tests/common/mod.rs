@@ -17,8 +17,8 @@ pub const ALL: [&str; 3] = ["list_nested", "list_imperative", "print_canonical"]
 
 /// What a program prints where standard input holds these pieces, with a pause after each but the last.
 pub fn run_on_pieces(program: &str, pieces: &[&[u8]]) -> String {
-    let path = file("target/bin").join(program);
-    assert!(path.is_file(), "{} is not there. Run `rt check {program}` in the repository's root.", path.display());
+    let path = file("crates").join(program).join("out").join(program);
+    assert!(path.is_file(), "{} is not there. Run `rt run` in crates/{program}.", path.display());
     let mut command = Command::new(path);
     command.stdin(Stdio::piped()).stdout(Stdio::piped()).stderr(Stdio::piped());
     let mut child = command.spawn().unwrap_or_else(|error| panic!("{program}: {error}"));

@@ -14,14 +14,9 @@ const LAST_KIND: u32 = 25;
 /// Numbers by name, in capitals with underscores.
 pub type Names = BTreeMap<String, u32>;
 
-/// The name of a definition as that of a constant: `text-too-long` is `TEXT_TOO_LONG`, and `mostBytes` is `MOST_BYTES`.
+/// The name of a definition as that of a constant: `text_too_long` is `TEXT_TOO_LONG`.
 fn in_capitals(name: &str) -> String {
-    let letter = |letter: char| match letter {
-        '-' => "_".into(),
-        _ if letter.is_ascii_uppercase() => format!("_{letter}"),
-        _ => letter.to_ascii_uppercase().to_string(),
-    };
-    name.chars().map(letter).collect()
+    name.to_ascii_uppercase()
 }
 
 /// What a file of definitions names: `abbrev pub NAME : ℕ`, and on the next line `NAME = NUMBER`.
@@ -48,11 +43,11 @@ pub fn kinds() -> Names {
     defined(CLASSES).into_iter().filter(|(_, class)| *class <= LAST_KIND).collect()
 }
 
-/// The name of each class as it is spelled in a text: `as-name CLASS "NAME"`. A text is no list, and has none.
+/// The name of each class as it is spelled in a text: `as_name CLASS "NAME"`. A text is no list, and has none.
 pub fn spelled() -> BTreeMap<u32, String> {
     let classes = defined(CLASSES);
     let text = string(CLASSES);
-    let named = text.lines().filter_map(|line| line.split_once("as-name ")?.1.strip_suffix('"')?.split_once(" \""));
+    let named = text.lines().filter_map(|line| line.split_once("as_name ")?.1.strip_suffix('"')?.split_once(" \""));
     named.map(|(class, name)| (classes[&in_capitals(class)], name.to_string())).collect()
 }
 
