@@ -1,5 +1,4 @@
-//! The edits of `crates/*/must-fail/further/`, which `.ci/further-edits` tries and the test command does not: each still
-//! fits the file that it changes. `rt ci` sees to those beside that folder.
+//! The edits of `crates/*/must-fail/`: each still fits the files that it changes. `rt ci` tries them.
 
 mod common;
 
@@ -35,15 +34,15 @@ fn replace(folder: &str, edit: &str) -> Result<(), String> {
 }
 
 #[test]
-fn further_edits_fit() {
+fn edits_fit() {
     let mut tried = 0;
     for name in names_in("crates") {
         let folder = format!("crates/{name}");
-        for edit in names_in(&format!("{folder}/must-fail/further")) {
-            let edit = format!("{folder}/must-fail/further/{edit}");
+        for edit in names_in(&format!("{folder}/must-fail")) {
+            let edit = format!("{folder}/must-fail/{edit}");
             replace(&folder, &string(&edit)).unwrap_or_else(|why| panic!("{edit}: {why}"));
             tried += 1;
         }
     }
-    assert!(tried > 0, "no crate has a further edit");
+    assert!(tried > 0, "no crate has an edit");
 }
