@@ -4,7 +4,7 @@
 usage: python3 tools/port_names.py [--check]     at the top of the repository, after /opt/rattle/port/port.py
 
 It rewrites .rt files, .antt files and must-fail edits below crates/, and what stands between backquotes in pages. Strings stay as
-they are, and so do the names of the document language in comments and pages. A second run changes nothing.
+they are, and so do the names of the document language in comments and pages. Run it once: a name that another had before would be turned again.
 """
 import os
 import re
@@ -36,7 +36,7 @@ def code(line, names):
     """Turns a line of code: what stands in strings stays, and a comment is prose."""
     parts = STRING.split(line)
     for i in range(0, len(parts), 2):
-        found = re.search(r"(^|\s)(--|//)(\s|$)", parts[i])
+        found = re.search(r"(^|\s)(--|//|#)(\s|$)", parts[i])
         if found:
             rest = parts[i][found.start():] + "".join(parts[i + 1:])
             return "".join(parts[:i]) + turned(parts[i][:found.start()], names) + prose(rest, names)

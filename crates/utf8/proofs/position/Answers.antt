@@ -24,11 +24,11 @@ loop-i-preserved c = let args = c.args in
     elim c.if-b-eq10.branch [
       | then-b-eq10 w ↦ (let e = eq-eqb _ _ w.if-b-eq10.true in (rw e w.line-is, rw e w.column-is))
       | else-b-eq10+then-not-is_continuation w ↦
-          (let e = ne_eqb _ _ w.if-b-eq10.false in
-          (rw e w.line-is, rw (e, ← w.is_continuation.ensures, w.if-not-is_continuation.true) w.column-is))
+          (let start = ne_eqb _ _ w.if-b-eq10.false in
+          (rw start w.line-is, rw (start, ← w.is_continuation.ensures, w.if-not-is_continuation.true) w.column-is))
       | else-b-eq10+else-not-is_continuation w ↦
-          (let e = ne_eqb _ _ w.if-b-eq10.false in
-          (rw e w.line-is, rw (e, ← w.is_continuation.ensures, w.if-not-is_continuation.false) w.column-is))
+          (let inside = ne_eqb _ _ w.if-b-eq10.false in
+          (rw inside w.line-is, rw (inside, ← w.is_continuation.ensures, w.if-not-is_continuation.false) w.column-is))
     ] in (
       omega arith,
       loop.invariant.1,
