@@ -3,6 +3,7 @@ use mathlib.Core.Path.{◌≡◌, refl}
 use mathlib.Core.Bool.{Bool, cond, true}
 use mathlib.Core.List.{List}
 use Prim.Native.Nat.{ℕ, ◌+◌, ◌<◌, ◌≤◌}
+use native.Mathlib.Omega.{arith}
 use borrow.Author.Tests.{eq-eqb, ne_eqb, lt-ltb, le-ltb}
 use lib.Dec.{eqb}
 use lib.ListN.{length, drop, get_or, drop_of_length-le}
@@ -52,7 +53,7 @@ returns-then-first-lt194 c =
     rw (
       first_read c.args.text.now c.args.place _ c.if-text-place.false c.leading_ones-ones.ensures,
       ne_eqb _ 0 c.if-ones-eq0.false,
-      lt-ltb _ _ c.if-first-lt194.true,
+      lt-ltb (get_or c.args.text.now c.args.place 0) 0xC2 (omega arith),
     )
 
 pub returns-then-first-gt244 : goal.returns-then-first-gt244
@@ -60,7 +61,7 @@ returns-then-first-gt244 c =
     rw (
       first_read c.args.text.now c.args.place _ c.if-text-place.false c.leading_ones-ones.ensures,
       ne_eqb _ 0 c.if-ones-eq0.false,
-      le-ltb _ _ c.if-first-lt194.false,
+      le-ltb (get_or c.args.text.now c.args.place 0) 0xC2 (omega arith),
       lt-ltb _ _ c.if-first-gt244.true,
     )
 
@@ -68,7 +69,7 @@ pub returns-then-not-byte_within : goal.returns-then-not-byte_within
 returns-then-not-byte_within c =
     rw (
       second_read c.args.text.now c.args.place _ c.byte_within.result c.if-text-place.false c.leading_ones-ones.ensures
-          c.if-ones-eq0.false c.if-first-lt194.false c.if-first-gt244.false
+          c.if-ones-eq0.false (omega arith) c.if-first-gt244.false
           (rw (← c.second_low.ensures, ← c.second_high.ensures) c.byte_within.ensures),
       c.if-not-byte_within.true,
     )
@@ -77,7 +78,7 @@ pub returns-then-ones-eq2 : goal.returns-then-ones-eq2
 returns-then-ones-eq2 c =
     rw (
       second_read c.args.text.now c.args.place _ c.byte_within.result c.if-text-place.false c.leading_ones-ones.ensures
-          c.if-ones-eq0.false c.if-first-lt194.false c.if-first-gt244.false
+          c.if-ones-eq0.false (omega arith) c.if-first-gt244.false
           (rw (← c.second_low.ensures, ← c.second_high.ensures) c.byte_within.ensures),
       c.if-not-byte_within.false,
       eq-eqb _ 2 c.if-ones-eq2.true,
@@ -87,7 +88,7 @@ pub returns-then-not-byte_within-2 : goal.returns-then-not-byte_within-2
 returns-then-not-byte_within-2 c =
     rw (
       third_read c.args.text.now c.args.place _ c.byte_within.result c.byte_within-2.result c.if-text-place.false
-          c.leading_ones-ones.ensures c.if-ones-eq0.false c.if-first-lt194.false c.if-first-gt244.false
+          c.leading_ones-ones.ensures c.if-ones-eq0.false (omega arith) c.if-first-gt244.false
           (rw (← c.second_low.ensures, ← c.second_high.ensures) c.byte_within.ensures) c.if-not-byte_within.false
           c.if-ones-eq2.false c.byte_within-2.ensures,
       c.if-not-byte_within-2.true,
@@ -97,7 +98,7 @@ pub returns-then-ones-eq3 : goal.returns-then-ones-eq3
 returns-then-ones-eq3 c =
     rw (
       third_read c.args.text.now c.args.place _ c.byte_within.result c.byte_within-2.result c.if-text-place.false
-          c.leading_ones-ones.ensures c.if-ones-eq0.false c.if-first-lt194.false c.if-first-gt244.false
+          c.leading_ones-ones.ensures c.if-ones-eq0.false (omega arith) c.if-first-gt244.false
           (rw (← c.second_low.ensures, ← c.second_high.ensures) c.byte_within.ensures) c.if-not-byte_within.false
           c.if-ones-eq2.false c.byte_within-2.ensures,
       c.if-not-byte_within-2.false,
@@ -108,7 +109,7 @@ pub returns-then-not-byte_within-3 : goal.returns-then-not-byte_within-3
 returns-then-not-byte_within-3 c =
     rw (
       third_read c.args.text.now c.args.place _ c.byte_within.result c.byte_within-2.result c.if-text-place.false
-          c.leading_ones-ones.ensures c.if-ones-eq0.false c.if-first-lt194.false c.if-first-gt244.false
+          c.leading_ones-ones.ensures c.if-ones-eq0.false (omega arith) c.if-first-gt244.false
           (rw (← c.second_low.ensures, ← c.second_high.ensures) c.byte_within.ensures) c.if-not-byte_within.false
           c.if-ones-eq2.false c.byte_within-2.ensures,
       c.if-not-byte_within-2.false,
@@ -121,7 +122,7 @@ pub returns : goal.returns
 returns c =
     rw (
       third_read c.args.text.now c.args.place _ c.byte_within.result c.byte_within-2.result c.if-text-place.false
-          c.leading_ones-ones.ensures c.if-ones-eq0.false c.if-first-lt194.false c.if-first-gt244.false
+          c.leading_ones-ones.ensures c.if-ones-eq0.false (omega arith) c.if-first-gt244.false
           (rw (← c.second_low.ensures, ← c.second_high.ensures) c.byte_within.ensures) c.if-not-byte_within.false
           c.if-ones-eq2.false c.byte_within-2.ensures,
       c.if-not-byte_within-2.false,

@@ -1,8 +1,8 @@
 -- `string::string_at` meets its contract. The loop's invariant: what follows `i` finishes the string with the answer.
-use mathlib.Core.Path.{sym, ◌∙◌}
+use mathlib.Core.Path.{◌≡◌, ◌∙◌}
 use Prim.Native.Nat.{◌+◌, ◌-◌}
 use native.Mathlib.Omega.{arith}
-use lib.ListN.{drop}
+use lib.ListN.{drop, get_or}
 use Rattle.atoms.specs.Atom.{string_at}
 use Rattle.atoms.proofs.string.StringSteps.{PieceTurned, walk, at_start, past_end, RunEnd, run_end, escape_inside, run_stopped, run_bad}
 use Rattle.atoms.proofs.string.string_at.Goals as goal
@@ -31,7 +31,7 @@ returns-then-next-end c =
     RunEnd args.text.now args.place end (loop.length + (end - loop.i)) (string_at args.place (drop args.place args.text.now))) = (let loop = c.loop-place in
     let args = c.args in
     run_end args.text.now args.place loop.i loop.length c.plain_end-end.result _ c.plain_end-end.ensures loop.invariant.1) in
-    let escape = sym c.byte_at.ensures ∙ c.if-byte_at-ne92.false in
+    let escape : get_or c.args.text.now c.plain_end-end.result 0 ≡ 0x5C = omega arith in
     let told = c.piece-p.ensures
     (escape_inside c.args.text.now
     c.plain_end-end.result escape) in
@@ -45,7 +45,7 @@ overflow_add-length-in-loop-place c =
     let p = c.piece-p.result in
     PieceTurned args.text.now args.place end (loop.length + (end - loop.i)) p.next p.size) = (let args = c.args in
     let inside = escape_inside args.text.now c.plain_end-end.result
-    (sym c.byte_at.ensures ∙ c.if-byte_at-ne92.false) in
+    (omega arith) in
     walk _ _ _ _ _ _ _ _ _ inside (c.piece-p.ensures inside) c.if-next-end.false) in
     omega (arith, turned)
 
@@ -57,14 +57,14 @@ loop-place-smaller c =
     let p = c.piece-p.result in
     PieceTurned args.text.now args.place end (loop.length + (end - loop.i)) p.next p.size) = (let args = c.args in
     let inside = escape_inside args.text.now c.plain_end-end.result
-    (sym c.byte_at.ensures ∙ c.if-byte_at-ne92.false) in
+    (omega arith) in
     walk _ _ _ _ _ _ _ _ _ inside (c.piece-p.ensures inside) c.if-next-end.false) in
     omega (
       arith,
       turned,
       escape_inside c.args.text.now
           c.plain_end-end.result
-          (sym c.byte_at.ensures ∙ c.if-byte_at-ne92.false),
+          (omega arith),
     )
 
 pub loop-place-preserved : goal.loop-place-preserved
@@ -81,6 +81,6 @@ loop-place-preserved c =
     let p = c.piece-p.result in
     PieceTurned args.text.now args.place end (loop.length + (end - loop.i)) p.next p.size) = (let args = c.args in
     let inside = escape_inside args.text.now c.plain_end-end.result
-    (sym c.byte_at.ensures ∙ c.if-byte_at-ne92.false) in
+    (omega arith) in
     walk _ _ _ _ _ _ _ _ _ inside (c.piece-p.ensures inside) c.if-next-end.false) in
     (omega (arith, turned), turned.3 ∙ ended.same)
