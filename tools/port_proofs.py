@@ -1,6 +1,10 @@
 #!/usr/bin/env python3
-"""Turns proofs/F/Proof.antt files (walks by Tie and Need) of a crate into Invariants.antt and Answers.antt.
-usage: convert.py CRATE_FOLDER NAMES_JSON"""
+"""Turns the files proofs/F/Proof.antt of a crate, which close a proof by Tie and Need, into Invariants.antt and Answers.antt.
+
+usage: rt check --generated FOLDER --old-names     in the crate's folder, which has to be spelled as today's Rattle asks
+       tools/port_proofs.py CRATE_FOLDER FOLDER/names.json
+
+Proof.antt stays beside them as Proof.old, to look at. It prints what it could not turn; the check says the rest."""
 import json,os,re,sys
 crate=os.path.abspath(sys.argv[1]); name=os.path.basename(crate)
 J=json.load(open(sys.argv[2]))

@@ -1,5 +1,5 @@
 #!/usr/bin/env python3
-"""Brings the lines 'refused: FILE NAME' of crates/*/must-fail/ and crates/*/further-edits/ to '# refused: ..', as .ci/refusals reads them.
+"""Brings the lines 'refused: FILE NAME' of crates/*/must-fail/ to '# refused: ..', as .ci/refusals reads them.
 
 A proof of a function, proofs/A/F/Proof.antt, is named by the function, 'fn CRATE::A::F', since most have no file now. A
 lemma keeps its file, and gets the name that tools/port_names.tsv has for it. Run it at the top; what is done stays so."""
@@ -27,7 +27,7 @@ def turned(crate, file, name):
     return f"# refused: {file} {name}"
 
 
-for edit in sorted(glob.glob("crates/*/must-fail/**/*.edit", recursive=True) + glob.glob("crates/*/further-edits/*.edit")):
+for edit in sorted(glob.glob("crates/*/must-fail/**/*.edit", recursive=True)):
     crate = edit.split("/")[1]
     with open(edit, encoding="utf-8") as it:
         text = it.read()
