@@ -1,7 +1,7 @@
 #!/usr/bin/env python3
 """Brings this repository's own definitions and lemmas to today's spelling: the words of port_names.tsv, old and new, one pair a line.
 
-usage: python3 tools/port_names.py [--check]     at the top of the repository, after /opt/rattle/port/port.py
+usage: python3 tools/port_names.py [--check]     at the top of the repository, after the port.py of the kit
 
 It rewrites .rt files, .antt files and must-fail edits below crates/, and what stands between backquotes in pages. Strings stay as
 they are, and so do the names of the document language in comments and pages. Run it once: a name that another had before would be turned again.
