@@ -1,3 +1,4 @@
--- What everything else stands on: the limits and the numbers answered, by name (rules), and bytes written one after another (Adds).
+-- What everything else stands on: the limits and the numbers answered, by name (rules), the refusals of the code, and bytes written one after another (Adds).
 pub mod rules
+pub mod Refusals
 pub mod Adds

@@ -1,6 +1,9 @@
 -- The states of `Inside` as numbers, for code: the parameters still to come are those of the kind's row from a place on; after one of `id?/type?` the other may
 -- come; and an element that holds children has `holds_from` and the first child's significance, which tells the alternatives of a row apart.
 use Rattle.std.specs.Prelude.{ℕ, ◌+◌, ◌-◌, ◌≡◌, Bool, false, cond, ◌||◌, List, [], ◌∷◌, eqb, ltb, drop}
+use Rattle.std.specs.Prelude.{Result, Ok, Err}
+use Rattle.base.specs.declared.refusal.Refusal.{Refusal}
+use Rattle.base.specs.Refusals.{number}
 use Rattle.elements.specs.rules.Class as Class
 use Rattle.elements.specs.rules.Rules.{Slot, must, may, id_type, alternatives_of, rule_of}
 use Rattle.elements.specs.rules.Inside.{State, expecting, holding, Step, go, bad}
@@ -67,6 +70,15 @@ next_state k n c =
 unfoldable pub fault_of : Step → ℕ
 fault_of (go s) = 0
 fault_of (bad n) = n
+
+-- The code answers a step by the next state or by a refusal: the two numbers of that answer.
+abbrev pub fault_number : Result ℕ Refusal → ℕ
+fault_number (Ok n) = 0
+fault_number (Err f) = number f
+
+abbrev pub state_number : Result ℕ Refusal → ℕ
+state_number (Ok n) = n
+state_number (Err f) = 0
 
 -- The two numbers of a step s that leads to the state of number `next`: the fault, 0 for none, and the state, 0 under a fault. They stand for the step.
 pub record InNumbers (k : ℕ) (s : Step) (next fault state : ℕ) : Type 0 where

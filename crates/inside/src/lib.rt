@@ -5,4 +5,4 @@ mod machine; // machine.rt: the states of an element, and the step
 mod number; // number.rt: the numbers of the kinds, for patterns
 mod rows; // rows.rt: the table of elements
 
-pub use machine::{Stepped, may_end, step};
+pub use machine::{may_end, step};

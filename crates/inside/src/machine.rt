@@ -6,19 +6,13 @@ ghost use Rattle.base.specs.rules.Numbers as Number;
 ghost use Rattle.elements.specs.rules.Class as Class;
 ghost use Rattle.elements.specs.rules.Rules.{may, alternatives_of, rule_of};
 ghost use Rattle.elements.specs.rules.Inside.{allows, ended, first_child_step, is_include, next_child_step, next_parameter, none_required, step as stepped};
-ghost use Rattle.inside.specs.Machine.{after_id, after_type, holds_from, alternative_of, state_of, with_child, after_place, after_last, next_state, InNumbers};
+ghost use Rattle.base.specs.Refusals.{number};
+ghost use Rattle.inside.specs.Machine.{fault_number, state_number, after_id, after_type, holds_from, alternative_of, state_of, with_child, after_place, after_last, next_state, InNumbers};
 ghost use Rattle.inside.specs.internal.Table.{begins_required};
 
 use super::rows::{ID_TYPE, MAY, MOST_PARAMETERS, allowed, slot};
-use base::number;
+use base::Refusal;
 use kind::{Keyword, Kind};
-
-// A step in numbers: fault 0 and the next state, or the number of the fault and state 0.
-#[derive(Clone, Copy)]
-pub struct Stepped {
-    pub fault: u8,
-    pub state: u8,
-}
 
 // The states after one of `id?/type?`, and the first of an element that holds children.
 const AFTER_ID: u8 = MOST_PARAMETERS + 1;
@@ -26,17 +20,6 @@ const AFTER_ID: u8 = MOST_PARAMETERS + 1;
 const AFTER_TYPE: u8 = MOST_PARAMETERS + 2;
 
 const HOLDING: u8 = MOST_PARAMETERS + 3;
-
-// The faults that a step may find, in a byte as a class is.
-const OK: u8 = number::OK as u8;
-
-const NOT_ALLOWED: u8 = number::NOT_ALLOWED as u8;
-
-const ABSENT: u8 = number::ABSENT as u8;
-
-const OTHER_SORT: u8 = number::OTHER_SORT as u8;
-
-const INCLUDE: u8 = number::INCLUDE as u8;
 
 const ID: u8 = Keyword::ID.number;
 
@@ -52,57 +35,42 @@ fn is_include(class: u8) -> bool
 }
 
 // The fault of a class that may not stand in a kind: include and import may stand in none.
-fn refused(class: u8) -> u8
-    ensures { result ≡ cond (is_include class) Number.include Number.not_allowed }
+fn refused(class: u8) -> Refusal
+    ensures { number result ≡ cond (is_include class) Number.include Number.not_allowed }
 {
     if is_include(class) {
-        return INCLUDE;
+        return Refusal::Include;
     }
-    NOT_ALLOWED
+    Refusal::NotAllowed
 }
 
-fn first_child(kind: u8, class: u8) -> Stepped
-    ensures { InNumbers kind (first_child_step (rule_of kind).content class) (with_child class) result.fault result.state }
+fn first_child(kind: u8, class: u8) -> Result<u8, Refusal>
+    ensures { InNumbers kind (first_child_step (rule_of kind).content class) (with_child class) (fault_number result) (state_number result) }
 {
     if !allowed(kind, class) {
-        return Stepped {
-            fault: refused(class),
-            state: 0,
-        };
+        return Err(refused(class));
     }
     let child = Kind { number: class };
-    Stepped {
-        fault: OK,
-        state: HOLDING + child.significance(),
-    }
+    Ok(HOLDING + child.significance())
 }
 
 // A further child; a verbatim has one only.
-fn next_child(kind: u8, state: u8, class: u8) -> Stepped
+fn next_child(kind: u8, state: u8, class: u8) -> Result<u8, Refusal>
     requires { holds_from ≤ state }
-    ensures { InNumbers kind (next_child_step (rule_of kind).content (alternative_of (state - holds_from) (alternatives_of (rule_of kind).content)) class) state result.fault result.state }
+    ensures { InNumbers kind (next_child_step (rule_of kind).content (alternative_of (state - holds_from) (alternatives_of (rule_of kind).content)) class) state (fault_number result) (state_number result) }
 {
     if !allowed(kind, class) {
-        return Stepped {
-            fault: refused(class),
-            state: 0,
-        };
+        return Err(refused(class));
     }
     if kind == Kind::VERBATIM.number {
-        return Stepped {
-            fault: NOT_ALLOWED,
-            state: 0,
-        };
+        return Err(Refusal::NotAllowed);
     }
     let child = Kind { number: class };
     let sort = child.significance();
     if sort != state - HOLDING {
-        return Stepped {
-            fault: OTHER_SORT,
-            state: 0,
-        };
+        return Err(Refusal::OtherSort);
     }
-    Stepped { fault: OK, state }
+    Ok(state)
 }
 
 // The state after one of `id?/type?`; 0 is neither.
@@ -119,22 +87,19 @@ fn id_type(class: u8) -> u8
 }
 
 // The one of `id?/type?` that may still come, or the first child.
-fn last_parameter(kind: u8, parameter: u8, class: u8) -> Stepped
-    ensures { InNumbers kind (next_parameter (may parameter ∷ []) (rule_of kind).content class) (after_last parameter class) result.fault result.state }
+fn last_parameter(kind: u8, parameter: u8, class: u8) -> Result<u8, Refusal>
+    ensures { InNumbers kind (next_parameter (may parameter ∷ []) (rule_of kind).content class) (after_last parameter class) (fault_number result) (state_number result) }
 {
     if class == parameter {
-        return Stepped {
-            fault: OK,
-            state: MOST_PARAMETERS,
-        };
+        return Ok(MOST_PARAMETERS);
     }
     first_child(kind, class)
 }
 
 // The expression is the next parameter, or an optional one is passed over, or a required one is absent, or it is the first child.
-fn next_parameter(kind: u8, state: u8, class: u8) -> Stepped
+fn next_parameter(kind: u8, state: u8, class: u8) -> Result<u8, Refusal>
     ensures { InNumbers kind (next_parameter (drop state (rule_of kind).parameters) (rule_of kind).content class)
-        (after_place state (drop state (rule_of kind).parameters) class) result.fault result.state }
+        (after_place state (drop state (rule_of kind).parameters) class) (fault_number result) (state_number result) }
 {
     let mut place = state;
     while place < MOST_PARAMETERS {
@@ -144,31 +109,19 @@ fn next_parameter(kind: u8, state: u8, class: u8) -> Stepped
         }
         if parameter < MAY {
             if class != parameter {
-                return Stepped {
-                    fault: ABSENT,
-                    state: 0,
-                };
+                return Err(Refusal::Absent);
             }
-            return Stepped {
-                fault: OK,
-                state: place + 1,
-            };
+            return Ok(place + 1);
         }
         if parameter == ID_TYPE {
             let next = id_type(class);
             if next == 0 {
                 return first_child(kind, class);
             }
-            return Stepped {
-                fault: OK,
-                state: next,
-            };
+            return Ok(next);
         }
         if class == parameter - MAY {
-            return Stepped {
-                fault: OK,
-                state: place + 1,
-            };
+            return Ok(place + 1);
         }
         place += 1;
     }
@@ -238,8 +191,8 @@ fn takes(kind: u8, state: u8, class: u8) -> bool
 }
 
 // Any expression, by the state.
-fn step_by_rows(kind: u8, state: u8, class: u8) -> Stepped
-    ensures { InNumbers kind (stepped kind (state_of kind state) class) (next_state kind state class) result.fault result.state }
+fn step_by_rows(kind: u8, state: u8, class: u8) -> Result<u8, Refusal>
+    ensures { InNumbers kind (stepped kind (state_of kind state) class) (next_state kind state class) (fault_number result) (state_number result) }
 {
     if state < AFTER_ID {
         return next_parameter(kind, state, class);
@@ -254,14 +207,11 @@ fn step_by_rows(kind: u8, state: u8, class: u8) -> Stepped
 }
 
 // An expression of a class in an element of a kind that has been read so far to a state. An element begins in the state 0.
-pub fn step(kind: u8, state: u8, class: u8) -> Stepped
-    ensures { InNumbers kind (stepped kind (state_of kind state) class) (next_state kind state class) result.fault result.state }
+pub fn step(kind: u8, state: u8, class: u8) -> Result<u8, Refusal>
+    ensures { InNumbers kind (stepped kind (state_of kind state) class) (next_state kind state class) (fault_number result) (state_number result) }
 {
     if takes(kind, state, class) {
-        return Stepped {
-            fault: OK,
-            state: HOLDING,
-        };
+        return Ok(HOLDING);
     }
     step_by_rows(kind, state, class)
 }
