@@ -11,3 +11,4 @@ pub mod Tape
 pub mod TapeWord
 pub mod Walk
 pub mod WalkAnswer
+pub mod Walks

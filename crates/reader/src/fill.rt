@@ -11,45 +11,14 @@ ghost use Rattle.document.specs.reference.Meaning as Meaning;
 ghost use Rattle.document.specs.rules.Table.{table_of};
 ghost use Rattle.document.specs.rules.Table as Table;
 ghost use Rattle.reader.specs.internal.Counts.{node_count};
-ghost use Rattle.reader.specs.internal.Tape.{Located, taped};
-ghost use Rattle.reader.specs.internal.Filling.{held_at, entry_at, text_row, element_row, next_row, RoomFor, Rowed};
+ghost use Rattle.reader.specs.internal.Tape.{Located, taped, Tape as TapeOf};
+ghost use Rattle.reader.specs.internal.Filling.{held_at, text_row, element_row, next_row, RoomFor, Rowed};
 
-use super::tape;
+use super::tape::{Entry, Tape};
 use atoms::put_atom;
 use kind::Kind;
 use table::MISSING;
 use table::record::{Record, put_record};
-
-// What the tape says of a node: where it stands, its words, and the places of what its id or target and its type hold, 0 where there is none.
-#[derive(Clone, Copy)]
-struct Entry {
-    place: u32,
-    class: u32,
-    parent: u32,
-    end: u32,
-    key: u32,
-    typename: u32,
-    width: u32,
-    height: u32,
-}
-
-// The entry of a node on the tape.
-fn entry_at(tape: &[u32; 32768], node: usize) -> Entry
-    requires { node < most_nodes }
-    ensures { result ≡ entry_at tape.now node }
-{
-    let i = tape::NODE_WORDS * node;
-    Entry {
-        place: tape[i],
-        class: tape[i + tape::CLASS],
-        parent: tape[i + tape::PARENT],
-        end: tape[i + tape::END],
-        key: tape[i + tape::KEY],
-        typename: tape[i + tape::TYPE],
-        width: tape[i + tape::WIDTH],
-        height: tape[i + tape::HEIGHT],
-    }
-}
 
 // "A missing string is 0, 0": the offset word of a string of this length at a place of the pool.
 fn offset_word(at: usize, length: usize) -> u32
@@ -175,23 +144,21 @@ fn row(
 // Fills the document whose `count` nodes are on the tape, where there is room for them.
 pub fn fill(
     text: &[u8],
-    tape: &[u32; 32768],
+    tape: &Tape,
     count: usize,
     nodes: &mut [u32],
     places: &mut [u32],
     pool: &mut [u8],
 )
     requires { (length text.now ≤ most_bytes) × (count ≤ most_nodes) × (record_length * count ≤ length nodes.old) × (count ≤ length places.old) }
-    ensures { (e : Expr) (t : List ℕ) → Located text.now e → judge_root e ≡ fine → length t ≡ 32768
+    ensures { (e : Expr) (t : TapeOf) → Located text.now e → judge_root e ≡ fine → length t ≡ most_nodes
         → tape.now ≡ taped t 0 missing e → count ≡ node_count e
         → (nodes.new ≡ sets nodes.old 0 (table_of (says (tree_of e))))
         × (places.new ≡ sets places.old 0 (Meaning.places e))
         × (pool.new ≡ sets pool.old 0 (Table.pool (says (tree_of e)))) }
 {
-    let mut k = 0;
-    let mut b = 0;
-    while k < count {
-        b = row(text, entry_at(tape, k), k, b, nodes, places, pool);
-        k += 1;
+    let mut bytes = 0;
+    for node in 0..count {
+        bytes = row(text, tape[node], node, bytes, nodes, places, pool);
     }
 }

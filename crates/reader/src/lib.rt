@@ -4,6 +4,7 @@
 mod commands; // commands.rt: judging an imperative text
 mod fill; // fill.rt: the fill of the table from the tape of a text that was judged
 mod nested; // nested.rt: judging a nested text
+mod root; // root.rt: the root of a text, and what judging a text answers
 mod tape; // tape.rt: what the judging walk notes of each node
 mod value; // value.rt: the values of parameters
 mod walk; // walk.rt: the judging walk over elements
@@ -12,16 +13,18 @@ ghost use Rattle.std.specs.Prelude.{◌≡◌, ◌≤◌, length};
 ghost use Rattle.base.specs.rules.Limits.{most_bytes};
 ghost use Rattle.document.specs.rules.Spelling.{nested, imperative, most_levels};
 ghost use Rattle.document.specs.rules.Memory.{answer_at};
-ghost use Rattle.reader.specs.internal.FirstGroups.{group_number, group_place, room_number};
+ghost use Rattle.reader.specs.internal.FirstGroups.{group_number, group_place, room_number, room_told};
 ghost use Rattle.reader.specs.internal.JudgedText.{spelled, JudgesText, TapeOfText};
+ghost use Rattle.reader.specs.internal.WalkAnswer.{judged};
 ghost use Rattle.reader.specs.Read.{SameAnswer, Reads};
 
-use base::{limit, number};
+use base::{Refusal, limit, number};
 use commands::judge_imperative;
 use fill::fill;
 use lexer::scan;
 use nested::judge_nested;
-use walk::Walked;
+use root::{Counts, Judged};
+use tape::{NOT_MET, Tape};
 
 // "A read returns number, place, line, column, node count, pool count."
 #[derive(Clone, Copy)]
@@ -83,10 +86,10 @@ fn first_groups(spelling: Spelling, text: &[u8]) -> Group
 }
 
 // Judges a text that passed the first groups, in its spelling.
-fn judge(spelling: Spelling, text: &[u8], tape: &mut [u32; 32768]) -> Walked
+fn judge(spelling: Spelling, text: &[u8], tape: &mut Tape) -> Judged
     requires { length text.now ≤ most_bytes }
-    ensures judges_text { JudgesText (spelled spelling) text.now result }
-    ensures tape_of_text { TapeOfText (spelled spelling) text.now result.number tape.old tape.new }
+    ensures judges_text { JudgesText (spelled spelling) text.now (judged result) }
+    ensures tape_of_text { TapeOfText (spelled spelling) text.now (judged result).number tape.old tape.new }
 {
     match spelling {
         Spelling::Nested => judge_nested(text, tape),
@@ -94,23 +97,18 @@ fn judge(spelling: Spelling, text: &[u8], tape: &mut [u32; 32768]) -> Walked
     }
 }
 
-// 13 where the nodes are too many, 14 where the pool bytes are, and 0 where there is room for both.
-fn room(words: usize, places: usize, bytes: usize, nodes: usize, pool: usize) -> u32
-    ensures { result ≡ room_number words places bytes nodes pool }
+// Whether there is room for so many nodes and pool bytes: 13 where the nodes are too many, 14 where the pool bytes are.
+fn room(words: usize, places: usize, bytes: usize, counts: Counts) -> Result<(), Refusal>
+    ensures { room_told result ≡ room_number words places bytes counts.nodes counts.pool }
 {
-    if limit::MOST_NODES < nodes {
-        return number::NODES_SHORT;
+    let most = limit::MOST_NODES.min(words / table::RECORD).min(places);
+    if most < counts.nodes {
+        return Err(Refusal::NodesShort);
     }
-    if words / table::RECORD < nodes {
-        return number::NODES_SHORT;
+    if bytes < counts.pool {
+        return Err(Refusal::PoolShort);
     }
-    if places < nodes {
-        return number::NODES_SHORT;
-    }
-    if bytes < pool {
-        return number::POOL_SHORT;
-    }
-    number::OK
+    Ok(())
 }
 
 // The answer, with line and column of its place. No place and no count passes the longest text.
@@ -145,17 +143,16 @@ fn read(
     if g.number != number::OK {
         return answer_at(text, g.number, g.place, 0, 0);
     }
-    let mut tape = [0u32; 32768];
-    let w = judge(spelling, text, &mut tape);
-    if w.number != number::OK {
-        return answer_at(text, w.number, w.place, 0, 0);
+    let mut tape = [NOT_MET; limit::MOST_NODES];
+    let counts = match judge(spelling, text, &mut tape) {
+        Ok(counts) => counts,
+        Err(r) => return answer_at(text, r.refusal.number(), r.place, 0, 0),
+    };
+    if let Err(full) = room(nodes.len(), places.len(), pool.len(), counts) {
+        return answer_at(text, full.number(), 0, counts.nodes, counts.pool);
     }
-    let full = room(nodes.len(), places.len(), pool.len(), w.nodes, w.pool);
-    if full != number::OK {
-        return answer_at(text, full, 0, w.nodes, w.pool);
-    }
-    fill(text, &tape, w.nodes, nodes, places, pool);
-    answer_at(text, number::OK, 0, w.nodes, w.pool)
+    fill(text, &tape, counts.nodes, nodes, places, pool);
+    answer_at(text, number::OK, 0, counts.nodes, counts.pool)
 }
 
 // Reads a text in the nested spelling.

@@ -1,68 +1,101 @@
-// The tape: eight words for each node that the judging walk meets, in the order of the nodes, for the fill. A node past 4,095 is noted nowhere.
-// (That the array behind a reference has its `TAPE_WORDS` elements is no fact that a proof is given: so contracts suppose it.)
-ghost use Rattle.std.specs.Prelude.{◌≡◌, ◌+◌, ◌*◌, ◌≤◌, ◌<◌, length, set};
-ghost use Rattle.reader.specs.internal.Tape.{entered};
-ghost use Rattle.reader.specs.internal.TapeWord.{node_words, tape_words, most_word};
+// The tape: an entry for each node that the judging walk meets, in the order of the nodes, for the fill. A node past 4,095 is noted nowhere.
+// (That the array behind a reference has its `MOST_NODES` elements is no fact that a proof is given: so contracts suppose it.)
+ghost use Rattle.std.specs.Prelude.{◌≡◌, ◌≤◌, length};
+ghost use Rattle.base.specs.rules.Limits.{most_nodes};
+ghost use Rattle.reader.specs.internal.Tape.{entered, left, key_noted, type_noted, size_noted};
+ghost use Rattle.reader.specs.internal.TapeWord.{most_word};
 
 use base::limit::MOST_NODES;
-
-// The words of a node, under the names of specs/internal/TapeWord.antt. The first is its place.
-pub const NODE_WORDS: usize = 8;
-
-pub const TAPE_WORDS: usize = NODE_WORDS * MOST_NODES;
-
-pub const CLASS: usize = 1;
-
-pub const PARENT: usize = 2;
-
-// The number after that of its last descendant.
-pub const END: usize = 3;
-
-// The place of what its id or target holds, and of what its type holds; 0 where there is none.
-pub const KEY: usize = 4;
-
-pub const TYPE: usize = 5;
-
-pub const WIDTH: usize = 6;
-
-pub const HEIGHT: usize = 7;
 
 // What stands for a parent, a width or a height that there is not, and the largest word.
 pub const MISSING: usize = 4294967295;
 
 const MISSING_WORD: u32 = MISSING as u32;
 
+// What is noted of a node: its place, class and parent, the number after that of its last descendant, the places of what its id or target
+// and its type hold, 0 where there is none, and its width and height.
+#[derive(Clone, Copy)]
+pub struct Entry {
+    pub place: u32,
+    pub class: u32,
+    pub parent: u32,
+    pub end: u32,
+    pub key: u32,
+    pub typename: u32,
+    pub width: u32,
+    pub height: u32,
+}
+
+pub type Tape = [Entry; MOST_NODES];
+
+// What the tape has of a node that was not met.
+pub const NOT_MET: Entry = Entry {
+    place: 0,
+    class: 0,
+    parent: 0,
+    end: 0,
+    key: 0,
+    typename: 0,
+    width: 0,
+    height: 0,
+};
+
 // A node is entered, and none of its values is known yet.
-pub fn enter(
-    tape: &mut [u32; TAPE_WORDS],
-    node: usize,
-    at: usize,
-    class: u8,
-    parent: usize,
-    end: usize,
-)
+pub fn enter(tape: &mut Tape, node: usize, at: usize, class: u8, parent: usize, end: usize)
     requires { (at ≤ most_word) × (parent ≤ most_word) × (end ≤ most_word) }
-    ensures { length tape.old ≡ tape_words → tape.new ≡ entered tape.old node at class parent end }
+    ensures { length tape.old ≡ most_nodes → tape.new ≡ entered tape.old node at class parent end }
 {
     if node < MOST_NODES {
-        let i = NODE_WORDS * node;
-        tape[i] = at as u32;
-        tape[i + CLASS] = class as u32;
-        tape[i + PARENT] = parent as u32;
-        tape[i + END] = end as u32;
-        tape[i + KEY] = 0;
-        tape[i + TYPE] = 0;
-        tape[i + WIDTH] = MISSING_WORD;
-        tape[i + HEIGHT] = MISSING_WORD;
+        tape[node] = Entry {
+            place: at as u32,
+            class: class as u32,
+            parent: parent as u32,
+            end: end as u32,
+            key: 0,
+            typename: 0,
+            width: MISSING_WORD,
+            height: MISSING_WORD,
+        };
     }
 }
 
-// One word of a node.
-pub fn note(tape: &mut [u32; TAPE_WORDS], node: usize, word: usize, value: usize)
-    requires { (word < node_words) × (value ≤ most_word) }
-    ensures { length tape.old ≡ tape_words → tape.new ≡ set tape.old (node_words * node + word) value }
+// It is left: its last descendant is the node before `end`.
+pub fn leave(tape: &mut Tape, node: usize, end: usize)
+    requires { end ≤ most_word }
+    ensures { length tape.old ≡ most_nodes → tape.new ≡ left tape.old node end }
 {
     if node < MOST_NODES {
-        tape[NODE_WORDS * node + word] = value as u32;
+        tape[node].end = end as u32;
+    }
+}
+
+// The place of what its id or target holds.
+pub fn note_key(tape: &mut Tape, node: usize, place: usize)
+    requires { place ≤ most_word }
+    ensures { length tape.old ≡ most_nodes → tape.new ≡ key_noted tape.old node place }
+{
+    if node < MOST_NODES {
+        tape[node].key = place as u32;
+    }
+}
+
+// The place of what its type holds.
+pub fn note_type(tape: &mut Tape, node: usize, place: usize)
+    requires { place ≤ most_word }
+    ensures { length tape.old ≡ most_nodes → tape.new ≡ type_noted tape.old node place }
+{
+    if node < MOST_NODES {
+        tape[node].typename = place as u32;
+    }
+}
+
+// Its size.
+pub fn note_size(tape: &mut Tape, node: usize, width: usize, height: usize)
+    requires { (width ≤ most_word) × (height ≤ most_word) }
+    ensures { length tape.old ≡ most_nodes → tape.new ≡ size_noted tape.old node width height }
+{
+    if node < MOST_NODES {
+        tape[node].width = width as u32;
+        tape[node].height = height as u32;
     }
 }

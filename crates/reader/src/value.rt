@@ -8,13 +8,14 @@ ghost use Rattle.document.specs.rules.Value.{non_empty, is_value, names_block};
 ghost use Rattle.document.specs.reference.Meaning.{judge_value, value_tree, size_tree, number_of};
 ghost use Rattle.reader.specs.internal.RunStands.{RunStands};
 ghost use Rattle.reader.specs.internal.Counts.{value_size};
-ghost use Rattle.reader.specs.internal.TapeWord as TapeWord;
-ghost use Rattle.reader.specs.internal.WalkAnswer.{walked_to, MayStart, Bounded};
-ghost use Rattle.reader.specs.internal.ParameterValue.{HoldsOne, ReadsNumber, Notes, holds_sort};
+ghost use Rattle.reader.specs.internal.WalkAnswer.{told, walked_to};
+ghost use Rattle.reader.specs.internal.Walks.{WalkStarts, Within};
+ghost use Rattle.reader.specs.internal.ParameterValue.{HoldsOne, ReadsNumber, Notes, holds_sort, number_or_none};
 
-use super::tape::{HEIGHT, KEY, TAPE_WORDS, TYPE, WIDTH, note};
-use super::walk::{MALFORMED, Walked, closes, refusal};
+use super::tape::{Tape, note_key, note_size, note_type};
+use super::walk::{Element, Opening, Reached, Refused, Walked, closes};
 use atoms::atom_fits;
+use base::Refusal;
 use kind::{Keyword, Kind};
 use lexer::{A_STRING, A_SYMBOL, THE_END, look};
 
@@ -39,23 +40,20 @@ const ID_CHARACTERS: u8 = 1;
 
 const URI_CHARACTERS: u8 = 2;
 
-// The largest width or height, how many digits one has at most, and what stands for no such number.
+// The largest width or height, and how many digits one has at most.
 const MOST_NUMBER: usize = 65535;
 
 const MOST_DIGITS: usize = 5;
 
-const NO_NUMBER: usize = MOST_NUMBER + 1;
-
 // The one text or symbol of a run: its place, the length of what it stands for, and the place where the run ends.
 #[derive(Clone, Copy)]
 pub struct One {
-    pub good: bool,
     pub place: usize,
     pub length: usize,
     pub end: usize,
 }
 
-// A width or height, or 65,536 where there is none, and the place after it.
+// A width or height, and the place after it.
 #[derive(Clone, Copy)]
 pub struct Number {
     pub number: usize,
@@ -63,44 +61,35 @@ pub struct Number {
 }
 
 // What a parameter of a class holds from `from` on; of a type only a symbol counts.
-fn only(text: &[u8], from: usize, class: u8) -> One
+fn only(text: &[u8], from: usize, class: u8) -> Option<One>
     requires { from ≤ length text.now }
     ensures { HoldsOne text.now from class result }
 {
     let first = look(text, from);
     let next = first.next;
     if !is_held(class, first.sort) {
-        return One {
-            good: false,
-            place: 0,
-            length: 0,
-            end: 0,
-        };
+        return None;
     }
     // Not where expressions stand.
     if next <= from {
-        return One {
-            good: false,
-            place: 0,
-            length: 0,
-            end: 0,
-        };
+        return None;
     }
-    if closes(text, next) {
-        return One {
-            good: true,
-            place: first.place,
-            length: first.length,
-            end: next,
-        };
-    }
-    let last = look(text, next);
-    One {
-        good: last.sort == THE_END,
+    let one = One {
         place: first.place,
         length: first.length,
-        end: last.place,
+        end: next,
+    };
+    if closes(text, next) {
+        return Some(one);
     }
+    let last = look(text, next);
+    if last.sort != THE_END {
+        return None;
+    }
+    Some(One {
+        end: last.place,
+        ..one
+    })
 }
 
 // What is seen is a symbol, or, but in a type, a string.
@@ -141,144 +130,95 @@ fn target_sort(kind: u8) -> u8
     URI_CHARACTERS
 }
 
-// The number that `length` bytes from `place` on write, or 65,536 where they are not one to five decimal digits.
-fn decimal(text: &[u8], place: usize, length: usize) -> usize
+// The number that `length` bytes from `place` on write, where they are one to five decimal digits.
+fn decimal(text: &[u8], place: usize, length: usize) -> Option<usize>
     requires { place + length ≤ lib.ListN.length text.now }
-    ensures { result ≡ number_of (Expr.symbol place (take length (drop place text.now))) }
+    ensures { number_or_none result ≡ number_of (Expr.symbol place (take length (drop place text.now))) }
 {
-    if length == 0 {
-        return NO_NUMBER;
-    }
-    if MOST_DIGITS < length {
-        return NO_NUMBER;
+    if length == 0 || MOST_DIGITS < length {
+        return None;
     }
     let end = place + length;
     let mut number: usize = 0;
-    let mut i = place;
-    while i < end {
-        let b = text[i];
-        if b < b'0' {
-            return NO_NUMBER;
-        }
-        if b'9' < b {
-            return NO_NUMBER;
+    for &b in &text[place..end] {
+        if !b.is_ascii_digit() {
+            return None;
         }
         number = number * 10 + (b - b'0') as usize;
-        i += 1;
     }
-    number
+    Some(number)
 }
 
 // The width or height that is seen from `from` on.
-fn number_at(text: &[u8], from: usize) -> Number
+fn number_at(text: &[u8], from: usize) -> Option<Number>
     requires { from ≤ length text.now }
     ensures { ReadsNumber text.now from result }
 {
     let seen = look(text, from);
     let next = seen.next;
-    if seen.sort != A_SYMBOL {
-        return Number {
-            number: NO_NUMBER,
-            next: from,
-        };
+    // The latter not where expressions stand.
+    if seen.sort != A_SYMBOL || next <= from {
+        return None;
     }
-    // Not where expressions stand.
-    if next <= from {
-        return Number {
-            number: NO_NUMBER,
-            next: from,
-        };
+    let number = decimal(text, seen.place, seen.length)?;
+    if MOST_NUMBER < number {
+        return None;
     }
-    Number {
-        number: decimal(text, seen.place, seen.length),
-        next,
-    }
+    Some(Number { number, next })
 }
 
-// A size at `at`, whose numbers start at `from`; they are noted of the node.
-fn size(
-    text: &[u8],
-    at: usize,
-    from: usize,
-    kind: u8,
-    nodes: usize,
-    pool: usize,
-    node: usize,
-    tape: &mut [u32; TAPE_WORDS],
-) -> Walked
-    requires { MayStart text.now from nodes pool node }
-    ensures bounded { Bounded text.now from result }
-    ensures value { (es : Exprs) (m : ℕ) → RunStands text.now from es m
-        → result ≡ walked_to m nodes pool (judge_value kind at (size_tree es)) }
-    ensures notes { Notes text.now from Class.size node tape.old result tape.new }
+// A size, from the place after its name on; its numbers are noted of the element's node.
+fn size(text: &[u8], parent: Element, at: usize, from: Reached, tape: &mut Tape) -> Walked
+    requires { WalkStarts text.now from parent.node }
+    ensures bounded { Within text.now from result }
+    ensures value { (es : Exprs) (m : ℕ) → RunStands text.now from.place es m
+        → told result ≡ walked_to m from.nodes from.pool (judge_value parent.kind at (size_tree es)) }
+    ensures notes { Notes text.now from.place Class.size parent.node tape.old (told result) tape.new }
 {
-    let width = number_at(text, from);
-    if MOST_NUMBER < width.number {
-        return refusal(MALFORMED, at);
-    }
-    let height = number_at(text, width.next);
-    if MOST_NUMBER < height.number {
-        return refusal(MALFORMED, at);
-    }
+    let malformed = Refused {
+        refusal: Refusal::Malformed,
+        place: at,
+    };
+    let width = number_at(text, from.place).ok_or(malformed)?;
+    let height = number_at(text, width.next).ok_or(malformed)?;
     let last = look(text, height.next);
     if last.sort != THE_END {
-        return refusal(MALFORMED, at);
+        return Err(malformed);
     }
-    note(tape, node, WIDTH, width.number);
-    note(tape, node, HEIGHT, height.number);
-    Walked {
-        number: 0,
-        place: 0,
-        next: last.place,
-        nodes,
-        pool,
-    }
+    note_size(tape, parent.node, width.number, height.number);
+    Ok(Reached {
+        place: last.place,
+        ..from
+    })
 }
 
-// The word of a node for the place of what a parameter of a class holds.
-fn word_of(class: u8) -> usize
-    ensures { result ≡ cond (eqb class Class.type) TapeWord.type TapeWord.key }
+// A parameter's list in an element, from the place after its name on; the place of what it holds is noted of the element's node.
+pub fn value(text: &[u8], parent: Element, list: Opening, from: Reached, tape: &mut Tape) -> Walked
+    requires { WalkStarts text.now from parent.node }
+    ensures bounded { Within text.now from result }
+    ensures value { (es : Exprs) (m : ℕ) → RunStands text.now from.place es m
+        → told result ≡ walked_to m from.nodes (from.pool + value_size list.class es) (judge_value parent.kind list.at (value_tree list.class es)) }
+    ensures notes { Notes text.now from.place list.class parent.node tape.old (told result) tape.new }
 {
-    if class == TYPE_NAME {
-        return TYPE;
+    if list.class == SIZE {
+        return size(text, parent, list.at, from, tape);
     }
-    KEY
-}
-
-// A list at `at` led by a parameter's name of a class, in an element of a kind with number `node`; what follows the name starts at `from`.
-pub fn value(
-    text: &[u8],
-    at: usize,
-    from: usize,
-    kind: u8,
-    class: u8,
-    nodes: usize,
-    pool: usize,
-    node: usize,
-    tape: &mut [u32; TAPE_WORDS],
-) -> Walked
-    requires { MayStart text.now from nodes pool node }
-    ensures bounded { Bounded text.now from result }
-    ensures value { (es : Exprs) (m : ℕ) → RunStands text.now from es m
-        → result ≡ walked_to m nodes (pool + value_size class es) (judge_value kind at (value_tree class es)) }
-    ensures notes { Notes text.now from class node tape.old result tape.new }
-{
-    if class == SIZE {
-        return size(text, at, from, kind, nodes, pool, node, tape);
+    let malformed = Refused {
+        refusal: Refusal::Malformed,
+        place: list.at,
+    };
+    let one = only(text, from.place, list.class).ok_or(malformed)?;
+    if !is_value(text, one.place, parent.kind, list.class) {
+        return Err(malformed);
     }
-    let one = only(text, from, class);
-    if !one.good {
-        return refusal(MALFORMED, at);
+    if list.class == TYPE_NAME {
+        note_type(tape, parent.node, one.place);
+    } else {
+        note_key(tape, parent.node, one.place);
     }
-    if !is_value(text, one.place, kind, class) {
-        return refusal(MALFORMED, at);
-    }
-    note(tape, node, word_of(class), one.place);
-    Walked {
-        number: 0,
-        place: 0,
-        next: one.end,
-        nodes,
-        pool: pool + one.length,
-    }
+    Ok(Reached {
+        place: one.end,
+        pool: from.pool + one.length,
+        ..from
+    })
 }

@@ -1,37 +1,30 @@
 // The judging walk over the text, which counts nodes and pool bytes (document 01, numbers 8 to 12) and notes the nodes on the tape.
 // "An item holds inline content, and inline content holds lists of items": the walk over inline content
 // calls the list and item walks, which call it back, and the bytes left fall.
-// Only the walk over inline content takes its turns by `next_turn`, so that the compiler puts that into its loop.
-ghost use Rattle.std.specs.Prelude.{◌≡◌, ◌⊎◌, cond, true, ◌≤◌, eqb, length, drop};
+ghost use Rattle.std.specs.Prelude.{◌≡◌, ◌⊎◌, ℕ, ◌+◌, ◌<◌, ◌≤◌, cond, true, eqb, Ok, Err, length, drop};
 ghost use Rattle.base.specs.rules.Numbers as Number;
+ghost use Rattle.base.specs.Refusals as Refusals;
 ghost use Rattle.elements.specs.rules.Class as Class;
 ghost use Rattle.elements.specs.rules.Class.{is_element};
 ghost use Rattle.elements.specs.rules.Inside.{ended};
 ghost use Rattle.inside.specs.Machine.{state_of};
 ghost use Rattle.lexer.specs.Token.{seen, the_end};
 ghost use Rattle.document.specs.reference.Meaning.{Verdict};
-ghost use Rattle.reader.specs.internal.WalkAnswer.{walked_to, MayStart, MayEnter, Bounded};
-ghost use Rattle.reader.specs.internal.Tape.{left};
-ghost use Rattle.reader.specs.internal.TapeWord.{tape_words, most_word};
-ghost use Rattle.reader.specs.internal.Walk.{AnswersFrom, Finishes, JudgesList, TurnFrom, TurnWithin, past_bracket};
+ghost use Rattle.reader.specs.internal.WalkAnswer.{told, walked_to};
+ghost use Rattle.reader.specs.internal.Walk.{past_bracket};
+ghost use Rattle.base.specs.rules.Limits.{most_nodes};
+ghost use Rattle.reader.specs.internal.Tape.{entered};
+ghost use Rattle.reader.specs.internal.TapeWord.{most_word};
+ghost use Rattle.reader.specs.internal.Walks.{WalkStarts, ListStarts, Within, Answers, Finished, Judges, MayTurn, TurnAs};
 
-use super::tape::{END, TAPE_WORDS, enter, note};
+use super::tape::{Tape, enter, leave};
 use super::value::value;
-use base::number;
+use base::Refusal;
 use characters::byte_class;
 use characters::class::ROUND_END;
 use inside::{may_end, step};
 use kind::Kind;
-use lexer::{A_LIST, THE_END, look};
-
-// The numbers answered by a walk. A step of `inside` tells its faults as bytes, so a walk takes them so.
-pub const NOT_ONE_EXPRESSION: u8 = number::NOT_ONE_EXPRESSION as u8;
-
-pub const NOT_ALLOWED: u8 = number::NOT_ALLOWED as u8;
-
-pub const ABSENT: u8 = number::ABSENT as u8;
-
-pub const MALFORMED: u8 = number::MALFORMED as u8;
+use lexer::{A_LIST, Seen, THE_END, look};
 
 // Kinds by their numbers.
 pub const DOCUMENT: u8 = Kind::DOCUMENT.number;
@@ -46,62 +39,72 @@ const LIST_ORDERED: u8 = Kind::LIST_ORDERED.number;
 
 const LIST_UNORDERED: u8 = Kind::LIST_UNORDERED.number;
 
+// How far a walk has come: the place in the text, and the nodes and pool bytes counted up to it.
 #[derive(Clone, Copy)]
-pub struct Walked {
-    pub number: u32,
+pub struct Reached {
     pub place: usize,
-    pub next: usize,
     pub nodes: usize,
     pub pool: usize,
 }
 
-// One turn of a walk.
+// Why a text is refused, and the place that the number stands at.
 #[derive(Clone, Copy)]
-pub enum Turn {
-    // The walk is over.
-    Done(Walked),
-    // A symbol or string was passed: the place after it, the counts of nodes and pool bytes with it, and the state.
-    Atom(usize, usize, usize, u8),
-    // A list: its place, the class of the name that leads it, the place after the name, and the state.
-    List(usize, u8, usize, u8),
+pub struct Refused {
+    pub refusal: Refusal,
+    pub place: usize,
 }
 
-pub fn refusal(number: u8, place: usize) -> Walked
-    ensures { result ≡ walked_to 0 0 0 (Verdict.fault number place) }
-{
-    Walked {
-        number: number as u32,
-        place,
-        next: 0,
-        nodes: 0,
-        pool: 0,
-    }
+// What a walk answers.
+pub type Walked = Result<Reached, Refused>;
+
+// An element whose content is walked: the place of its bracket, its kind and its number.
+#[derive(Clone, Copy)]
+pub struct Element {
+    pub at: usize,
+    pub kind: u8,
+    pub node: usize,
+}
+
+// A list that is opened: the place of its bracket, and the class of the name that leads it.
+#[derive(Clone, Copy)]
+pub struct Opening {
+    pub at: usize,
+    pub class: u8,
+}
+
+// What a walk that meets no fault passes. A state is that of the element after it.
+#[derive(Clone, Copy)]
+pub enum Turn {
+    // A symbol or string.
+    Atom(Reached, u8),
+    // A list, whose content starts at the place after the name that leads it.
+    List(Opening, Reached, u8),
 }
 
 // 9 is placed at the element's bracket, the others at the expression itself.
-pub fn fault_at(number: u8, at: usize, place: usize) -> Walked
-    ensures { result ≡ walked_to 0 0 0 (Verdict.fault number (cond (eqb number Number.absent) at place)) }
+pub fn fault_at(refusal: Refusal, at: usize, place: usize) -> Refused
+    ensures { told (Err result) ≡ walked_to 0 0 0 (Verdict.fault (Refusals.number refusal) (cond (eqb (Refusals.number refusal) Number.absent) at place)) }
 {
-    if number == ABSENT {
-        return refusal(number, at);
-    }
-    refusal(number, place)
+    let place = if refusal == Refusal::Absent {
+        at
+    } else {
+        place
+    };
+    Refused { refusal, place }
 }
 
-// At the end of a run, at `place`.
-pub fn at_end(at: usize, kind: u8, state: u8, place: usize, nodes: usize, pool: usize) -> Walked
-    ensures { result ≡ walked_to place nodes pool (cond (ended kind (state_of kind state)) Verdict.fine (Verdict.fault Number.absent at)) }
+// At the end of a run.
+pub fn at_end(element: Element, state: u8, end: Reached) -> Walked
+    ensures { told result ≡ walked_to end.place end.nodes end.pool
+        (cond (ended element.kind (state_of element.kind state)) Verdict.fine (Verdict.fault Number.absent element.at)) }
 {
-    if may_end(kind, state) {
-        return Walked {
-            number: 0,
-            place: 0,
-            next: place,
-            nodes,
-            pool,
-        };
+    if may_end(element.kind, state) {
+        return Ok(end);
     }
-    refusal(ABSENT, at)
+    Err(Refused {
+        refusal: Refusal::Absent,
+        place: element.at,
+    })
 }
 
 // A run of expressions ends at this very place, as most do: a closing bracket stands there.
@@ -114,190 +117,154 @@ pub fn closes(text: &[u8], i: usize) -> bool
     ROUND_END <= byte_class(text[i])
 }
 
-// The next expression in an element of a kind at `at` with number `node`, read so far to this state.
-fn next_turn(
-    text: &[u8],
-    at: usize,
-    i: usize,
-    kind: u8,
+// What is seen from a place on, counted as an expression of this class in an element that is read so far to this state.
+pub fn take_turn(
+    element: Element,
+    from: Reached,
+    seen: Seen,
+    class: u8,
     state: u8,
-    nodes: usize,
-    pool: usize,
-    node: usize,
-    tape: &mut [u32; TAPE_WORDS],
-) -> Turn
-    requires { MayStart text.now i nodes pool node }
-    ensures turn_within { TurnWithin text.now i result }
-    ensures turn_from { TurnFrom text.now at kind i state nodes pool node tape.old tape.new result }
+    tape: &mut Tape,
+) -> Result<Turn, Refused>
+    requires { MayTurn element from seen.place seen.next seen.length }
+    ensures { TurnAs element from seen.sort seen.place seen.next seen.length class state tape.old tape.new result }
 {
-    if closes(text, i) {
-        return Turn::Done(at_end(at, kind, state, i, nodes, pool));
-    }
-    let seen = look(text, i);
-    let place = seen.place;
-    if seen.sort == THE_END {
-        return Turn::Done(at_end(at, kind, state, place, nodes, pool));
-    }
-    let class = seen.class;
-    let next = seen.next;
-    let taken = step(kind, state, class);
-    if taken.fault != 0 {
-        return Turn::Done(fault_at(taken.fault, at, place));
-    }
+    let Seen { place, next, .. } = seen;
+    let state = match step(element.kind, state, class) {
+        Ok(state) => state,
+        Err(refusal) => return Err(fault_at(refusal, element.at, place)),
+    };
     // Not where expressions stand; but the walk is to end on any bytes.
-    if next <= i {
-        return Turn::Done(refusal(NOT_ALLOWED, place));
+    if next <= from.place {
+        return Err(Refused {
+            refusal: Refusal::NotAllowed,
+            place,
+        });
     }
     if seen.sort == A_LIST {
-        return Turn::List(place, class, next, taken.state);
+        let list = Opening { at: place, class };
+        let inner = Reached {
+            place: next,
+            ..from
+        };
+        return Ok(Turn::List(list, inner, state));
     }
-    enter(tape, nodes, place, TEXT, node, nodes + 1);
-    Turn::Atom(next, nodes + 1, pool + seen.length, taken.state)
+    let nodes = from.nodes + 1;
+    enter(tape, from.nodes, place, TEXT, element.node, nodes);
+    let passed = Reached {
+        place: next,
+        nodes,
+        pool: from.pool + seen.length,
+    };
+    Ok(Turn::Atom(passed, state))
 }
 
 // From a list's closing bracket to the place after it; that there is a bracket is known only where expressions stand.
-pub fn past_bracket(text: &[u8], w: Walked) -> Walked
-    ensures { result ≡ past_bracket (length text.now) w }
+pub fn past_bracket(text: &[u8], end: Reached) -> Walked
+    ensures { told result ≡ past_bracket (length text.now) (told (Ok end)) }
 {
-    if w.number != 0 {
-        return w;
+    let place = end.place;
+    if text.len() <= place {
+        return Err(Refused {
+            refusal: Refusal::NotAllowed,
+            place,
+        });
     }
-    let end = w.next;
-    if text.len() <= end {
-        return refusal(NOT_ALLOWED, end);
-    }
-    Walked {
-        number: 0,
-        place: 0,
-        next: end + 1,
-        nodes: w.nodes,
-        pool: w.pool,
-    }
+    Ok(Reached {
+        place: place + 1,
+        nodes: end.nodes,
+        pool: end.pool,
+    })
 }
 
 // A list led by a name of this class leads an element.
 pub fn is_element(class: u8) -> bool
     ensures { result ≡ is_element class }
 {
-    if class < DOCUMENT {
-        return false;
-    }
-    if CELL < class {
-        return false;
-    }
-    class != TEXT
+    DOCUMENT <= class && class <= CELL && class != TEXT
 }
 
-// An element whose walk answered w is left: the number after that of its last descendant is noted, unless it was refused.
-pub fn leave(tape: &mut [u32; TAPE_WORDS], node: usize, w: Walked)
-    requires { w.number ≡ 0 → w.nodes ≤ most_word }
-    ensures { w.number ≡ 0 → length tape.old ≡ tape_words → tape.new ≡ left tape.old node w.nodes }
-{
-    if w.number == 0 {
-        note(tape, node, END, w.nodes);
-    }
-}
-
-// A list at `at` in an element of kind `parent` with number `node`, led by a name of this class; what follows the name starts at `from`.
+// A list in an element, from the place after the name that leads it on.
 #[cycle(content_of_inline_inside_item_list)]
-pub fn inside(
-    text: &[u8],
-    at: usize,
-    from: usize,
-    parent: u8,
-    class: u8,
-    nodes: usize,
-    pool: usize,
-    node: usize,
-    tape: &mut [u32; TAPE_WORDS],
-) -> Walked
-    requires { MayEnter text.now at from nodes pool node }
-    ensures bounded { Bounded text.now from result }
-    ensures judges_list { JudgesList text.now at from parent class nodes pool node tape.old tape.new result }
+pub fn inside(text: &[u8], parent: Element, list: Opening, from: Reached, tape: &mut Tape) -> Walked
+    requires { ListStarts text.now list from parent.node }
+    ensures bounded { Within text.now from result }
+    ensures judges_list { Judges text.now parent.kind parent.node list from tape.old tape.new result }
 {
-    if !is_element(class) {
-        return value(text, at, from, parent, class, nodes, pool, node, tape);
+    if !is_element(list.class) {
+        return value(text, parent, list, from, tape);
     }
-    enter(tape, nodes, at, class, node, 0);
-    let w = content_of(text, at, from, class, nodes + 1, pool, nodes, tape);
-    leave(tape, nodes, w);
-    w
+    let (element, inner) = opened(parent.node, list, from, tape);
+    let end = content_of(text, element, inner, tape)?;
+    leave(tape, element.node, end.nodes);
+    Ok(end)
 }
 
-// What follows the name in an element of a kind, by the walk for that kind. An item is met by the list walk alone.
-#[cycle(content_of_inline_inside_item_list)]
-fn content_of(
-    text: &[u8],
-    at: usize,
-    from: usize,
-    kind: u8,
-    nodes: usize,
-    pool: usize,
-    node: usize,
-    tape: &mut [u32; TAPE_WORDS],
-) -> Walked
-    requires { MayStart text.now from nodes pool node }
-    ensures bounded { Bounded text.now from result }
-    ensures finishes { Finishes text.now at kind from nodes pool node tape.old tape.new result }
+// The element of a list is entered; its content is walked with one node more.
+pub fn opened(parent: usize, list: Opening, from: Reached, tape: &mut Tape) -> (Element, Reached)
+    requires { (list.at ≤ most_word) × (parent ≤ most_word) × (from.nodes < most_word) }
+    ensures element { result.0 ≡ record { at = list.at; kind = list.class; node = from.nodes } }
+    ensures inner { result.1 ≡ record { place = from.place; nodes = from.nodes + 1; pool = from.pool } }
+    ensures tape_after { length tape.old ≡ most_nodes → tape.new ≡ entered tape.old from.nodes list.at list.class parent 0 }
 {
-    match kind {
-        LIST_ORDERED | LIST_UNORDERED => list(text, at, from, kind, nodes, pool, node, tape),
-        _ => inline(text, at, from, kind, nodes, pool, node, tape),
+    let node = from.nodes;
+    let kind = list.class;
+    enter(tape, node, list.at, kind, parent, 0);
+    let element = Element {
+        at: list.at,
+        kind,
+        node,
+    };
+    let inner = Reached {
+        nodes: node + 1,
+        ..from
+    };
+    (element, inner)
+}
+
+// What follows the name in an element, by the walk for its kind. An item is met by the list walk alone.
+#[cycle(content_of_inline_inside_item_list)]
+fn content_of(text: &[u8], element: Element, from: Reached, tape: &mut Tape) -> Walked
+    requires { WalkStarts text.now from element.node }
+    ensures bounded { Within text.now from result }
+    ensures finishes { Finished text.now element from tape.old tape.new result }
+{
+    match element.kind {
+        LIST_ORDERED | LIST_UNORDERED => list(text, element, from, tape),
+        _ => inline(text, element, from, tape),
     }
 }
 
 // What follows the name in an element that holds inline content, and in any other but a list: what may stand there is the step's to say.
 #[cycle(content_of_inline_inside_item_list)]
-pub fn inline(
-    text: &[u8],
-    at: usize,
-    from: usize,
-    kind: u8,
-    nodes: usize,
-    pool: usize,
-    node: usize,
-    tape: &mut [u32; TAPE_WORDS],
-) -> Walked
-    requires { MayStart text.now from nodes pool node }
-    ensures bounded { Bounded text.now from result }
-    ensures answers_from { AnswersFrom text.now at kind from 0 nodes pool node tape.old tape.new result }
+pub fn inline(text: &[u8], element: Element, from: Reached, tape: &mut Tape) -> Walked
+    requires { WalkStarts text.now from element.node }
+    ensures bounded { Within text.now from result }
+    ensures answers_from { Answers text.now element from 0 tape.old tape.new result }
 {
-    let mut i = from;
+    let mut reached = from;
     let mut state: u8 = 0;
-    let mut n = nodes;
-    let mut p = pool;
     loop {
-        let t = next_turn(text, at, i, kind, state, n, p, node, tape);
-        match t {
-            Turn::Done(w) => {
-                return w;
+        if closes(text, reached.place) {
+            return at_end(element, state, reached);
+        }
+        let seen = look(text, reached.place);
+        if seen.sort == THE_END {
+            let end = Reached {
+                place: seen.place,
+                ..reached
+            };
+            return at_end(element, state, end);
+        }
+        match take_turn(element, reached, seen, seen.class, state, tape)? {
+            Turn::Atom(passed, next) => {
+                reached = passed;
+                state = next;
             }
-            Turn::Atom(next, n2, p2, s) => {
-                i = next;
-                n = n2;
-                p = p2;
-                state = s;
-                continue;
-            }
-            Turn::List(place, class, next, s) => {
-                let child = match class {
-                    LIST_ORDERED | LIST_UNORDERED => {
-                        enter(tape, n, place, class, node, 0);
-                        let items = list(text, place, next, class, n + 1, p, n, tape);
-                        leave(tape, n, items);
-                        items
-                    }
-                    _ => inside(text, place, next, kind, class, n, p, node, tape),
-                };
-                let w = past_bracket(text, child);
-                if w.number != 0 {
-                    return w;
-                }
-                i = w.next;
-                n = w.nodes;
-                p = w.pool;
-                state = s;
-                continue;
+            Turn::List(list, inner, next) => {
+                let end = inside(text, element, list, inner, tape)?;
+                reached = past_bracket(text, end)?;
+                state = next;
             }
         }
     }
@@ -305,68 +272,46 @@ pub fn inline(
 
 // What follows the name in a list of items.
 #[cycle(content_of_inline_inside_item_list)]
-fn list(
-    text: &[u8],
-    at: usize,
-    from: usize,
-    kind: u8,
-    nodes: usize,
-    pool: usize,
-    node: usize,
-    tape: &mut [u32; TAPE_WORDS],
-) -> Walked
-    requires { MayStart text.now from nodes pool node × ((kind ≡ Class.list_ordered) ⊎ (kind ≡ Class.list_unordered)) }
-    ensures bounded { Bounded text.now from result }
-    ensures answers_from { AnswersFrom text.now at kind from 0 nodes pool node tape.old tape.new result }
+fn list(text: &[u8], element: Element, from: Reached, tape: &mut Tape) -> Walked
+    requires { WalkStarts text.now from element.node × ((element.kind ≡ Class.list_ordered) ⊎ (element.kind ≡ Class.list_unordered)) }
+    ensures bounded { Within text.now from result }
+    ensures answers_from { Answers text.now element from 0 tape.old tape.new result }
 {
-    let mut i = from;
+    let mut reached = from;
     let mut state: u8 = 0;
-    let mut n = nodes;
-    let mut p = pool;
     loop {
-        let seen = look(text, i);
-        let place = seen.place;
-        let next = seen.next;
+        let seen = look(text, reached.place);
         if seen.sort == THE_END {
-            return at_end(at, kind, state, place, n, p);
+            let end = Reached {
+                place: seen.place,
+                ..reached
+            };
+            return at_end(element, state, end);
         }
-        let taken = step(kind, state, seen.class);
-        if taken.fault != 0 {
-            return fault_at(taken.fault, at, place);
+        match take_turn(element, reached, seen, seen.class, state, tape)? {
+            // The step takes nothing but an item, which is a list.
+            Turn::Atom(passed, next) => {
+                reached = passed;
+                state = next;
+            }
+            Turn::List(list, inner, next) => {
+                let end = item(text, element.node, list, inner, tape)?;
+                reached = past_bracket(text, end)?;
+                state = next;
+            }
         }
-        // Not where expressions stand.
-        if next <= i {
-            return refusal(NOT_ALLOWED, place);
-        }
-        // An item: the step takes nothing else.
-        enter(tape, n, place, ITEM, node, 0);
-        let child = item(text, place, next, n + 1, p, n, tape);
-        leave(tape, n, child);
-        let w = past_bracket(text, child);
-        if w.number != 0 {
-            return w;
-        }
-        i = w.next;
-        n = w.nodes;
-        p = w.pool;
-        state = taken.state;
     }
 }
 
-// What follows the name in an item: the walk over inline content, started at the item's kind.
+// An item: the walk over inline content, started at the item's kind.
 #[cycle(content_of_inline_inside_item_list)]
-fn item(
-    text: &[u8],
-    at: usize,
-    from: usize,
-    nodes: usize,
-    pool: usize,
-    node: usize,
-    tape: &mut [u32; TAPE_WORDS],
-) -> Walked
-    requires { MayStart text.now from nodes pool node }
-    ensures bounded { Bounded text.now from result }
-    ensures answers_from { AnswersFrom text.now at Class.item from 0 nodes pool node tape.old tape.new result }
+fn item(text: &[u8], parent: usize, list: Opening, from: Reached, tape: &mut Tape) -> Walked
+    requires { ListStarts text.now list from parent × (list.class ≡ Class.item) }
+    ensures bounded { Within text.now from result }
+    ensures judges_list { (k : ℕ) → Judges text.now k parent list from tape.old tape.new result }
 {
-    inline(text, at, from, ITEM, nodes, pool, node, tape)
+    let (element, inner) = opened(parent, list, from, tape);
+    let end = inline(text, element, inner, tape)?;
+    leave(tape, element.node, end.nodes);
+    Ok(end)
 }

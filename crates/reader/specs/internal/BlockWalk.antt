@@ -1,26 +1,20 @@
 -- What a walk over the blocks of an imperative text answers. It serves the contracts of private functions.
 use Rattle.std.specs.Prelude.{ℕ, ◌+◌, ◌≤◌, ◌<◌, ◌≡◌, Bool, true, not, cond, ◌&&◌, ◌||◌, List, eqb, leb, length}
-use Rattle.base.specs.rules.Numbers as Number
 use Rattle.elements.specs.rules.Class as Class
-use Rattle.elements.specs.rules.Inside.{step as stepped, bad}
-use Rattle.inside.specs.Machine.{state_of}
 use Rattle.syntax.specs.rules.Byte.{Bracket, closing}
 use Rattle.syntax.specs.rules.Expression.{Expr, Exprs, none, and}
-use Rattle.lexer.specs.Token.{the_end, a_list}
+use Rattle.lexer.specs.Token.{the_end}
 use Rattle.document.specs.rules.Spelling.{is_block_parameter}
 use Rattle.document.specs.rules.Command.{join, in_command}
 use Rattle.document.specs.rules.Lead.{expr_class}
 use Rattle.document.specs.reference.Meaning.{fault, judge}
 use Rattle.reader.specs.internal.RunStands.{Has, RunStands}
 use Rattle.reader.specs.internal.Counts.{node_count, pool_bytes}
-use Rattle.reader.specs.internal.WalkAnswer.{walked_to}
-use Rattle.reader.specs.internal.Tape.{entered, taped, taped_all}
-use Rattle.reader.specs.internal.TapeWord.{tape_words}
+use Rattle.base.specs.rules.Limits.{most_nodes}
+use Rattle.reader.specs.internal.WalkAnswer.{Walked, walked_to}
+use Rattle.reader.specs.internal.Tape.{Tape, taped, taped_all}
 use Rattle.document.specs.rules.Takes.{Takes}
-use Rattle.reader.specs.internal.Walk.{run_answer, NamedListFirst, StepTakes}
-use Rattle.reader.specs.declared.walk.Walked.{Walked}
-use Rattle.reader.specs.declared.walk.Turn.{Turn}
-use Rattle.reader.specs.declared.walk.Turn.TheVariants.{Done, Atom, List as AList}
+use Rattle.reader.specs.internal.Walk.{run_answer, NamedListFirst}
 
 -- The class that an expression of class c counts as in a command's bracket (`in_command`), and in a block's content if it is no command (`loose`).
 unfoldable pub command_class : ℕ → ℕ
@@ -37,40 +31,22 @@ leads_command c = Class.is_block c && not (eqb c Class.document)
 unfoldable pub ends_at : ℕ → ℕ → ℕ → Bool
 ends_at k sort c = eqb sort the_end || (leads_command c && leb (Class.significance k) (Class.significance c))
 
--- What is seen at q, up to j, counts as of class c in an element of kind k at `at`: that is refused, or nothing is passed from i on.
-pub data Refuses (at i q j c k st : ℕ) (w : Walked) : Type 0 where
-  by_step : (f : ℕ) → (f ≡ 0 → ⊥) → stepped k (state_of k st) c ≡ bad f → w ≡ walked_to 0 0 0 (fault f (cond (eqb f Number.absent) at q)) → Refuses at i q j c k st w
-  stuck : j ≤ i → w ≡ walked_to 0 0 0 (fault Number.not_allowed q) → Refuses at i q j c k st w
-
--- It is taken, and something is passed.
-pub record TakenAs (i j c k st j' st' : ℕ) : Type 0 where
-  pub taken : StepTakes k st c st'
-  pub forward : i < j
-  pub next : j' ≡ j
-
--- A turn, of what is seen at q, up to j, as of this sort and with l bytes, and counts as of class c. A list is not yet on the tape.
-abbrev pub TurnAs : ℕ → ℕ → ℕ → ℕ → ℕ → ℕ → ℕ → ℕ → ℕ → ℕ → ℕ → ℕ → List ℕ → List ℕ → Turn → Type 0
-TurnAs at i sort q j l c k st n p node t z (Done w) = Refuses at i q j c k st w
-TurnAs at i sort q j l c k st n p node t z (Atom j' n' p' st') =
-    TakenAs i j c k st j' st' × (sort ≡ a_list → ⊥) × (n' ≡ n + 1) × (p' ≡ p + l) × (length t ≡ tape_words → z ≡ entered t n q Class.text node (n + 1))
-TurnAs at i sort q j l c k st n p node t z (AList q' c' j' st') = TakenAs i j c k st j' st' × (sort ≡ a_list) × (q' ≡ q) × (c' ≡ c) × (z ≡ t)
-
 -- w is the answer of a block of kind k at `at` that is read so far to state st, with n nodes and p pool bytes counted, where `before` are left of its
 -- command and es, which end at e, follow; z is the tape after it, where t is the one before and `node` the block's number.
-pub record BlockAnswer (s : List ℕ) (at k node st n p : ℕ) (t z : List ℕ) (before es : Exprs) (e : ℕ) (w : Walked) : Type 0 where
+pub record BlockAnswer (s : List ℕ) (at k node st n p : ℕ) (t z : Tape) (before es : Exprs) (e : ℕ) (w : Walked) : Type 0 where
   pub content : Exprs
   pub rest : Exprs
   pub takes : Takes (Class.significance k) es content rest
   pub same : w ≡ run_answer at k st n p w.next (join before content)
-  pub tapes : w.number ≡ 0 → length t ≡ tape_words → z ≡ taped_all t n node (join before content)
+  pub tapes : w.number ≡ 0 → length t ≡ most_nodes → z ≡ taped_all t n node (join before content)
   pub goes_on : w.number ≡ 0 → RunStands s w.next rest e
 
 -- w is the answer from place i on, in the command's bracket, and in the content after it.
-pub record InCommand (s : List ℕ) (at k node i st n p : ℕ) (t z : List ℕ) (w : Walked) : Type 0 where
+pub record InCommand (s : List ℕ) (at k node i st n p : ℕ) (t z : Tape) (w : Walked) : Type 0 where
   pub answers : (ps : Exprs) (m : ℕ) (x : Bracket) (es : Exprs) (e : ℕ) → RunStands s i ps m → Has s m (closing x) → RunStands s (m + 1) es e
       → BlockAnswer s at k node st n p t z (in_command ps) es e w
 
-pub record InContent (s : List ℕ) (at k node i st n p : ℕ) (t z : List ℕ) (w : Walked) : Type 0 where
+pub record InContent (s : List ℕ) (at k node i st n p : ℕ) (t z : Tape) (w : Walked) : Type 0 where
   pub answers : (es : Exprs) (e : ℕ) → RunStands s i es e → BlockAnswer s at k node st n p t z none es e w
 
 -- A list led by a name of class c may stand in the content of a block of kind k: as a block of lesser significance, or as itself.
@@ -80,15 +56,15 @@ pub record Belongs (k c : ℕ) : Type 0 where
 
 -- The first of the expressions es, which end at e, is of class c and counts as an expression, with those that follow if it is a command, and w is its answer in an
 -- element of kind k; z is the tape t with it.
-pub record ChildAnswer (s : List ℕ) (k c n p node : ℕ) (t z : List ℕ) (es : Exprs) (e : ℕ) (w : Walked) : Type 0 where
+pub record ChildAnswer (s : List ℕ) (k c n p node : ℕ) (t z : Tape) (es : Exprs) (e : ℕ) (w : Walked) : Type 0 where
   pub one : Expr
   pub after : Exprs
   pub takes : (content rest : Exprs) → Takes (Class.significance k) after content rest → Takes (Class.significance k) es (and one content) rest
   pub of_class : expr_class one ≡ c
   pub same : w ≡ walked_to w.next (n + node_count one) (p + pool_bytes one) (judge k one)
-  pub tapes : w.number ≡ 0 → length t ≡ tape_words → z ≡ taped t n node one
+  pub tapes : w.number ≡ 0 → length t ≡ most_nodes → z ≡ taped t n node one
   pub goes_on : w.number ≡ 0 → RunStands s w.next after e
 
 -- w is the answer of a list at `at`, led by a name of class c that is followed by what starts at j, in the content of a block of kind k.
-pub record JudgesChild (s : List ℕ) (at j k c n p node : ℕ) (t z : List ℕ) (w : Walked) : Type 0 where
+pub record JudgesChild (s : List ℕ) (at j k c n p node : ℕ) (t z : Tape) (w : Walked) : Type 0 where
   pub counted : (es : Exprs) (e : ℕ) → NamedListFirst s at c j es e → ChildAnswer s k c n p node t z es e w

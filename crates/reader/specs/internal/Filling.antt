@@ -1,5 +1,5 @@
 -- What the fill of a run of expressions leaves in the lent memory. It serves the contracts of private functions.
-use Rattle.std.specs.Prelude.{ℕ, ◌+◌, ◌*◌, ◌≤◌, ◌<◌, ◌≡◌, cond, List, [], ◌∷◌, ◌++◌, eqb, length, get_or, drop, set}
+use Rattle.std.specs.Prelude.{ℕ, ◌+◌, ◌*◌, ◌≤◌, ◌<◌, ◌≡◌, cond, List, [], ◌∷◌, ◌++◌, eqb, length, drop, set}
 use Rattle.std.proofs.lemmas.List.Edits.{sets}
 use Rattle.elements.specs.rules.Class as Class
 use Rattle.atoms.specs.Atom.{atom_value}
@@ -9,7 +9,7 @@ use Rattle.document.specs.rules.Document.{Nodes, say_all}
 use Rattle.document.specs.reference.Meaning.{trees_of}
 use Rattle.document.specs.rules.Record.{record_length}
 use Rattle.document.specs.rules.Table.{offset}
-use Rattle.reader.specs.declared.fill.Entry.{Entry}
+use Rattle.reader.specs.declared.tape.Entry.{Entry}
 
 -- How far a fill has got: the numbers of the next node and the next pool byte, and the lent memory.
 pub record Filling : Type 0 where
@@ -47,19 +47,6 @@ with_row at kind parent end width height key type text a = record {
       ∷ []);
   places = set a.places a.node at;
   pool = sets a.pool a.bytes (key ++ (type ++ text));
-}
-
--- The entry of node n on the tape t.
-unfoldable pub entry_at : List ℕ → ℕ → Entry
-entry_at t n = record {
-  place = get_or t (8 * n) 0;
-  class = get_or t (8 * n + 1) 0;
-  parent = get_or t (8 * n + 2) 0;
-  end = get_or t (8 * n + 3) 0;
-  key = get_or t (8 * n + 4) 0;
-  typename = get_or t (8 * n + 5) 0;
-  width = get_or t (8 * n + 6) 0;
-  height = get_or t (8 * n + 7) 0;
 }
 
 -- The row of the next node of the text s from its entry: of a text, of an element, of either.

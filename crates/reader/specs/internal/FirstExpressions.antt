@@ -5,8 +5,7 @@ use Rattle.syntax.specs.rules.Expression.{Exprs, none, and, place}
 use Rattle.document.specs.reference.Meaning.{fault, judge_root}
 use Rattle.reader.specs.internal.RunStands.{RunStands}
 use Rattle.reader.specs.internal.Counts.{node_count, pool_bytes}
-use Rattle.reader.specs.internal.WalkAnswer.{walked_to}
-use Rattle.reader.specs.declared.walk.Walked.{Walked}
+use Rattle.reader.specs.internal.WalkAnswer.{Walked, walked_to}
 
 -- The place of the first of these expressions in a text of n bytes, and n where there is none.
 unfoldable pub first_place : ℕ → Exprs → ℕ

@@ -1,7 +1,9 @@
 -- The first groups of a read's answer in numbers. It serves the contracts of private functions.
-use Rattle.std.specs.Prelude.{ℕ, ◌/◌, min, cond, List, ltb, length}
+use Rattle.std.specs.Prelude.{ℕ, ◌/◌, min, cond, List, Result, Ok, Err, ltb, length}
 use Rattle.base.specs.rules.Limits.{most_bytes, most_nodes}
 use Rattle.base.specs.rules.Numbers as Number
+use Rattle.base.specs.declared.refusal.Refusal.{Refusal}
+use Rattle.base.specs.Refusals.{number}
 use Rattle.utf8.specs.reference.Sequence.{valid_up_to}
 use Rattle.syntax.specs.reference.Scan.{scan}
 use Rattle.lexer.specs.Token.{scan_number, scan_place}
@@ -21,3 +23,8 @@ group_place levels text =
 unfoldable pub room_number : ℕ → ℕ → ℕ → ℕ → ℕ → ℕ
 room_number words places bytes n p =
     cond (ltb (min most_nodes (min (words / record_length) places)) n) Number.nodes_short (cond (ltb bytes p) Number.pool_short Number.ok)
+
+-- The number of what the code answers for the room.
+abbrev pub room_told : Result (Unit {0}) Refusal → ℕ
+room_told (Ok _) = Number.ok
+room_told (Err r) = number r

@@ -10,43 +10,40 @@ use Rattle.document.specs.rules.Lead.{lead_class}
 use Rattle.document.specs.reference.Meaning.{Verdict, fine, fault, finish, run, judge_value, value_tree}
 use Rattle.reader.specs.internal.RunStands.{Has, RunStands}
 use Rattle.reader.specs.internal.Counts.{node_count_in, pool_bytes_in, value_size}
-use Rattle.reader.specs.internal.WalkAnswer.{walked_to, PoolBound, Bounded}
-use Rattle.reader.specs.internal.Tape.{entered, left, noted, taped_all}
-use Rattle.reader.specs.internal.TapeWord.{tape_words}
-use Rattle.reader.specs.declared.walk.Walked.{Walked}
-use Rattle.reader.specs.declared.walk.Turn.{Turn}
-use Rattle.reader.specs.declared.walk.Turn.TheVariants.{Done, Atom, List as AList}
+use Rattle.base.specs.rules.Limits.{most_nodes}
+use Rattle.reader.specs.internal.WalkAnswer.{Walked, walked_to, PoolBound}
+use Rattle.reader.specs.internal.Tape.{Tape, entered, left, noted, taped_all}
 
 -- What is to be answered of the expressions es, which end at e, in the element of kind k at `at` that is read so far to state st.
 -- So far n nodes and p pool bytes are counted.
 unfoldable pub run_answer : ℕ → ℕ → ℕ → ℕ → ℕ → ℕ → Exprs → Walked
 run_answer at k st n p e es = walked_to e (n + node_count_in es) (p + pool_bytes_in es) (finish at k (run at k (state_of k st) es))
 
--- z is the tape t after the expressions from place i on, in the element with number `node`, unless w refuses them. A tape has `tape_words` words.
-abbrev pub TapedFrom : List ℕ → ℕ → ℕ → ℕ → List ℕ → List ℕ → Walked → Type 0
-TapedFrom s i n node t z w = (es : Exprs) (e : ℕ) → RunStands s i es e → w.number ≡ 0 → length t ≡ tape_words → z ≡ taped_all t n node es
+-- z is the tape t after the expressions from place i on, in the element with number `node`, unless w refuses them. A tape has `most_nodes` entries.
+abbrev pub TapedFrom : List ℕ → ℕ → ℕ → ℕ → Tape → Tape → Walked → Type 0
+TapedFrom s i n node t z w = (es : Exprs) (e : ℕ) → RunStands s i es e → w.number ≡ 0 → length t ≡ most_nodes → z ≡ taped_all t n node es
 
 -- w is the answer from place i on, and z the tape.
-pub record AnswersFrom (s : List ℕ) (at k i st n p node : ℕ) (t z : List ℕ) (w : Walked) : Type 0 where
+pub record AnswersFrom (s : List ℕ) (at k i st n p node : ℕ) (t z : Tape) (w : Walked) : Type 0 where
   pub answers : (es : Exprs) (e : ℕ) → RunStands s i es e → w ≡ run_answer at k st n p e es
   pub tapes : TapedFrom s i n node t z w
 
 -- The same from an element's first state on.
-abbrev pub Finishes : List ℕ → ℕ → ℕ → ℕ → ℕ → ℕ → ℕ → List ℕ → List ℕ → Walked → Type 0
+abbrev pub Finishes : List ℕ → ℕ → ℕ → ℕ → ℕ → ℕ → ℕ → Tape → Tape → Walked → Type 0
 Finishes s at k i n p node t z w =
     ((es : Exprs) (e : ℕ) → RunStands s i es e → w ≡ walked_to e (n + node_count_in es) (p + pool_bytes_in es) (finish at k (run at k (start k) es)))
     × TapedFrom s i n node t z w
 
 -- Of the expressions es, which end at e, those from place j on are left, and the answer and the tape are those from there, in the state and with the
 -- counts and the tape there.
-pub record Remaining (s : List ℕ) (at k st n p node : ℕ) (t : List ℕ) (j st' n' p' : ℕ) (t' : List ℕ) (es : Exprs) (e : ℕ) : Type 0 where
+pub record Remaining (s : List ℕ) (at k st n p node : ℕ) (t : Tape) (j st' n' p' : ℕ) (t' : Tape) (es : Exprs) (e : ℕ) : Type 0 where
   pub others : Exprs
   pub stands : RunStands s j others e
   pub same : run_answer at k st' n' p' e others ≡ run_answer at k st n p e es
-  pub kept : length t ≡ tape_words → taped_all t' n' node others ≡ taped_all t n node es
+  pub kept : length t ≡ most_nodes → taped_all t' n' node others ≡ taped_all t n node es
 
 -- From place i on a walk has gone to place j.
-pub record Goes (s : List ℕ) (at k i st n p node : ℕ) (t : List ℕ) (j st' n' p' : ℕ) (t' : List ℕ) : Type 0 where
+pub record Goes (s : List ℕ) (at k i st n p node : ℕ) (t : Tape) (j st' n' p' : ℕ) (t' : Tape) : Type 0 where
   pub left : (es : Exprs) (e : ℕ) → RunStands s i es e → Remaining s at k st n p node t j st' n' p' t' es e
 
 -- Of the expressions es, which end at e, the first is a list at `place`, led by a name of class c that is followed by what starts at j.
@@ -72,32 +69,20 @@ pub record TakesList (s : List ℕ) (k i st place c j st' : ℕ) : Type 0 where
   pub opened : (es : Exprs) (e : ℕ) → RunStands s i es e → NamedListFirst s place c j es e
 
 -- A symbol or string is taken and passed.
-pub record TakesAtom (s : List ℕ) (at k i st n p node : ℕ) (t : List ℕ) (j st' n' p' : ℕ) (t' : List ℕ) : Type 0 where
+pub record TakesAtom (s : List ℕ) (at k i st n p node : ℕ) (t : Tape) (j st' n' p' : ℕ) (t' : Tape) : Type 0 where
   pub class : ℕ
   pub taken : StepTakes k st class st'
   pub goes : Goes s at k i st n p node t j st' n' p' t'
-
--- A list is not yet on the tape.
-abbrev pub TurnFrom : List ℕ → ℕ → ℕ → ℕ → ℕ → ℕ → ℕ → ℕ → List ℕ → List ℕ → Turn → Type 0
-TurnFrom s at k i st n p node t z (Done w) = AnswersFrom s at k i st n p node t z w
-TurnFrom s at k i st n p node t z (Atom j n' p' st') = TakesAtom s at k i st n p node t j st' n' p' z
-TurnFrom s at k i st n p node t z (AList place c j st') = TakesList s k i st place c j st' × (z ≡ t)
-
--- A turn goes forward, within the text, and counts no more than it passes, whatever the text holds.
-abbrev pub TurnWithin : List ℕ → ℕ → Turn → Type 0
-TurnWithin s i (Done w) = Bounded s i w
-TurnWithin s i (Atom j n p st) = (i < j) × (j ≤ length s) × (n ≤ j) × PoolBound p j
-TurnWithin s i (AList place c j st) = (i < j) × (j ≤ length s) × (place ≤ length s)
 
 -- What is to be answered of a list at `at` led by a name of class c, in an element of kind k, where es follow the name.
 unfoldable pub verdict_of : ℕ → ℕ → ℕ → Exprs → Verdict
 verdict_of k at c es = cond (is_element c) (finish at c (run at c (start c) es)) (judge_value k at (value_tree c es))
 
 -- w is the answer of a list at `at`, where j is the place after the name that leads it, and z the tape with the element or value that it is.
-pub record JudgesList (s : List ℕ) (at j k c n p node : ℕ) (t z : List ℕ) (w : Walked) : Type 0 where
+pub record JudgesList (s : List ℕ) (at j k c n p node : ℕ) (t z : Tape) (w : Walked) : Type 0 where
   pub judged : (es : Exprs) (e : ℕ) → RunStands s j es e
       → w ≡ walked_to e (n + cond (is_element c) (suc (node_count_in es)) 0) (p + cond (is_element c) (pool_bytes_in es) (value_size c es)) (verdict_of k at c es)
-  pub tapes : (es : Exprs) (e : ℕ) → RunStands s j es e → w.number ≡ 0 → length t ≡ tape_words
+  pub tapes : (es : Exprs) (e : ℕ) → RunStands s j es e → w.number ≡ 0 → length t ≡ most_nodes
       → z ≡ cond (is_element c) (left (taped_all (entered t n at c node 0) (n + 1) n es) n (n + 1 + node_count_in es)) (noted t node c es)
 
 -- The answer of a list, and then the place after its closing bracket, in a text of m bytes.

@@ -1,11 +1,32 @@
 -- What a walk over a run of expressions answers. It serves the contracts of private functions.
-use Rattle.std.specs.Prelude.{ℕ, ◌≤◌, ◌<◌, ◌≡◌, List, length}
+use Rattle.std.specs.Prelude.{ℕ, ◌≤◌, ◌<◌, ◌≡◌, List, Result, Ok, Err, length}
 use Rattle.base.specs.rules.Limits.{most_bytes}
 use Rattle.document.specs.reference.Meaning.{Verdict, fine, fault}
 use Rattle.document.specs.reference.Outcome.{Reading, refused, read}
-use Rattle.reader.specs.declared.walk.Walked.{Walked}
+use Rattle.base.specs.Refusals.{number}
+use Rattle.reader.specs.declared.walk.Reached.{Reached}
+use Rattle.reader.specs.declared.walk.Refused.{Refused}
+use Rattle.reader.specs.declared.root.Counts.{Counts}
 use Rattle.reader.specs.internal.TapeWord.{most_word}
 use Rattle.reader.specs.internal.Counts.{node_count, pool_bytes}
+
+-- An answer in numbers: 0, the place where the run ends and the counts so far, or the number and the place of a fault.
+pub record Walked : Type 0 where
+  pub number : ℕ
+  pub place : ℕ
+  pub next : ℕ
+  pub nodes : ℕ
+  pub pool : ℕ
+
+-- The numbers of what a walk answers.
+abbrev pub told : Result Reached Refused → Walked
+told (Ok r) = record { number = 0; place = 0; next = r.place; nodes = r.nodes; pool = r.pool }
+told (Err f) = record { number = number f.refusal; place = f.place; next = 0; nodes = 0; pool = 0 }
+
+-- The numbers of what judging a whole text answers.
+abbrev pub judged : Result Counts Refused → Walked
+judged (Ok c) = record { number = 0; place = 0; next = 0; nodes = c.nodes; pool = c.pool }
+judged (Err f) = record { number = number f.refusal; place = f.place; next = 0; nodes = 0; pool = 0 }
 
 -- With no fault: the place where the run ends, and the counts of nodes and pool bytes so far. With a fault: its number and place.
 unfoldable pub walked_to : ℕ → ℕ → ℕ → Verdict → Walked

@@ -29,9 +29,10 @@ use Rattle.reader.specs.internal.WalkAnswer.{walked_to, Bounded, PoolBound}
 use Rattle.reader.specs.internal.Tape.{entered, left, taped, taped_all}
 use Rattle.document.specs.rules.Takes.{Takes, at_end, at_command, expression, a_block}
 use Rattle.reader.specs.internal.Walk.{run_answer, NamedListFirst, JudgesList, verdict_of, past_bracket, StepTakes}
-use Rattle.reader.specs.internal.BlockWalk.{command_class, loose_class, leads_command, ends_at, Refuses, by_step, stuck, TakenAs}
+use Rattle.reader.specs.internal.BlockWalk.{command_class, loose_class, leads_command, ends_at}
+use Rattle.reader.specs.internal.Walks.{Refuses, by_step, stuck, TakenAs}
 use Rattle.reader.specs.internal.BlockWalk.{BlockAnswer, InCommand, InContent, Belongs, ChildAnswer, JudgesChild}
-use Rattle.reader.specs.declared.walk.Walked.{Walked}
+use Rattle.reader.specs.internal.WalkAnswer.{Walked}
 use Rattle.reader.proofs.lemmas.walk.SeenExpressions.{SeenAs, saw_end, saw_symbol, saw_string, saw_list, look_stands, seen_bounds}
 use Rattle.reader.proofs.lemmas.walk.OneTurn.{Looked, none_taken, run_bad, run_fine, run_fault, seen_forward, open_list, seen_within}
 use Rattle.reader.proofs.lemmas.tape.AfterWalk.{taped_on, element_tape_lem, taped_element}
@@ -131,7 +132,7 @@ list_answer {k = k} {n = n} {p = p} {w = w} bounded judged past-it h o =
 
 -- The list is on the tape.
 pub list_tape : {s t z : List ℕ} {q j k c n p node : ℕ} {w r : Walked} → JudgesList s q j k c n p node t z w → r ≡ past_bracket (length s) w
-    → {es : Exprs} {m : ℕ} (o : NamedListFirst s q c j es m) → r.number ≡ 0 → length t ≡ 32768 → z ≡ taped t n node (listed o)
+    → {es : Exprs} {m : ℕ} (o : NamedListFirst s q c j es m) → r.number ≡ 0 → length t ≡ 4096 → z ≡ taped t n node (listed o)
 unfolding taped
 list_tape {s = s} {w = w} {r = r} judged past-it o y full =
     rw o.of_class (judged.tapes o.rest o.end o.follows (past_none (length s) w r past-it y).0 full)
@@ -143,7 +144,7 @@ content_passed : {s t t' z : List ℕ} {at k node st n p st' : ℕ} {es after : 
     → StepTakes k st (expr_class one) st'
     → judge k one ≡ fine
     → ((content rest : Exprs) → Takes (Class.significance k) after content rest → Takes (Class.significance k) es (and one content) rest)
-    → (length t ≡ 32768 → t' ≡ taped t n node one) → BlockAnswer s at k node st' (n + node_count one) (p + pool_bytes one) t' z none after e w
+    → (length t ≡ 4096 → t' ≡ taped t n node one) → BlockAnswer s at k node st' (n + node_count one) (p + pool_bytes one) t' z none after e w
     → BlockAnswer s at k node st n p t z none es e w
 unfolding join
 content_passed {t = t} {t' = t'} {z = z} {at = at} {k = k} {node = node} {st = st} {n = n} {p = p} {st' = st'} {w = w} one u f takes stored a =
@@ -175,7 +176,7 @@ content_stopped {at = at} {k = k} {st = st} st' n p after e {w = w} one f q u h 
 -- In a command's bracket it is a parameter.
 command_passed : {s t t' z : List ℕ} {at k node st n p st' : ℕ} (ps : Exprs) {es : Exprs} {e : ℕ} {w : Walked} (one : Expr)
     → is_block_parameter (expr_class one) ≡ true → StepTakes k st (expr_class one) st' → judge k one ≡ fine
-    → (length t ≡ 32768 → t' ≡ taped t n node one)
+    → (length t ≡ 4096 → t' ≡ taped t n node one)
     → BlockAnswer s at k node st' (n + node_count one) (p + pool_bytes one) t' z (in_command ps) es e w
     → BlockAnswer s at k node st n p t z (in_command (and one ps)) es e w
 unfolding join in_command
@@ -400,7 +401,7 @@ module _ (s : List ℕ) (i : ℕ) {sort q c j l : ℕ} (looked : Looked s i sort
 
   pub content_atom : {at k node st n p j' st' n' p' : ℕ} {t t' : List ℕ} → TakenAs i j (loose_class c) k st j' st' → (sort ≡ 3 → ⊥) → n' ≡ n + 1
       → p' ≡ p + l
-      → (length t ≡ 32768 → t' ≡ entered t n q Class.text node (n + 1))
+      → (length t ≡ 4096 → t' ≡ entered t n q Class.text node (n + 1))
       → (z : List ℕ) (w : Walked) → InContent s at k node j' st' n' p' t' z w → InContent s at k node i st n p t z w
   unfolding loose_class is_block_parameter
   content_atom {k = k} {node = node} {n = n} {st' = st'} {t = t} {t' = t'} h a nodes pool stored z w b =
@@ -508,8 +509,8 @@ block_same q c k n p m lead es e h g = rw (e, h) (g ∙ rw (start_state c, add-o
 -- And it is on the tape: its node is entered before the block is walked, and left after it.
 pub block_tape : {s t₁ t₂ z : List ℕ} {j : ℕ} {w : Walked} (t : List ℕ) (q c n node p m : ℕ) (lead : Expr) (es : Exprs) → lead_class lead ≡ c
     → Class.is_element c ≡ true
-    → Bounded s j w → 0 < j → w ≡ run_answer q c 0 (n + 1) p m es → (length t ≡ 32768 → t₁ ≡ entered t n q c node 0)
-    → (length t₁ ≡ 32768 → t₂ ≡ taped_all t₁ (n + 1) n es) → (length t₂ ≡ 32768 → z ≡ left t₂ n w.nodes) → w.number ≡ 0 → length t ≡ 32768
+    → Bounded s j w → 0 < j → w ≡ run_answer q c 0 (n + 1) p m es → (length t ≡ 4096 → t₁ ≡ entered t n q c node 0)
+    → (length t₁ ≡ 4096 → t₂ ≡ taped_all t₁ (n + 1) n es) → (length t₂ ≡ 4096 → z ≡ left t₂ n w.nodes) → w.number ≡ 0 → length t ≡ 4096
     → z ≡ taped t n node (list q (and lead es))
 unfolding run_answer
 block_tape {t₁ = t₁} {t₂ = t₂} {z = z} {w = w} t q c n node p m lead es e h bounded some g before walked after y full =
@@ -519,8 +520,8 @@ block_tape {t₁ = t₁} {t₂ = t₂} {z = z} {w = w} t q c n node p m lead es 
 
 -- A command's block is the child.
 pub command_child : {s t t₁ t₂ z : List ℕ} {q j k c n p node : ℕ} {w : Walked} → leads_command c ≡ true → Belongs k c → 0 < j → Bounded s j w
-    → InCommand s q c n j 0 (n + 1) p t₁ t₂ w → (length t ≡ 32768 → t₁ ≡ entered t n q c node 0)
-    → (w.number ≡ 0 → length t₂ ≡ 32768 → z ≡ left t₂ n w.nodes) → JudgesChild s q j k c n p node t z w
+    → InCommand s q c n j 0 (n + 1) p t₁ t₂ w → (length t ≡ 4096 → t₁ ≡ entered t n q c node 0)
+    → (w.number ≡ 0 → length t₂ ≡ 4096 → z ≡ left t₂ n w.nodes) → JudgesChild s q j k c n p node t z w
 unfolding leads_command is_command expr_class list_class block
 command_child {t = t} {q = q} {k = k} {c = c} {n = n} {p = p} {node = node} {w = w} h b some bounded a before after =
     record {

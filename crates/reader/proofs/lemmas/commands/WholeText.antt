@@ -24,7 +24,7 @@ use Rattle.reader.specs.internal.Tape.{entered, left, taped}
 use Rattle.document.specs.rules.Takes.{Takes}
 use Rattle.reader.specs.internal.Walk.{NamedListFirst}
 use Rattle.reader.specs.internal.BlockWalk.{InCommand}
-use Rattle.reader.specs.declared.walk.Walked.{Walked}
+use Rattle.reader.specs.internal.WalkAnswer.{Walked}
 use Rattle.reader.proofs.lemmas.walk.SeenExpressions.{SeenAs, saw_end, saw_symbol, saw_string, saw_list, look_stands}
 use Rattle.reader.proofs.lemmas.walk.OneTurn.{Looked, seen_forward, open_list}
 use Rattle.document.proofs.BlockContents.{takes_contents}
@@ -35,7 +35,7 @@ use Rattle.reader.proofs.lemmas.commands.BlockLoops.{ChildVerdict, passed, stopp
 abbrev pub JudgesImperative : List ℕ → List ℕ → List ℕ → Walked → Type 0
 JudgesImperative s t z w =
     ((es : Exprs) → RunStands s 0 es (length s) → depth_all es ≤ 59 → w ≡ read_walked (one_expression imperative (length s) es))
-    × ((e : Expr) (es : Exprs) → RunStands s 0 (and e es) (length s) → depth_all (and e es) ≤ 59 → w.number ≡ 0 → length t ≡ 32768
+    × ((e : Expr) (es : Exprs) → RunStands s 0 (and e es) (length s) → depth_all (and e es) ≤ 59 → w.number ≡ 0 → length t ≡ 4096
     → z ≡ taped t 0 4294967295 (regroup e es))
 
 -- What a block takes is the content that regrouping gives the document.
@@ -90,8 +90,8 @@ module _ {s t₁ t₂ : List ℕ} {q j e : ℕ} {es : Exprs} {w : Walked} (o : N
       rw (regrouped (listed o) a.takes) (block_same q 1 0 0 0 w.next o.lead _ o.of_class refl a.same)
 
   -- Its node is entered before the block is walked, and left after it.
-  document_tape : (t z : List ℕ) → Bounded s j w → 0 < j → (length t ≡ 32768 → t₁ ≡ entered t 0 q 1 4294967295 0)
-      → (w.number ≡ 0 → length t₂ ≡ 32768 → z ≡ left t₂ 0 w.nodes) → w.number ≡ 0 → length t ≡ 32768 → z ≡ taped t 0 4294967295 nested
+  document_tape : (t z : List ℕ) → Bounded s j w → 0 < j → (length t ≡ 4096 → t₁ ≡ entered t 0 q 1 4294967295 0)
+      → (w.number ≡ 0 → length t₂ ≡ 4096 → z ≡ left t₂ 0 w.nodes) → w.number ≡ 0 → length t ≡ 4096 → z ≡ taped t 0 4294967295 nested
   unfolding block Class.is_element Class.is_kind Class.significance
   document_tape t z bounded some before after y full =
       let a = answer.answers o.rest o.end o.bracket o.others e o.follows o.closed o.goes_on in
@@ -157,8 +157,8 @@ module _ (s t : List ℕ) {sort q c j l : ℕ} (looked : Looked s 0 sort q c j l
         λ e es u d x full. absurd (y x),
       )
 
-      pub document_fine : {z : List ℕ} → w.number ≡ 0 → (length t ≡ 32768 → t₁ ≡ entered t 0 q 1 4294967295 0)
-          → (w.number ≡ 0 → length t₂ ≡ 32768 → z ≡ left t₂ 0 w.nodes)
+      pub document_fine : {z : List ℕ} → w.number ≡ 0 → (length t ≡ 4096 → t₁ ≡ entered t 0 q 1 4294967295 0)
+          → (w.number ≡ 0 → length t₂ ≡ 4096 → z ≡ left t₂ 0 w.nodes)
           → JudgesImperative s t z (record { number = 0; place = 0; next = 0; nodes = w.nodes; pool = w.pool })
       document_fine {z} y before after = (
         λ es u d. let o = rw h at (opened u) in document_passed o answer (length s) (by_outcome o answer bounded forward) y d,

@@ -15,7 +15,7 @@ use Rattle.atoms.specs.Atom.{atom_value}
 use Rattle.base.specs.rules.Limits.{missing}
 use Rattle.document.specs.rules.Record.{record_length}
 use Rattle.document.specs.rules.Table.{offset}
-use Rattle.reader.specs.declared.fill.Entry.{Entry}
+use Rattle.reader.specs.declared.tape.Entry.{Entry}
 use Rattle.reader.specs.internal.Filling.{Filling, held_at, with_row, entry_at, text_row, element_row, next_row, Rowed}
 use Rattle.reader.proofs.lemmas.fill.Stores.{sets_on, offset_is}
 use Rattle.reader.proofs.lemmas.walk.QuotedStrings.{atom_within}

@@ -47,7 +47,7 @@ root_whole e a z n b c w = (
 )
 
 pub filled_whole : (s T : List ℕ) (k : ℕ) (a z : Filling) → a.node ≡ 0 → a.bytes ≡ 0 → k ≤ 4096 → z ≡ rows_of s T k a → (e : Expr) (t : List ℕ)
-    → Located s e → judge_root e ≡ fine → length t ≡ 32768 → T ≡ taped t 0 missing e → k ≡ node_count e → WroteDocument e a z
+    → Located s e → judge_root e ≡ fine → length t ≡ 4096 → T ≡ taped t 0 missing e → k ≡ node_count e → WroteDocument e a z
 filled_whole s T k a z n b few w e t o f l is c =
     let r = root_document e f in
     let v : WroteRun missing (and e none) a (rows_of s T (node_count e) a) =

@@ -21,7 +21,7 @@ use Rattle.reader.specs.internal.FirstExpressions.{first_place, second_place, Fi
 use Rattle.reader.specs.internal.Counts.{node_count, node_count_in, pool_bytes, pool_bytes_in}
 use Rattle.reader.specs.internal.WalkAnswer.{walked_to, Bounded, read_walked}
 use Rattle.reader.specs.internal.Tape.{entered, left, taped}
-use Rattle.reader.specs.declared.walk.Walked.{Walked}
+use Rattle.reader.specs.internal.WalkAnswer.{Walked}
 use Rattle.reader.proofs.lemmas.walk.SeenExpressions.{seen_bounds, SeenAs, saw_end, saw_symbol, saw_string, saw_list, look_stands, stands_within}
 use Rattle.reader.proofs.lemmas.walk.OneTurn.{Looked}
 use Rattle.reader.proofs.lemmas.tape.AfterWalk.{element_tape_lem, taped_element}
@@ -367,9 +367,9 @@ module _ {s : List ℕ} {sort q c j l : ℕ} (looked : Looked s 0 sort q c j l) 
             λ z. rw (e.1 z) o.goes_on,
           )
 
-      pub first_tape : (t : List ℕ) {z : List ℕ} → (length t ≡ 32768 → t₁ ≡ entered t 0 q 1 4294967295 0)
-          → (w.number ≡ 0 → length t₂ ≡ 32768 → z ≡ left t₂ 0 w.nodes)
-          → (x : Expr) (es : Exprs) → RunStands s 0 (and x es) (length s) → r.number ≡ 0 → length t ≡ 32768 → z ≡ taped t 0 4294967295 x
+      pub first_tape : (t : List ℕ) {z : List ℕ} → (length t ≡ 4096 → t₁ ≡ entered t 0 q 1 4294967295 0)
+          → (w.number ≡ 0 → length t₂ ≡ 4096 → z ≡ left t₂ 0 w.nodes)
+          → (x : Expr) (es : Exprs) → RunStands s 0 (and x es) (length s) → r.number ≡ 0 → length t ≡ 4096 → z ≡ taped t 0 4294967295 x
       unfolding Class.is_element Class.is_kind
       first_tape t {z} before after x es u y full =
           let o = looked_document looked u some d in

@@ -24,7 +24,7 @@ use Rattle.document.specs.reference.Imperative.{regroup}
 use Rattle.document.specs.rules.Command.{as_not_allowed}
 use Rattle.document.specs.reference.Outcome.{Reading, refused, read, is_too_deep, judged, one_expression}
 use Rattle.document.proofs.RegroupedAll.{Laws, regrouped_all}
-use Rattle.reader.specs.declared.walk.Walked.{Walked}
+use Rattle.reader.specs.internal.WalkAnswer.{Walked}
 use Rattle.reader.specs.internal.RunStands.{RunStands, ended, after_blank, after_line_end, a_symbol, a_string, a_list}
 use Rattle.reader.specs.internal.WalkAnswer.{read_walked}
 use Rattle.reader.specs.internal.FirstGroups.{group_place}

@@ -31,7 +31,7 @@ use Rattle.document.specs.reference.Outcome.{Reading, refused, read, is_too_deep
 use Rattle.document.specs.rules.Memory.{Memory, refusal}
 use Rattle.document.specs.rules.Account.{no_syntax, NestedForm, as_it_stands}
 use Rattle.document.proofs.RefusalNumbers.{refused_number}
-use Rattle.reader.specs.declared.walk.Walked.{Walked}
+use Rattle.reader.specs.internal.WalkAnswer.{Walked}
 use Rattle.reader.specs.internal.WalkAnswer.{read_walked}
 use Rattle.reader.specs.internal.RunStands.{RunStands}
 use Rattle.reader.specs.internal.FirstGroups.{group_number, group_place}

@@ -22,7 +22,7 @@ use Rattle.document.specs.rules.Memory.{Memory, answer_at, refusal, no_room, ove
 use Rattle.document.proofs.PlaceCounts.{root_places}
 use Rattle.document.proofs.Records.{table_length}
 use Rattle.reader.specs.declared.Answer.{Answer}
-use Rattle.reader.specs.declared.walk.Walked.{Walked}
+use Rattle.reader.specs.internal.WalkAnswer.{Walked}
 use Rattle.reader.specs.internal.WalkAnswer.{read_walked}
 use Rattle.reader.specs.internal.JudgedText.{JudgesText, TapeOfText}
 use Rattle.reader.specs.internal.FirstGroups.{group_number, group_place, room_number}
@@ -122,10 +122,10 @@ module _ (s : Spelling) (text : List ℕ) (n p : ℕ) (group : (n ≡ group_numb
 
 -- The tape that a read lends.
 abbrev pub blank_tape : List ℕ
-blank_tape = replicate 32768 0
+blank_tape = replicate 4096 0
 
-long : length blank_tape ≡ 32768
-long = length-replicate {A = ℕ} 32768 0
+long : length blank_tape ≡ 4096
+long = length-replicate {A = ℕ} 4096 0
 
 -- What the fill of this many nodes from a tape ensures.
 abbrev Filled : Memory → Memory → Expr → Type 0
@@ -140,7 +140,7 @@ filled_written m exit e (a, b, c) = rw (← a, ← b, ← c)
 
 abbrev pub Fills : List ℕ → List ℕ → ℕ → Memory → Memory → Type 0
 Fills text tape n m exit =
-    (e : Expr) (t : List ℕ) → Located text e → judge_root e ≡ fine → length t ≡ 32768 → tape ≡ taped t 0 4294967295 e → n ≡ node_count e
+    (e : Expr) (t : List ℕ) → Located text e → judge_root e ≡ fine → length t ≡ 4096 → tape ≡ taped t 0 4294967295 e → n ≡ node_count e
     → Filled m exit e
 
 -- ---- the ways through a read

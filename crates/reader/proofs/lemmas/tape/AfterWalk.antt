@@ -6,97 +6,80 @@ use mathlib.Core.List.{List, [], ◌∷◌}
 use native.Mathlib.Omega.{arith}
 use native.Mathlib.Numerals.{add-one}
 use lib.Dec.{eqb}
-use lib.ListN.{length, set, length-set}
-use lib.Seq.{sets, length-sets, set_out}
+use lib.ListN.{length, length-set}
 use Rattle.base.proofs.Booleans.{cond_case}
 use Rattle.elements.specs.rules.Class as Class
 use Rattle.syntax.specs.rules.Expression.{Expr, symbol, quoted, list, Exprs, none, and}
-use Rattle.base.specs.rules.Limits.{missing}
-use Rattle.document.specs.rules.Document.{width_or, height_or}
 use Rattle.document.specs.rules.Lead.{lead_class}
-use Rattle.document.specs.reference.Meaning.{size_tree}
 use Rattle.reader.specs.internal.Counts.{node_count, node_count_in}
-use Rattle.reader.specs.internal.Tape.{entered, left, value_place, noted, taped, taped_list, taped_all}
+use Rattle.reader.specs.internal.Tape.{Tape, entered, left, key_noted, type_noted, size_noted, noted, taped, taped_list, taped_all}
 
--- Past the end nothing is stored.
-sets_out : (l : List ℕ) (i : ℕ) (vs : List ℕ) → length l ≤ i → sets l i vs ≡ l
-sets_out l i [] h = refl
-sets_out l i (v ∷ vs) h = rw (set_out l i v) (sets_out l (suc i) vs (omega arith))
-
--- Two words that are stored one after the other.
-pub two_stores : (l m z : List ℕ) (i j k a b : ℕ) → m ≡ set l j a → z ≡ set m k b → j ≡ i → k ≡ i + 1 → z ≡ sets l i (a ∷ b ∷ [])
-two_stores l m z i j k a b p q e f = q ∙ rw (p, e, f, add-one i)
-
-pub entered_out : (t : List ℕ) (n at c p e : ℕ) → length t ≤ 8 * n → entered t n at c p e ≡ t
+pub length_entered : (t : Tape) (n at c p e : ℕ) → length (entered t n at c p e) ≡ length t
 unfolding entered
-entered_out t n at c p e h = sets_out t (8 * n) (at ∷ c ∷ p ∷ e ∷ 0 ∷ 0 ∷ missing ∷ missing ∷ []) h
+length_entered t n at c p e = length-set t n _
 
-pub length_entered : (t : List ℕ) (n at c p e : ℕ) → length (entered t n at c p e) ≡ length t
-unfolding entered
-length_entered t n at c p e = length-sets t (8 * n) (at ∷ c ∷ p ∷ e ∷ 0 ∷ 0 ∷ missing ∷ missing ∷ [])
-
-length_left : (t : List ℕ) (n e : ℕ) → length (left t n e) ≡ length t
+length_left : (t : Tape) (n e : ℕ) → length (left t n e) ≡ length t
 unfolding left
-length_left t n e = length-set t (8 * n + 3) e
+length_left t n e = length-set t n _
 
-length_noted : (t : List ℕ) (n c : ℕ) (es : Exprs) → length (noted t n c es) ≡ length t
-unfolding noted
+length_noted : (t : Tape) (n c : ℕ) (es : Exprs) → length (noted t n c es) ≡ length t
+unfolding noted key_noted type_noted size_noted
 length_noted t n c es =
-    cond_case (λ (z : List ℕ). length z ≡ length t) (eqb c Class.size)
-    (λ e. length-sets t (8 * n + 6) (width_or 0 (size_tree es) ∷ height_or 0 (size_tree es) ∷ []))
-    (λ e. length-set t (8 * n + cond (eqb c Class.type) 5 4) (value_place es))
+    cond_case (λ (z : Tape). length z ≡ length t) (eqb c Class.size)
+    (λ e. length-set t n _)
+    (λ e. cond_case (λ (z : Tape). length z ≡ length t) (eqb c Class.type) (λ e. length-set t n _) (λ e. length-set t n _))
 
 mutual
   unfolding taped
 
-  pub length_taped : (t : List ℕ) (n parent : ℕ) (e : Expr) → length (taped t n parent e) ≡ length t
+  pub length_taped : (t : Tape) (n parent : ℕ) (e : Expr) → length (taped t n parent e) ≡ length t
   length_taped t n parent (symbol at s) = length_entered t n at Class.text parent (n + 1)
   length_taped t n parent (quoted at s) = length_entered t n at Class.text parent (n + 1)
   length_taped t n parent (list at es) = length_list t n parent at es
 
-  length_list : (t : List ℕ) (n parent at : ℕ) (es : Exprs) → length (taped_list t n parent at es) ≡ length t
+  length_list : (t : Tape) (n parent at : ℕ) (es : Exprs) → length (taped_list t n parent at es) ≡ length t
   length_list t n parent at none = refl
   length_list t n parent at (and lead es) =
-      cond_case (λ (z : List ℕ). length z ≡ length t) (Class.is_element (lead_class lead))
+      cond_case (λ (z : Tape). length z ≡ length t) (Class.is_element (lead_class lead))
       (λ h. length_left (taped_all (entered t n at (lead_class lead) parent 0) (n + 1) n es) n (n + 1 + node_count_in es)
       ∙ length_all (entered t n at (lead_class lead) parent 0) (n + 1) n es ∙ length_entered t n at (lead_class lead) parent 0)
       (λ h. length_noted t parent (lead_class lead) es)
 
-  pub length_all : (t : List ℕ) (n parent : ℕ) (es : Exprs) → length (taped_all t n parent es) ≡ length t
+  pub length_all : (t : Tape) (n parent : ℕ) (es : Exprs) → length (taped_all t n parent es) ≡ length t
   length_all t n parent none = refl
   length_all t n parent (and e es) = length_all (taped t n parent e) (n + node_count e) parent es ∙ length_taped t n parent e
 
 -- What has the same words after it is as long.
-pub kept_full : (t t' : List ℕ) (n n' node : ℕ) (es others : Exprs) → length t ≡ 32768 → taped_all t' n' node others ≡ taped_all t n node es
-    → length t' ≡ 32768
+pub kept_full : (t t' : Tape) (n n' node : ℕ) (es others : Exprs) → length t ≡ 4096 → taped_all t' n' node others ≡ taped_all t n node es
+    → length t' ≡ 4096
 kept_full t t' n n' node es others full h = sym (length_all t' n' node others) ∙ ap length h ∙ length_all t n node es ∙ full
 
-pub taped_full : (t t' : List ℕ) (n node : ℕ) (e : Expr) → length t ≡ 32768 → t' ≡ taped t n node e → length t' ≡ 32768
+pub taped_full : (t t' : Tape) (n node : ℕ) (e : Expr) → length t ≡ 4096 → t' ≡ taped t n node e → length t' ≡ 4096
 taped_full t t' n node e full h = ap length h ∙ length_taped t n node e ∙ full
 
 -- The tape after a run, by its first expression.
-pub taped_first : (t t' : List ℕ) (n node : ℕ) (e : Expr) (es : Exprs) → t' ≡ taped t n node e
+pub taped_first : (t t' : Tape) (n node : ℕ) (e : Expr) (es : Exprs) → t' ≡ taped t n node e
     → taped_all t' (n + node_count e) node es ≡ taped_all t n node (and e es)
 unfolding taped
 taped_first t t' n node e es h = rw h
 
-pub taped_on : (t t' z : List ℕ) (n node : ℕ) (e : Expr) (es : Exprs) → (length t ≡ 32768 → t' ≡ taped t n node e)
-    → (length t' ≡ 32768 → z ≡ taped_all t' (n + node_count e) node es) → length t ≡ 32768 → z ≡ taped_all t n node (and e es)
+pub taped_on : (t t' z : Tape) (n node : ℕ) (e : Expr) (es : Exprs) → (length t ≡ 4096 → t' ≡ taped t n node e)
+    → (length t' ≡ 4096 → z ≡ taped_all t' (n + node_count e) node es) → length t ≡ 4096 → z ≡ taped_all t n node (and e es)
 taped_on t t' z n node e es h g full = g (taped_full t t' n node e full (h full)) ∙ taped_first t t' n node e es (h full)
 
 -- An element is entered, its content is walked, and it is left.
-pub element_tape_lem : (t t₁ t₂ z : List ℕ) (n node at c m : ℕ) (es : Exprs) → (length t ≡ 32768 → t₁ ≡ entered t n at c node 0)
-    → (length t₁ ≡ 32768 → t₂ ≡ taped_all t₁ (n + 1) n es) → (length t₂ ≡ 32768 → z ≡ left t₂ n m) → m ≡ n + 1 + node_count_in es → length t ≡ 32768
+pub element_tape_lem : (t t₁ t₂ z : Tape) (n node at c m : ℕ) (es : Exprs) → (length t ≡ 4096 → t₁ ≡ entered t n at c node 0)
+    → (length t₁ ≡ 4096 → t₂ ≡ taped_all t₁ (n + 1) n es) → (length t₂ ≡ 4096 → z ≡ left t₂ n m) → m ≡ n + 1 + node_count_in es → length t ≡ 4096
     → z ≡ left (taped_all (entered t n at c node 0) (n + 1) n es) n (n + 1 + node_count_in es)
 element_tape_lem t t₁ t₂ z n node at c m es f g h e full =
     let a : t₁ ≡ entered t n at c node 0 = f full in
-    let long : length t₁ ≡ 32768 = ap length a ∙ length_entered t n at c node 0 ∙ full in
+    let long : length t₁ ≡ 4096 = ap length a ∙ length_entered t n at c node 0 ∙ full in
     let b : t₂ ≡ taped_all t₁ (n + 1) n es = g long in
-    let long' : length t₂ ≡ 32768 = ap length b ∙ length_all t₁ (n + 1) n es ∙ long in
+    let long' : length t₂ ≡ 4096 = ap length b ∙ length_all t₁ (n + 1) n es ∙ long in
     h long' ∙ rw (e, b, a)
 
 -- That is the tape after the list which the element is.
-pub taped_element : (t : List ℕ) (n node at c : ℕ) (lead : Expr) (es : Exprs) → lead_class lead ≡ c → Class.is_element c ≡ true
+pub taped_element : (t : Tape) (n node at c : ℕ) (lead : Expr) (es : Exprs) → lead_class lead ≡ c → Class.is_element c ≡ true
     → taped t n node (list at (and lead es)) ≡ left (taped_all (entered t n at c node 0) (n + 1) n es) n (n + 1 + node_count_in es)
 unfolding taped
 taped_element t n node at c lead es e h = rw (e, h)

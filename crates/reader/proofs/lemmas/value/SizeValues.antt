@@ -22,7 +22,7 @@ use Rattle.reader.specs.internal.RunStands.{RunStands}
 use Rattle.reader.specs.internal.WalkAnswer.{walked_to, Bounded}
 use Rattle.reader.specs.internal.Tape.{noted}
 use Rattle.reader.specs.internal.ParameterValue.{BeginsWithNumber, Unfit, ReadsNumber, Notes}
-use Rattle.reader.specs.declared.walk.Walked.{Walked}
+use Rattle.reader.specs.internal.WalkAnswer.{Walked}
 use Rattle.reader.specs.declared.value.Number.{Number}
 use Rattle.reader.proofs.lemmas.walk.SeenExpressions.{SeenAs, saw_end, saw_symbol, saw_string, saw_list, look_stands, seen_bounds}
 use Rattle.reader.proofs.lemmas.walk.OneTurn.{Looked, seen_within}
@@ -137,11 +137,11 @@ unfolding keeps_rules size_tree is_size
 unfit_third k e e' e'' es = refl
 
 -- The two numbers are noted.
-size_notes : (t m z : List ℕ) (node a b : ℕ) (e e' : Expr) → number_of e ≡ a → number_of e' ≡ b → length t ≡ 32768
-    → (length t ≡ 32768 → m ≡ set t (8 * node + 6) a) → (length m ≡ 32768 → z ≡ set m (8 * node + 7) b) → z ≡ noted t node 29 (and e (and e' none))
+size_notes : (t m z : List ℕ) (node a b : ℕ) (e e' : Expr) → number_of e ≡ a → number_of e' ≡ b → length t ≡ 4096
+    → (length t ≡ 4096 → m ≡ set t (8 * node + 6) a) → (length m ≡ 4096 → z ≡ set m (8 * node + 7) b) → z ≡ noted t node 29 (and e (and e' none))
 unfolding noted size_tree width_or height_or
 size_notes t m z node a b e e' f g full p q =
-    let long : length m ≡ 32768 = rw (p full, length-set) full in
+    let long : length m ≡ 4096 = rw (p full, length-set) full in
     rw (f, g) (two_stores t m z (8 * node + 6) (8 * node + 6) (8 * node + 7) a b (p full) (q long) refl (omega arith))
 
 -- Whatever stands from place i on, r is the answer of a size in an element of kind k, and z the tape t with the size.
@@ -175,8 +175,8 @@ module _ {s : List ℕ} {i node : ℕ} {t z : List ℕ} (at k n p : ℕ) where
             let (e, others, made) = seen_more (look_stands s h.next m v.others v.stands) (λ e. y (last.0 ∙ e)) in
             rw (x.made, v.made, made) (unfit_third k x.first v.first e others))
 
-        pub size_good : sort ≡ 0 → n ≤ i → p ≤ i → {t' : List ℕ} → (length t ≡ 32768 → t' ≡ set t (8 * node + 6) w.number)
-            → (length t' ≡ 32768 → z ≡ set t' (8 * node + 7) h.number)
+        pub size_good : sort ≡ 0 → n ≤ i → p ≤ i → {t' : List ℕ} → (length t ≡ 4096 → t' ≡ set t (8 * node + 6) w.number)
+            → (length t' ≡ 4096 → z ≡ set t' (8 * node + 7) h.number)
             → SizeAnswers s at i k n p node t (record { number = 0; place = 0; next = q; nodes = n; pool = p }) z
         unfolding walked_to judge_value
         size_good y nodes pool {t'} stored stored' =

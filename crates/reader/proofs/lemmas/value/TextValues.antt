@@ -26,7 +26,7 @@ use Rattle.reader.specs.internal.Counts.{value_size}
 use Rattle.reader.specs.internal.WalkAnswer.{walked_to, Bounded}
 use Rattle.reader.specs.internal.Tape.{value_place, noted}
 use Rattle.reader.specs.internal.ParameterValue.{holds_sort, held_bytes, Alone, HoldsOne, Notes}
-use Rattle.reader.specs.declared.walk.Walked.{Walked}
+use Rattle.reader.specs.internal.WalkAnswer.{Walked}
 use Rattle.reader.specs.declared.value.One.{One}
 use Rattle.reader.proofs.lemmas.walk.FirstToken.{symbol_here, string_here}
 use Rattle.reader.proofs.lemmas.walk.SeenExpressions.{SeenAs, saw_end, saw_symbol, saw_string, saw_list, look_stands, seen_bounds}
@@ -352,7 +352,7 @@ module _ {s : List ℕ} {i c node : ℕ} {t z : List ℕ} (at k n p : ℕ) where
     )
 
     pub value_good : {r : Bool} → o.good ≡ true → r ≡ true → non_empty (atom_value (drop o.place s)) && r ≡ is_value k c (atom_value (drop o.place s))
-        → n ≤ i → p ≤ i → {w : ℕ} → w ≡ cond (eqb c Class.type) 5 4 → (length t ≡ 32768 → z ≡ set t (8 * node + w) o.place)
+        → n ≤ i → p ≤ i → {w : ℕ} → w ≡ cond (eqb c Class.type) 5 4 → (length t ≡ 4096 → z ≡ set t (8 * node + w) o.place)
         → ValueAnswers s at i k c n p node t (record { number = 0; place = 0; next = o.end; nodes = n; pool = p + o.length }) z
     unfolding walked_to
     value_good g e f nodes pool {w} word stored = (

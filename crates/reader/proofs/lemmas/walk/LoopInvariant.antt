@@ -24,7 +24,7 @@ use Rattle.reader.specs.internal.WalkAnswer.{walked_to, Bounded, PoolBound}
 use Rattle.reader.specs.internal.Tape.{entered, left, taped}
 use Rattle.reader.specs.internal.ParameterValue.{Notes}
 use Rattle.reader.specs.internal.Walk.{run_answer, AnswersFrom, Finishes, Remaining, Goes, NamedListFirst, TakesList, TakesAtom, JudgesList, verdict_of, past_bracket}
-use Rattle.reader.specs.declared.walk.Walked.{Walked}
+use Rattle.reader.specs.internal.WalkAnswer.{Walked}
 use Rattle.reader.proofs.lemmas.walk.ListItems.{IsList}
 use Rattle.reader.proofs.lemmas.tape.AfterWalk.{kept_full, taped_first, element_tape_lem}
 use Rattle.reader.proofs.lemmas.walk.OneTurn.{run_fine, run_fault}
@@ -124,8 +124,8 @@ to_start {k = k} h = (h.0, (λ es e u. h.1.answers es e u ∙ rw (start_state k)
 
 -- An element's answer is that of the list that it is. Its node is entered before its content is walked, and left after it.
 pub element_judges : {s t t₁ t₂ z : List ℕ} {at k c j n p node : ℕ} {w : Walked} → is_element c ≡ true → 0 < j
-    → Bounded s j w × Finishes s at c j (n + 1) p n t₁ t₂ w → (length t ≡ 32768 → t₁ ≡ entered t n at c node 0)
-    → (w.number ≡ 0 → length t₂ ≡ 32768 → z ≡ left t₂ n w.nodes) → Bounded s j w × JudgesList s at j k c n p node t z w
+    → Bounded s j w × Finishes s at c j (n + 1) p n t₁ t₂ w → (length t ≡ 4096 → t₁ ≡ entered t n at c node 0)
+    → (w.number ≡ 0 → length t₂ ≡ 4096 → z ≡ left t₂ n w.nodes) → Bounded s j w × JudgesList s at j k c n p node t z w
 unfolding verdict_of
 element_judges {t = t} {t₁ = t₁} {t₂ = t₂} {z = z} {at = at} {c = c} {n = n} {p = p} {node = node} {w = w} e some h before after = (
   h.0,
@@ -140,14 +140,14 @@ element_judges {t = t} {t₁ = t₁} {t₂ = t₂} {z = z} {at = at} {c = c} {n 
 
 pub item_judges : {s t t₁ t₂ z : List ℕ} {at k c j n p node : ℕ} {w : Walked} → c ≡ 18 → 0 < j
     → Bounded s j w × AnswersFrom s at 18 j 0 (n + 1) p n t₁ t₂ w
-    → (length t ≡ 32768 → t₁ ≡ entered t n at 18 node 0) → (w.number ≡ 0 → length t₂ ≡ 32768 → z ≡ left t₂ n w.nodes)
+    → (length t ≡ 4096 → t₁ ≡ entered t n at 18 node 0) → (w.number ≡ 0 → length t₂ ≡ 4096 → z ≡ left t₂ n w.nodes)
     → Bounded s j w × JudgesList s at j k c n p node t z w
 unfolding is_element Class.is_kind
 item_judges e some h before after = rw e (element_judges refl some (to_start h) before after)
 
 pub list_judges : {s t t₁ t₂ z : List ℕ} {at k c j n p node : ℕ} {w : Walked} → IsList c → 0 < j
     → Bounded s j w × AnswersFrom s at c j 0 (n + 1) p n t₁ t₂ w
-    → (length t ≡ 32768 → t₁ ≡ entered t n at c node 0) → (w.number ≡ 0 → length t₂ ≡ 32768 → z ≡ left t₂ n w.nodes)
+    → (length t ≡ 4096 → t₁ ≡ entered t n at c node 0) → (w.number ≡ 0 → length t₂ ≡ 4096 → z ≡ left t₂ n w.nodes)
     → Bounded s j w × JudgesList s at j k c n p node t z w
 unfolding is_element Class.is_kind
 list_judges l some h before after = element_judges (⊎_elim (λ e. rw e) (λ e. rw e) l) some (to_start h) before after
@@ -211,7 +211,7 @@ module _ {s t₀ t t₁ t' : List ℕ} {at k node from nodes pool i st n p place
       )
 
   -- The list is on the tape.
-  list_tape : r.number ≡ 0 → {es : Exprs} {m : ℕ} (o : NamedListFirst s place c j es m) → length t ≡ 32768 → t' ≡ taped t n node (listed o)
+  list_tape : r.number ≡ 0 → {es : Exprs} {m : ℕ} (o : NamedListFirst s place c j es m) → length t ≡ 4096 → t' ≡ taped t n node (listed o)
   unfolding taped
   list_tape z o full =
       let same : t₁ ≡ t = turn.1.1 in

@@ -131,7 +131,7 @@ module _ {s : List ℕ} {r : Seen} where
 
   pass_atom : (at k st n p node : ℕ) (t : List ℕ) (st' : ℕ) (t' : List ℕ) {es : Exprs} {e : ℕ} → SeenAs s r es e → (r.sort ≡ 0 → ⊥)
       → (r.sort ≡ 3 → ⊥)
-      → StepTakes k st r.class st' → (length t ≡ 32768 → t' ≡ entered t n r.place Class.text node (n + 1))
+      → StepTakes k st r.class st' → (length t ≡ 4096 → t' ≡ entered t n r.place Class.text node (n + 1))
       → Remaining s at k st n p node t r.next st' (n + 1) (p + r.length) t' es e
   unfolding expr_class node_count pool_bytes judge taped
   pass_atom at k st n p node t st' t' (saw_end h) z a b y = absurd (z h)
@@ -240,7 +240,7 @@ module _ {s : List ℕ} {k i st sort q c j l : ℕ} (looked : Looked s i sort q 
     )
 
     pub turn_atom : {at n p node : ℕ} {t t' : List ℕ} → n ≤ i → p ≤ i → f ≡ 0 → i < j → (sort ≡ 3 → ⊥)
-        → (length t ≡ 32768 → t' ≡ entered t n q Class.text node (n + 1))
+        → (length t ≡ 4096 → t' ≡ entered t n q Class.text node (n + 1))
         → ((i < j) × (j ≤ length s) × (n + 1 ≤ j) × (p + l ≤ j)) × TakesAtom s at k i st n p node t j st' (n + 1) (p + l) t'
     turn_atom {at} {n} {p} {node} {t} {t'} nodes pool h v a stored =
         let taken = step_goes k f st' _ h step in (
