@@ -1,5 +1,5 @@
 -- What the functions of a walk promise, of an element, a list and how far a walk has come. It serves the contracts of private functions.
-use Rattle.std.specs.Prelude.{ℕ, ◌+◌, ◌≤◌, ◌<◌, ◌≡◌, cond, List, Result, Ok, Err, eqb, length, drop}
+use Rattle.std.specs.Prelude.{ℕ, ◌+◌, ◌≤◌, ◌<◌, ◌≡◌, cond, List, Result, Ok, Err, eqb, length}
 use Rattle.base.specs.rules.Limits.{most_bytes, most_nodes, missing}
 use Rattle.base.specs.rules.Numbers as Number
 use Rattle.elements.specs.rules.Class as Class

@@ -28,10 +28,10 @@ use Rattle.reader.specs.internal.WalkAnswer.{Walked, walked_to, Bounded, PoolBou
 use Rattle.reader.specs.internal.Walks.{Refuses, TakenAs}
 use Rattle.reader.specs.internal.Tape.{Tape, entered, left, taped}
 use Rattle.reader.specs.internal.ParameterValue.{Notes}
-use Rattle.reader.specs.internal.Walk.{run_answer, AnswersFrom, Finishes, Remaining, Goes, NamedListFirst, TakesList, JudgesList, verdict_of, past_bracket}
+use Rattle.reader.specs.internal.Walk.{run_answer, AnswersFrom, Finishes, NamedListFirst, JudgesList, verdict_of, past_bracket}
 use Rattle.reader.proofs.lemmas.tape.AfterWalk.{kept_full, taped_first, element_tape_lem}
 use Rattle.reader.proofs.lemmas.walk.SeenExpressions.{seen_bounds}
-use Rattle.reader.proofs.lemmas.walk.OneTurn.{run_fine, run_fault, Looked, seen_within, turn_end, turn_refused, turn_atom, turn_list}
+use Rattle.reader.proofs.lemmas.walk.OneTurn.{Remaining, Goes, TakesList, run_fine, run_fault, Looked, seen_within, turn_end, turn_refused, turn_atom, turn_list}
 
 -- The invariant: the walk that began at `from` has got to i, and the tape t₀ is t.
 pub record Walking (s : List ℕ) (at k node from nodes pool : ℕ) (t₀ : Tape) (i st n p : ℕ) (t : Tape) : Type 0 where
@@ -168,7 +168,7 @@ value_judges {n = n} e h = (
 )
 
 -- A walk that has got to i takes a list, of which j is the place after its name.
-pub record Opens (s : List ℕ) (at k node from nodes pool : ℕ) (t₀ : Tape) (i st n p : ℕ) (t : Tape) (place c j st' : ℕ) : Type 0 where
+pub record ListTaken (s : List ℕ) (at k node from nodes pool : ℕ) (t₀ : Tape) (i st n p : ℕ) (t : Tape) (place c j st' : ℕ) : Type 0 where
   pub walking : Walking s at k node from nodes pool t₀ i st n p t
   pub within : (i < j) × (j ≤ length s) × (place ≤ length s)
   pub takes : TakesList s k i st place c j st'
@@ -200,18 +200,18 @@ module _ {s : List ℕ} {t₀ t : Tape} {at k node from nodes pool i st n p sort
         → Walking s at k node from nodes pool t₀ j' st' n' p' t'
     passed (taking, a, g, b, stored) =
         let turn = turn_atom looked walking.within some taking walking.nodes_within walking.pool_within a g b stored in
-        gone_on walking turn.0 turn.1.goes
+        gone_on walking turn.0 turn.1
 
     -- A list is opened, and nothing else has changed.
-    pub opens : {q' c' : ℕ} → TakenAs i j c k st j' st' × (sort ≡ a_list) × (q' ≡ q) × (c' ≡ c) × (n' ≡ n) × (p' ≡ p) × (t' ≡ t)
-        → Opens s at k node from nodes pool t₀ i st n' p' t' q' c' j' st'
-    opens (taking, a, f, g, x, y, z) =
+    pub list_taken : {q' c' : ℕ} → TakenAs i j c k st j' st' × (sort ≡ a_list) × (q' ≡ q) × (c' ≡ c) × (n' ≡ n) × (p' ≡ p) × (t' ≡ t)
+        → ListTaken s at k node from nodes pool t₀ i st n' p' t' q' c' j' st'
+    list_taken (taking, a, f, g, x, y, z) =
         let turn = turn_list looked walking.within some taking a f g in
         record { walking = rw (x, y, z) walking; within = turn.0; takes = turn.1 }
 
 -- A list that is taken, in a walk that has got to i: w is its answer, r that past its closing bracket, and t' the tape with it.
 module _ {s : List ℕ} {t₀ t t' : Tape} {at k node from nodes pool i st n p place c j st' : ℕ} {w r : Walked}
-    (opened : Opens s at k node from nodes pool t₀ i st n p t place c j st')
+    (opened : ListTaken s at k node from nodes pool t₀ i st n p t place c j st')
     (child : Bounded s j w × JudgesList s place j k c n p node t t' w)
     (e : r ≡ past_bracket (length s) w) where
   abbrev listed : {es : Exprs} {m : ℕ} → NamedListFirst s place c j es m → Expr
@@ -288,6 +288,6 @@ module _ {s : List ℕ} {t₀ t t' : Tape} {at k node from nodes pool i st n p p
 
 -- The list is refused itself.
 pub child_refused : {s : List ℕ} {t₀ t t' : Tape} {at k node from nodes pool i st n p place c j st' : ℕ} {w : Walked}
-    → Opens s at k node from nodes pool t₀ i st n p t place c j st' → Bounded s j w × JudgesList s place j k c n p node t t' w
+    → ListTaken s at k node from nodes pool t₀ i st n p t place c j st' → Bounded s j w × JudgesList s place j k c n p node t t' w
     → (w.number ≡ 0 → ⊥) → Bounded s from w × AnswersFrom s at k from 0 nodes pool node t₀ t' w
 child_refused {s} {w = w} opened child z = list_answered opened child (sym (past_fault (length s) w z)) z

@@ -9,6 +9,7 @@ use lib.Dec.{T, eqb, ltb}
 use lib.ListN.{length, drop}
 use borrow.Author.Tests.{ne_eqb}
 use Rattle.base.proofs.Booleans.{cond_case, both}
+use Rattle.base.specs.rules.Limits.{most_nodes}
 use Rattle.elements.specs.rules.Class as Class
 use Rattle.elements.specs.rules.Rules.{Slot, must, may, id_type, rule_of}
 use Rattle.elements.specs.rules.Inside.{State, expecting, holding, Step, go, bad, step as stepped, ended}
@@ -20,12 +21,30 @@ use Rattle.document.specs.rules.Faults.{Begun, Taken, Allowed}
 use Rattle.document.specs.reference.Meaning.{Verdict, fine, fault, stopped, fault_at, advance, finish, run, judge}
 use Rattle.document.proofs.RuleClasses.{all_lead, leads, Leading, start_leading, next_leads, allowed_child, chosen_allowed}
 use Rattle.document.proofs.ElementSteps.{begun_of, stepped as step-says}
+use Rattle.reader.specs.internal.RunStands.{RunStands}
 use Rattle.reader.specs.internal.Counts.{node_count, node_count_in, pool_bytes, pool_bytes_in}
 use Rattle.reader.specs.internal.WalkAnswer.{Walked, walked_to, Bounded}
 use Rattle.reader.specs.internal.Walks.{Refuses, by_step, stuck, TakenAs}
 use Rattle.reader.specs.internal.Tape.{Tape, entered, taped, taped_all}
-use Rattle.reader.specs.internal.Walk.{run_answer, AnswersFrom, Remaining, NamedListFirst, TakesList, StepTakes, TakesAtom}
+use Rattle.reader.specs.internal.Walk.{run_answer, AnswersFrom, NamedListFirst, StepTakes}
 use Rattle.reader.proofs.lemmas.walk.SeenExpressions.{seen_bounds, SeenAs, saw_end, saw_symbol, saw_string, saw_list, look_stands}
+
+-- Of the expressions es, which end at e, those from place j on are left, and the answer and the tape are those from there, in the state and with the
+-- counts and the tape there.
+pub record Remaining (s : List ℕ) (at k st n p node : ℕ) (t : Tape) (j st' n' p' : ℕ) (t' : Tape) (es : Exprs) (e : ℕ) : Type 0 where
+  pub others : Exprs
+  pub stands : RunStands s j others e
+  pub same : run_answer at k st' n' p' e others ≡ run_answer at k st n p e es
+  pub kept : length t ≡ most_nodes → taped_all t' n' node others ≡ taped_all t n node es
+
+-- From place i on a walk has gone to place j.
+pub record Goes (s : List ℕ) (at k i st n p node : ℕ) (t : Tape) (j st' n' p' : ℕ) (t' : Tape) : Type 0 where
+  pub left : (es : Exprs) (e : ℕ) → RunStands s i es e → Remaining s at k st n p node t j st' n' p' t' es e
+
+-- From place i on a list led by a name stands first, and it is taken.
+pub record TakesList (s : List ℕ) (k i st place c j st' : ℕ) : Type 0 where
+  pub taken : StepTakes k st c st'
+  pub opened : (es : Exprs) (e : ℕ) → RunStands s i es e → NamedListFirst s place c j es e
 
 -- A step that is no fault leads to a state; any other is the fault.
 pub step_goes : (k f st : ℕ) (r : Step) → f ≡ 0 → step_of k f st ≡ r → r ≡ go (state_of k st)
@@ -228,19 +247,15 @@ module _ {s : List ℕ} {k i st sort q c j l : ℕ} (looked : Looked s i sort q 
   module _ {j' st' : ℕ} (some : sort ≡ 0 → ⊥) (taking : TakenAs i j c k st j' st') where
     pub turn_atom : {at n p node n' p' : ℕ} {t t' : Tape} → n ≤ i → p ≤ i → (sort ≡ 3 → ⊥) → n' ≡ n + 1 → p' ≡ p + l
         → (length t ≡ 4096 → t' ≡ entered t n q Class.text node (n + 1))
-        → ((i < j') × (j' ≤ length s) × (n' ≤ j') × (p' ≤ j')) × TakesAtom s at k i st n p node t j' st' n' p' t'
+        → ((i < j') × (j' ≤ length s) × (n' ≤ j') × (p' ≤ j')) × Goes s at k i st n p node t j' st' n' p' t'
     turn_atom {at} {n} {p} {node} {t = t} {t' = t'} nodes pool a g b stored = (
       omega (arith, seen_within s i looked within some taking.forward, taking),
       record {
-        class = c;
-        taken = taking.taken;
-        goes = record {
-          left = λ es e u.
-              rw (taking.next, looked.3, g, b, looked.4)
-              (pass_atom at k st n p node t st' t' (look_stands s i e es u) (λ e. some (looked.0 ∙ e)) (λ e. a (looked.0 ∙ e))
-              (rw looked.2 at taking.taken)
-              (rw looked.1 at stored));
-        };
+        left = λ es e u.
+            rw (taking.next, looked.3, g, b, looked.4)
+            (pass_atom at k st n p node t st' t' (look_stands s i e es u) (λ e. some (looked.0 ∙ e)) (λ e. a (looked.0 ∙ e))
+            (rw looked.2 at taking.taken)
+            (rw looked.1 at stored));
       },
     )
 

@@ -1,11 +1,9 @@
 -- The walks over an element's content meet their contracts. The invariant of a loop is `Walking`; each way through a loop's body is one law of `LoopInvariant`.
-use mathlib.Core.Path.{◌≡◌, refl, sym, ◌∙◌}
-use Prim.Native.Nat.{ℕ, ◌≤◌}
+use mathlib.Core.Path.{refl, sym, ◌∙◌}
 use native.Mathlib.Omega.{arith}
-use lib.ListN.{length}
-use Rattle.std.proofs.lemmas.Result.{err_from_is_err_and}
-use Rattle.reader.proofs.lemmas.walk.Refusals.{refusal_some}
-use Rattle.reader.proofs.lemmas.walk.LoopInvariant.{begun, may_turn, end_answered, refusal_answered, passed, opens, child_refused, list_answered, list_forward, list_gone_on}
+use Rattle.reader.proofs.lemmas.walk.Refusals.{refusal_some, passed_up}
+use Rattle.reader.proofs.lemmas.walk.LoopInvariant.{begun, may_turn, end_answered, refusal_answered, passed}
+use Rattle.reader.proofs.lemmas.walk.LoopInvariant.{list_taken, child_refused, list_answered, list_forward, list_gone_on}
 use Rattle.reader.proofs.lemmas.walk.LoopInvariant.{to_start, element_judges, item_judges, value_judges}
 use Rattle.reader.proofs.lemmas.walk.ListItems.{bare_start, item_taken}
 use Rattle.reader.proofs.lemmas.walk.OneTurn.{ended_here}
@@ -34,8 +32,8 @@ inline-take_turn-requires t c =
 
 pub inline-returns-in_err-passed-clause-answers_from : goal.inline-returns-in_err-passed-clause-answers_from
 inline-returns-in_err-passed-clause-answers_from t c =
-    let f = err_from_is_err_and c.from_residual.result c.from_residual.ensures.1 in
-    rw (f.1, f.2) (refusal_answered c.loop-element.invariant c.look-seen.ensures c.if-seen-eq-THE_END.false c.in_err-passed.ensures).1
+    rw (passed_up c.from_residual.result c.from_residual.ensures.1)
+    (refusal_answered c.loop-element.invariant c.look-seen.ensures c.if-seen-eq-THE_END.false c.in_err-passed.ensures).1
 
 pub inline-loop-element-smaller-in-Atom : goal.inline-loop-element-smaller-in-Atom
 inline-loop-element-smaller-in-Atom t c =
@@ -49,33 +47,33 @@ inline-loop-element-preserved-in-Atom t c =
 
 pub inline-inside-requires : goal.inline-inside-requires
 inline-inside-requires t c =
-    let o = opens c.loop-element.invariant c.look-seen.ensures c.if-seen-eq-THE_END.false (rw c.in-List.is at c.in_ok-passed.ensures) in
+    let o = list_taken c.loop-element.invariant c.look-seen.ensures c.if-seen-eq-THE_END.false (rw c.in-List.is at c.in_ok-passed.ensures) in
     let pre = c.requires in
     (omega (arith, o, c.decreases), (omega (arith, o), omega (arith, o), omega (arith, o), pre.3, pre.4, omega (arith, o)))
 
 pub inline-returns-in_err-end-in-List-clause-answers_from : goal.inline-returns-in_err-end-in-List-clause-answers_from
 inline-returns-in_err-end-in-List-clause-answers_from t c =
-    let o = opens c.loop-element.invariant c.look-seen.ensures c.if-seen-eq-THE_END.false (rw c.in-List.is at c.in_ok-passed.ensures) in
+    let o = list_taken c.loop-element.invariant c.look-seen.ensures c.if-seen-eq-THE_END.false (rw c.in-List.is at c.in_ok-passed.ensures) in
     let w = c.in_err-end-in-List.ensures in
-    let f = err_from_is_err_and c.from_residual-in_err-end-in-List.result c.from_residual-in_err-end-in-List.ensures.1 in
-    rw (f.1, f.2) (child_refused o (w.bounded, w.judges_list) (refusal_some _)).1
+    rw (passed_up c.from_residual-in_err-end-in-List.result c.from_residual-in_err-end-in-List.ensures.1)
+    (child_refused o (w.bounded, w.judges_list) (refusal_some _)).1
 
 pub inline-returns-in_err-reached-in-List-clause-answers_from : goal.inline-returns-in_err-reached-in-List-clause-answers_from
 inline-returns-in_err-reached-in-List-clause-answers_from t c =
-    let o = opens c.loop-element.invariant c.look-seen.ensures c.if-seen-eq-THE_END.false (rw c.in-List.is at c.in_ok-passed.ensures) in
+    let o = list_taken c.loop-element.invariant c.look-seen.ensures c.if-seen-eq-THE_END.false (rw c.in-List.is at c.in_ok-passed.ensures) in
     let w = c.in_ok-end-in-List.ensures in
-    let f = err_from_is_err_and c.from_residual-in_err-reached-in-List.result c.from_residual-in_err-reached-in-List.ensures.1 in
-    rw (f.1, f.2) (list_answered o (w.bounded, w.judges_list) c.in_err-reached-in-List.ensures (refusal_some _)).1
+    rw (passed_up c.from_residual-in_err-reached-in-List.result c.from_residual-in_err-reached-in-List.ensures.1)
+    (list_answered o (w.bounded, w.judges_list) c.in_err-reached-in-List.ensures (refusal_some _)).1
 
 pub inline-loop-element-smaller : goal.inline-loop-element-smaller
 inline-loop-element-smaller t c =
-    let o = opens c.loop-element.invariant c.look-seen.ensures c.if-seen-eq-THE_END.false (rw c.in-List.is at c.in_ok-passed.ensures) in
+    let o = list_taken c.loop-element.invariant c.look-seen.ensures c.if-seen-eq-THE_END.false (rw c.in-List.is at c.in_ok-passed.ensures) in
     let w = c.in_ok-end-in-List.ensures in
     omega (arith, list_forward o (w.bounded, w.judges_list) c.in_ok-reached-in-List.ensures refl)
 
 pub inline-loop-element-preserved : goal.inline-loop-element-preserved
 inline-loop-element-preserved t c =
-    let o = opens c.loop-element.invariant c.look-seen.ensures c.if-seen-eq-THE_END.false (rw c.in-List.is at c.in_ok-passed.ensures) in
+    let o = list_taken c.loop-element.invariant c.look-seen.ensures c.if-seen-eq-THE_END.false (rw c.in-List.is at c.in_ok-passed.ensures) in
     let w = c.in_ok-end-in-List.ensures in
     list_gone_on o (w.bounded, w.judges_list) c.in_ok-reached-in-List.ensures refl
 
@@ -87,8 +85,8 @@ inside-returns-then-not-is_element-clause-judges_list t c =
 pub inside-returns-in_err-end-clause-judges_list : goal.inside-returns-in_err-end-clause-judges_list
 inside-returns-in_err-end-clause-judges_list t c =
     let e = c.opened.ensures in
-    let f = err_from_is_err_and c.from_residual.result c.from_residual.ensures.1 in
-    rw (f.1, f.2) (element_judges _ _ e.element e.inner (sym c.is_element.ensures ∙ c.if-not-is_element.false) (omega (arith, c.requires))
+    rw (passed_up c.from_residual.result c.from_residual.ensures.1)
+    (element_judges _ _ e.element e.inner (sym c.is_element.ensures ∙ c.if-not-is_element.false) (omega (arith, c.requires))
     (c.in_err-end.ensures.bounded, c.in_err-end.ensures.finishes) e.tape_after (λ y. absurd (refusal_some _ y))).1
 
 pub inside-returns-clause-judges_list : goal.inside-returns-clause-judges_list
@@ -100,8 +98,8 @@ inside-returns-clause-judges_list t c =
 pub item-returns-in_err-end-clause-judges_list : goal.item-returns-in_err-end-clause-judges_list
 item-returns-in_err-end-clause-judges_list t c = λ k.
     let e = c.opened.ensures in
-    let f = err_from_is_err_and c.from_residual.result c.from_residual.ensures.1 in
-    rw (f.1, f.2) (item_judges _ _ e.element e.inner c.requires.1 (omega (arith, c.requires))
+    rw (passed_up c.from_residual.result c.from_residual.ensures.1)
+    (item_judges _ _ e.element e.inner c.requires.1 (omega (arith, c.requires))
     (c.in_err-end.ensures.bounded, c.in_err-end.ensures.answers_from) e.tape_after (λ y. absurd (refusal_some _ y))).1
 
 pub item-returns-clause-judges_list : goal.item-returns-clause-judges_list
@@ -126,8 +124,8 @@ list-take_turn-requires t c =
 
 pub list-returns-in_err-passed-clause-answers_from : goal.list-returns-in_err-passed-clause-answers_from
 list-returns-in_err-passed-clause-answers_from t c =
-    let f = err_from_is_err_and c.from_residual.result c.from_residual.ensures.1 in
-    rw (f.1, f.2) (refusal_answered c.loop-reached.invariant.0 c.look-seen.ensures c.if-seen-eq-THE_END.false c.in_err-passed.ensures).1
+    rw (passed_up c.from_residual.result c.from_residual.ensures.1)
+    (refusal_answered c.loop-reached.invariant.0 c.look-seen.ensures c.if-seen-eq-THE_END.false c.in_err-passed.ensures).1
 
 pub list-loop-reached-smaller-in-Atom : goal.list-loop-reached-smaller-in-Atom
 list-loop-reached-smaller-in-Atom t c =
@@ -145,39 +143,37 @@ pub list-item-requires : goal.list-item-requires
 list-item-requires t c =
     let turn = rw c.in-List.is at c.in_ok-passed.ensures in
     let l = c.loop-reached.invariant in
-    let o = opens l.0 c.look-seen.ensures c.if-seen-eq-THE_END.false turn in
-    let pre = c.requires in
-    (
+    let o = list_taken l.0 c.look-seen.ensures c.if-seen-eq-THE_END.false turn in
+    let pre = c.requires in (
       omega (arith, o, c.decreases),
       ((omega (arith, o), omega (arith, o), omega (arith, o), pre.0.3, pre.0.4, omega (arith, o)), (item_taken _ _ _ _ pre.1 l.1 o.takes.taken).0),
     )
 
 pub list-returns-in_err-end-in-List-clause-answers_from : goal.list-returns-in_err-end-in-List-clause-answers_from
 list-returns-in_err-end-in-List-clause-answers_from t c =
-    let o = opens c.loop-reached.invariant.0 c.look-seen.ensures c.if-seen-eq-THE_END.false (rw c.in-List.is at c.in_ok-passed.ensures) in
+    let o = list_taken c.loop-reached.invariant.0 c.look-seen.ensures c.if-seen-eq-THE_END.false (rw c.in-List.is at c.in_ok-passed.ensures) in
     let w = c.in_err-end-in-List.ensures in
-    let f = err_from_is_err_and c.from_residual-in_err-end-in-List.result c.from_residual-in_err-end-in-List.ensures.1 in
-    rw (f.1, f.2) (child_refused o (w.bounded, w.judges_list _) (refusal_some _)).1
+    rw (passed_up c.from_residual-in_err-end-in-List.result c.from_residual-in_err-end-in-List.ensures.1)
+    (child_refused o (w.bounded, w.judges_list _) (refusal_some _)).1
 
 pub list-returns-in_err-reached-in-List-clause-answers_from : goal.list-returns-in_err-reached-in-List-clause-answers_from
 list-returns-in_err-reached-in-List-clause-answers_from t c =
-    let o = opens c.loop-reached.invariant.0 c.look-seen.ensures c.if-seen-eq-THE_END.false (rw c.in-List.is at c.in_ok-passed.ensures) in
+    let o = list_taken c.loop-reached.invariant.0 c.look-seen.ensures c.if-seen-eq-THE_END.false (rw c.in-List.is at c.in_ok-passed.ensures) in
     let w = c.in_ok-end-in-List.ensures in
-    let f = err_from_is_err_and c.from_residual-in_err-reached-in-List.result c.from_residual-in_err-reached-in-List.ensures.1 in
-    rw (f.1, f.2) (list_answered o (w.bounded, w.judges_list _) c.in_err-reached-in-List.ensures (refusal_some _)).1
+    rw (passed_up c.from_residual-in_err-reached-in-List.result c.from_residual-in_err-reached-in-List.ensures.1)
+    (list_answered o (w.bounded, w.judges_list _) c.in_err-reached-in-List.ensures (refusal_some _)).1
 
 pub list-loop-reached-smaller : goal.list-loop-reached-smaller
 list-loop-reached-smaller t c =
-    let o = opens c.loop-reached.invariant.0 c.look-seen.ensures c.if-seen-eq-THE_END.false (rw c.in-List.is at c.in_ok-passed.ensures) in
+    let o = list_taken c.loop-reached.invariant.0 c.look-seen.ensures c.if-seen-eq-THE_END.false (rw c.in-List.is at c.in_ok-passed.ensures) in
     let w = c.in_ok-end-in-List.ensures in
     omega (arith, list_forward o (w.bounded, w.judges_list _) c.in_ok-reached-in-List.ensures refl)
 
 pub list-loop-reached-preserved : goal.list-loop-reached-preserved
 list-loop-reached-preserved t c =
     let l = c.loop-reached.invariant in
-    let o = opens l.0 c.look-seen.ensures c.if-seen-eq-THE_END.false (rw c.in-List.is at c.in_ok-passed.ensures) in
-    let w = c.in_ok-end-in-List.ensures in
-    (
+    let o = list_taken l.0 c.look-seen.ensures c.if-seen-eq-THE_END.false (rw c.in-List.is at c.in_ok-passed.ensures) in
+    let w = c.in_ok-end-in-List.ensures in (
       list_gone_on o (w.bounded, w.judges_list _) c.in_ok-reached-in-List.ensures refl,
       (item_taken _ _ _ _ c.requires.1 l.1 o.takes.taken).1,
     )

@@ -1,6 +1,5 @@
 -- `take_turn` meets its contract.
 use mathlib.Core.Path.{refl}
-use native.Mathlib.Omega.{arith}
 use Rattle.reader.specs.internal.Walks.{by_step, stuck}
 use Rattle.reader.proofs.lemmas.walk.Refusals.{refusal_some}
 use Rattle.reader.proofs.lemmas.walk.OneTurn.{step_goes, step_bad}
