@@ -114,10 +114,7 @@ pub fn at_end(element: Element, state: u8, end: Reached) -> Walked
 pub fn closes(text: &[u8], i: usize) -> bool
     ensures { result ≡ true → ((seen i (drop i text.now)).sort ≡ the_end) × ((seen i (drop i text.now)).place ≡ i) }
 {
-    if text.len() <= i {
-        return false;
-    }
-    ROUND_END <= byte_class(text[i])
+    i < text.len() && ROUND_END <= byte_class(text[i])
 }
 
 // What is seen from a place on, counted as an expression of this class in an element that is read so far to this state.
@@ -177,8 +174,7 @@ pub fn past_bracket(text: &[u8], end: Reached) -> Walked
     }
     Ok(Reached {
         place: place + 1,
-        nodes: end.nodes,
-        pool: end.pool,
+        ..end
     })
 }
 
