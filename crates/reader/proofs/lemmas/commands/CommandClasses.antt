@@ -21,7 +21,7 @@ use Rattle.document.proofs.BlockExpressions.{block_no_parameter}
 use Rattle.document.proofs.Regroup.{block_class}
 use Rattle.reader.specs.internal.RunStands.{RunStands}
 use Rattle.reader.specs.internal.Counts.{node_count, pool_bytes}
-use Rattle.reader.specs.internal.Tape.{entered, taped}
+use Rattle.reader.specs.internal.Tape.{Tape, entered, taped}
 use Rattle.document.specs.rules.Takes.{Takes, at_command, expression, a_block}
 use Rattle.reader.specs.internal.BlockWalk.{command_class, loose_class, leads_command, ends_at}
 use Rattle.reader.proofs.lemmas.walk.SeenExpressions.{SeenAs, saw_end, saw_symbol, saw_string, saw_list}
@@ -154,7 +154,7 @@ pub record AtomSeen (s : List ℕ) (r : Seen) (es : Exprs) (e : ℕ) : Type 0 wh
   pub judged : (k : ℕ) → judge k one ≡ fine
   pub nodes : node_count one ≡ 1
   pub bytes : pool_bytes one ≡ r.length
-  pub on_tape : (t : List ℕ) (n node : ℕ) → taped t n node one ≡ entered t n r.place Class.text node (n + 1)
+  pub on_tape : (t : Tape) (n node : ℕ) → taped t n node one ≡ entered t n r.place Class.text node (n + 1)
 
 pub atom_seen : {s : List ℕ} {r : Seen} {es : Exprs} {e : ℕ} → SeenAs s r es e → (r.sort ≡ 0 → ⊥) → (r.sort ≡ 3 → ⊥) → AtomSeen s r es e
 unfolding expr_class is_command loose is_block_parameter Class.is_block judge node_count pool_bytes taped

@@ -20,7 +20,7 @@ use Rattle.document.proofs.RegroupedDepth.{depth_regrouped}
 use Rattle.reader.specs.internal.RunStands.{RunStands}
 use Rattle.reader.specs.internal.Counts.{node_count, pool_bytes}
 use Rattle.reader.specs.internal.WalkAnswer.{walked_to, Bounded, read_walked}
-use Rattle.reader.specs.internal.Tape.{entered, left, taped}
+use Rattle.reader.specs.internal.Tape.{Tape, entered, left, taped}
 use Rattle.document.specs.rules.Takes.{Takes}
 use Rattle.reader.specs.internal.Walk.{NamedListFirst}
 use Rattle.reader.specs.internal.BlockWalk.{InCommand}
@@ -32,7 +32,7 @@ use Rattle.reader.proofs.lemmas.commands.CommandClasses.{FirstSeen, first_seen, 
 use Rattle.reader.proofs.lemmas.commands.BlockLoops.{ChildVerdict, passed, stopped, child_verdict, block_same, block_tape, listed}
 
 -- w is the answer of a text that was scanned, and z the tape t with its document.
-abbrev pub JudgesImperative : List ℕ → List ℕ → List ℕ → Walked → Type 0
+abbrev pub JudgesImperative : List ℕ → Tape → Tape → Walked → Type 0
 JudgesImperative s t z w =
     ((es : Exprs) → RunStands s 0 es (length s) → depth_all es ≤ 59 → w ≡ read_walked (one_expression imperative (length s) es))
     × ((e : Expr) (es : Exprs) → RunStands s 0 (and e es) (length s) → depth_all (and e es) ≤ 59 → w.number ≡ 0 → length t ≡ 4096
@@ -78,7 +78,7 @@ document_opened (saw_string h c l f t) z d = absurd (omega (arith, c, d))
 document_opened (saw_list x h c f t g b u) z d = open_list (saw_list x h c f t g b u) h (λ y. omega (arith, y, d))
 
 -- A document's block: the answer is that of its nested form.
-module _ {s t₁ t₂ : List ℕ} {q j e : ℕ} {es : Exprs} {w : Walked} (o : NamedListFirst s q Class.document j es e)
+module _ {s : List ℕ} {t₁ t₂ : Tape} {q j e : ℕ} {es : Exprs} {w : Walked} (o : NamedListFirst s q Class.document j es e)
     (answer : InCommand s q Class.document 0 j 0 1 0 t₁ t₂ w) where
   abbrev nested : Expr
   nested = regroup (listed o) o.others
@@ -90,7 +90,7 @@ module _ {s t₁ t₂ : List ℕ} {q j e : ℕ} {es : Exprs} {w : Walked} (o : N
       rw (regrouped (listed o) a.takes) (block_same q 1 0 0 0 w.next o.lead _ o.of_class refl a.same)
 
   -- Its node is entered before the block is walked, and left after it.
-  document_tape : (t z : List ℕ) → Bounded s j w → 0 < j → (length t ≡ 4096 → t₁ ≡ entered t 0 q 1 4294967295 0)
+  document_tape : (t z : Tape) → Bounded s j w → 0 < j → (length t ≡ 4096 → t₁ ≡ entered t 0 q 1 4294967295 0)
       → (w.number ≡ 0 → length t₂ ≡ 4096 → z ≡ left t₂ 0 w.nodes) → w.number ≡ 0 → length t ≡ 4096 → z ≡ taped t 0 4294967295 nested
   unfolding block Class.is_element Class.is_kind Class.significance
   document_tape t z bounded some before after y full =
@@ -120,8 +120,8 @@ module _ {s t₁ t₂ : List ℕ} {q j e : ℕ} {es : Exprs} {w : Walked} (o : N
 same_regrouped : {x y : Expr} {es others : Exprs} → and y es ≡ and x others → regroup x others ≡ regroup y es
 same_regrouped {x} {y} {es} {others} e = let a : x ≡ y = cc in let b : others ≡ es = cc in rw (a, b)
 
-module _ (s t : List ℕ) {sort q c j l : ℕ} (looked : Looked s 0 sort q c j l) where
-  pub nothing_seen : {z : List ℕ} {w : Walked} → sort ≡ 0 → w ≡ walked_to 0 0 0 (fault 7 (length s)) → JudgesImperative s t z w
+module _ (s : List ℕ) (t : Tape) {sort q c j l : ℕ} (looked : Looked s 0 sort q c j l) where
+  pub nothing_seen : {z : Tape} {w : Walked} → sort ≡ 0 → w ≡ walked_to 0 0 0 (fault 7 (length s)) → JudgesImperative s t z w
   unfolding walked_to
   nothing_seen z g = (
     λ es u d. g ∙ none_judged (length s) (look_stands s 0 (length s) es u) (sym looked.0 ∙ z),
@@ -129,7 +129,7 @@ module _ (s t : List ℕ) {sort q c j l : ℕ} (looked : Looked s 0 sort q c j l
   )
 
   module _ (some : sort ≡ 0 → ⊥) where
-    pub no_document : {z : List ℕ} {w : Walked} → (c ≡ Class.document → ⊥) → w ≡ walked_to 0 0 0 (fault 8 q) → JudgesImperative s t z w
+    pub no_document : {z : Tape} {w : Walked} → (c ≡ Class.document → ⊥) → w ≡ walked_to 0 0 0 (fault 8 q) → JudgesImperative s t z w
     unfolding walked_to
     no_document h g = (
       λ es u d.
@@ -141,23 +141,23 @@ module _ (s t : List ℕ) {sort q c j l : ℕ} (looked : Looked s 0 sort q c j l
     forward_some : {es : Exprs} → RunStands s 0 es (length s) → j < 1 → ⊥
     forward_some {es} u h = omega (arith, looked.3, seen_forward (look_stands s 0 (length s) es u) (λ z. some (looked.0 ∙ z)))
 
-    pub nothing_passed : {z : List ℕ} {w : Walked} → j < 1 → JudgesImperative s t z w
+    pub nothing_passed : {z : Tape} {w : Walked} → j < 1 → JudgesImperative s t z w
     nothing_passed h = (λ es u d. absurd (forward_some u h), λ e es u d y full. absurd (forward_some u h))
 
     -- A document is seen, and w is the answer of its block.
-    module _ {t₁ t₂ : List ℕ} {w : Walked} (h : c ≡ Class.document) (forward : 0 < j) (bounded : Bounded s j w)
+    module _ {t₁ t₂ : Tape} {w : Walked} (h : c ≡ Class.document) (forward : 0 < j) (bounded : Bounded s j w)
         (answer : InCommand s q Class.document 0 j 0 1 0 t₁ t₂ w) where
       opened : {es : Exprs} → RunStands s 0 es (length s) → NamedListFirst s q c j es (length s)
       opened {es} u =
           rw (looked.1, looked.2, looked.3) (document_opened (look_stands s 0 (length s) es u) (λ z. some (looked.0 ∙ z)) (sym looked.2 ∙ h))
 
-      pub document_fault : {z : List ℕ} → (w.number ≡ 0 → ⊥) → JudgesImperative s t z w
+      pub document_fault : {z : Tape} → (w.number ≡ 0 → ⊥) → JudgesImperative s t z w
       document_fault y = (
         λ es u d. let o = rw h at (opened u) in document_stopped o answer (length s) (by_outcome o answer bounded forward) y,
         λ e es u d x full. absurd (y x),
       )
 
-      pub document_fine : {z : List ℕ} → w.number ≡ 0 → (length t ≡ 4096 → t₁ ≡ entered t 0 q 1 4294967295 0)
+      pub document_fine : {z : Tape} → w.number ≡ 0 → (length t ≡ 4096 → t₁ ≡ entered t 0 q 1 4294967295 0)
           → (w.number ≡ 0 → length t₂ ≡ 4096 → z ≡ left t₂ 0 w.nodes)
           → JudgesImperative s t z (record { number = 0; place = 0; next = 0; nodes = w.nodes; pool = w.pool })
       document_fine {z} y before after = (
