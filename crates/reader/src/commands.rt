@@ -80,7 +80,7 @@ fn ends(kind: u8, sort: u8, class: u8) -> bool
 {
     let own = Kind { number: kind };
     let next = Kind { number: class };
-    sort == THE_END || is_command(class) && own.significance() <= next.significance()
+    sort == THE_END || (is_command(class) && own.significance() <= next.significance())
 }
 
 // The block of a command: what follows the command's name starts at `from`, and the content follows the command's bracket.

@@ -9,6 +9,11 @@ use native.Mathlib.Numerals.{add-one}
 use lib.Dec.{eqb, leb}
 use lib.ListN.{length, drop}
 use borrow.Author.Tests.{eqb-true, eqb-false, leb-true}
+use Rattle.std.specs.Prelude.{Result, Ok, Err}
+use Rattle.std.specs.Result.{IsErrAnd}
+use Rattle.std.proofs.lemmas.Result.{err_from_is_err_and}
+use Rattle.base.specs.declared.refusal.Refusal.{Refusal}
+use Rattle.base.specs.Refusals.{number}
 use Rattle.base.proofs.Booleans.{cond_case, bool_case, both, true_T, T_true}
 use Rattle.elements.specs.rules.Class as Class
 use Rattle.elements.specs.rules.Inside.{ended}
@@ -25,7 +30,9 @@ use Rattle.document.specs.reference.Meaning.{Verdict, fine, fault, finish, run, 
 use Rattle.document.proofs.BlockExpressions.{block_element}
 use Rattle.reader.specs.internal.RunStands.{Has, RunStands}
 use Rattle.reader.specs.internal.Counts.{node_count, node_count_in, pool_bytes, pool_bytes_in}
-use Rattle.reader.specs.internal.WalkAnswer.{walked_to, Bounded, PoolBound}
+use Rattle.reader.specs.internal.WalkAnswer.{told, walked_to, Bounded, PoolBound}
+use Rattle.reader.specs.declared.walk.Reached.{Reached}
+use Rattle.reader.specs.declared.walk.Refused.{Refused}
 use Rattle.reader.specs.internal.Tape.{Tape, entered, left, taped, taped_all}
 use Rattle.document.specs.rules.Takes.{Takes, at_end, at_command, expression, a_block}
 use Rattle.reader.specs.internal.Walk.{run_answer, NamedListFirst, JudgesList, verdict_of, past_bracket, StepTakes}
@@ -79,6 +86,14 @@ pub fewer : {size i j n p : ℕ} → (i < j) × (j ≤ size) × (n ≤ j) × (p 
 fewer h = omega arith
 
 -- ---- answers
+
+-- A refusal has a number that is not 0.
+pub refusal_some : (r : Refusal) → number r ≡ 0 → ⊥
+refusal_some r h = grind arith
+
+-- What the exit of a `?` answers is what the call answered.
+pub exit : (r : Result Reached Refused) (f : Refused) → IsErrAnd r (λ (e : Refused). e ≡ f) → told r ≡ told (Err f)
+exit r f h = let p = err_from_is_err_and r h in rw (p.1, p.2)
 
 pub later : {s : List ℕ} {i j : ℕ} {w : Walked} → i ≤ j → Bounded s j w → Bounded s i w
 later h b = record { bounds = λ y. omega (arith, b.bounds y) }
@@ -221,14 +236,27 @@ command_end {s = s} {t = t} {y = y} {at = at} {k = k} {node = node} {i = i} {st 
     by (saw_string h c l f t) z u = let o : ◌≡◌ {A = ℕ} 0 1 = cc in absurd (omega arith)
     by (saw_list x h c f t d b v) z u = let o : ◌≡◌ {A = ℕ} 0 1 = cc in absurd (omega arith)
 
--- Where a command's bracket is not closed, no expressions stand.
-pub command_cut : {s : List ℕ} {t y : Tape} {at k node i st n p sort q c j l : ℕ} {w : Walked} → Looked s i sort q c j l → sort ≡ 0 → length s ≤ q
-    → w ≡ walked_to 0 0 0 (fault 8 q) → Bounded s i w × InCommand s at k node i st n p t y w
+-- Past the place where a command's bracket ends: a bracket is closed there.
+pub closed_at : {m : ℕ} {end r : Reached} → told (Ok r) ≡ past_bracket m (told (Ok end))
+    → (end.place < m) × (r.place ≡ end.place + 1) × (r.nodes ≡ end.nodes) × (r.pool ≡ end.pool)
 unfolding walked_to
-command_cut {s = s} {i = i} {q = q} {w = w} looked z l g = (
-  record { bounds = λ y. omega (arith, y, ap (λ (w : Walked). w.number) g) },
-  record { answers = λ ps m x es e t h u. absurd (by (look_stands s i m ps t) (sym looked.0 ∙ z) h.inside) },
-)
+closed_at {m} {end} {r} e =
+    let h = past_none m (told (Ok end)) (told (Ok r)) e refl in
+    (h.1, ap (λ (w : Walked). w.next) h.2, ap (λ (w : Walked). w.nodes) h.2, ap (λ (w : Walked). w.pool) h.2)
+
+-- Or none is.
+pub not_closed : (m : ℕ) (end : Reached) (f : Refused) → told (Err f) ≡ past_bracket m (told (Ok end)) → m ≤ end.place
+unfolding past_bracket walked_to
+not_closed m end f e =
+    bool_case (leb m end.place)
+    (λ h. leb-true m end.place h)
+    (λ h. absurd (refusal_some f.refusal (ap (λ (w : Walked). w.number) (rw h at e))))
+
+-- Then no expressions stand.
+pub command_cut : {s : List ℕ} {t y : Tape} {at k node i st n p sort q c j l : ℕ} {w : Walked} → Looked s i sort q c j l → sort ≡ 0 → length s ≤ q
+    → InCommand s at k node i st n p t y w
+command_cut {s = s} {i = i} {q = q} {w = w} looked z l =
+    record { answers = λ ps m x es e t h u. absurd (by (look_stands s i m ps t) (sym looked.0 ∙ z) h.inside) }
   where
     by : {ps : Exprs} {m : ℕ} → SeenAs s (seen i (drop i s)) ps m → (seen i (drop i s)).sort ≡ 0 → m < length s → ⊥
     by (saw_end h) z u = omega (arith, looked.1)
