@@ -46,11 +46,7 @@ fn is_parameter(class: u8) -> bool
 fn in_command(class: u8) -> u8
     ensures { result ≡ command_class class }
 {
-    if is_parameter(class) {
-        class
-    } else {
-        0
-    }
+    if is_parameter(class) { class } else { 0 }
 }
 
 // In a block's content a loose parameter and a second document are allowed nowhere.

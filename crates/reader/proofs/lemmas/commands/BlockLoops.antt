@@ -60,10 +60,6 @@ pub record Gone (P : ℕ → ℕ → ℕ → ℕ → Tape → Tape → Walked �
   pub goes : (z : Tape) (w : Walked) → P i st n p t z w → P from st₀ nodes pool t₀ z w
 
 module _ {P : ℕ → ℕ → ℕ → ℕ → Tape → Tape → Walked → Type 0} where
-  pub begun : {size from st nodes pool : ℕ} {t : Tape} → from ≤ size → nodes ≤ from → pool ≤ from
-      → Gone P size from st nodes pool t from st nodes pool t
-  begun h a b = record { forward = omega arith; within = h; nodes_within = a; pool_within = b; goes = λ z w x. x }
-
   pub answered : {s : List ℕ} {t₀ t z : Tape} {from st₀ nodes pool i st n p : ℕ} {w : Walked} → Gone P (length s) from st₀ nodes pool t₀ i st n p t
       → Bounded s i w
       → P i st n p t z w → Bounded s from w × P from st₀ nodes pool t₀ z w
@@ -322,9 +318,6 @@ refused_number : {at i q j k st d : ℕ} {w : Walked} → Refuses at i q j d k s
 unfolding walked_to
 refused_number (by_step f z h e) y = z (sym (ap (λ (w : Walked). w.number) e) ∙ y)
 refused_number (stuck h e) y = omega (arith, y, ap (λ (w : Walked). w.number) e)
-
-pub refused_bounded : {s : List ℕ} {at i q j k st d : ℕ} {w : Walked} → Refuses at i q j d k st w → Bounded s i w
-refused_bounded r = record { bounds = λ y. absurd (refused_number r y) }
 
 -- The walk goes on after a list: r is its answer.
 pub taken_forward : {s : List ℕ} {i j d k st j' st' : ℕ} {r : Walked} → TakenAs i j d k st j' st' → Bounded s j' r → r.number ≡ 0

@@ -1,13 +1,13 @@
 -- What an expression counts as in a command and in a block's content.
-use Prim.Native.Nat.{ℕ, ◌+◌, ◌≤◌, ◌<◌}
+use Prim.Native.Nat.{ℕ, ◌+◌, ◌<◌}
 use mathlib.Core.Path.{◌≡◌, refl, sym, ◌∙◌}
 use mathlib.Core.Bool.{true, false, not, cond, ◌&&◌, ◌||◌}
 use mathlib.Core.List.{List}
 use native.Mathlib.Omega.{arith}
 use lib.Dec.{eqb, leb}
 use lib.ListN.{drop}
-use borrow.Author.Tests.{eqb-false, leb-false, le-leb, lt-leb, ne_eqb}
-use Rattle.base.proofs.Booleans.{cond_case, cond_under, bool_case, both, or_false, and_true, and_false, true_T, T_true, not-true}
+use borrow.Author.Tests.{eqb-false, leb-false}
+use Rattle.base.proofs.Booleans.{cond_case, cond_under, bool_case, both, or_false, true_T, T_true, not-true}
 use Rattle.elements.specs.rules.Class as Class
 use Rattle.syntax.specs.rules.Expression.{Expr, symbol, quoted, list, Exprs, none, and, place}
 use Rattle.atoms.specs.Atom.{atom_value}
@@ -27,17 +27,6 @@ use Rattle.reader.specs.internal.BlockWalk.{command_class, loose_class, leads_co
 use Rattle.reader.proofs.lemmas.walk.SeenExpressions.{SeenAs, saw_end, saw_symbol, saw_string, saw_list}
 
 -- ---- classes
-
-pub command_low : (c : ℕ) → c < 2 → leads_command c ≡ false
-unfolding leads_command Class.is_block
-command_low c h =
-    bool_case (eqb c Class.document)
-    (λ e. rw e (and_false (leb 1 c && leb c 7)))
-    (λ e. rw (lt-leb 1 c (omega (arith, eqb-false c 1 e))))
-
-pub command_high : (c : ℕ) → 2 ≤ c → leads_command c ≡ leb c 7
-unfolding leads_command Class.is_block
-command_high c h = rw (le-leb 1 c (omega arith), ne_eqb c Class.document (λ e. omega arith)) (and_true (leb c 7))
 
 -- What is no class in a command is no parameter, and what is one counts as itself.
 pub command_itself : (c : ℕ) → (command_class c ≡ 0 → ⊥) → is_block_parameter c ≡ true
