@@ -8,4 +8,4 @@ returns-then-may_end c = rw (← c.may_end.ensures, c.if-may_end.true)
 
 pub returns : goal.returns
 unfolding walked_to
-returns c = rw (← c.may_end.ensures, c.if-may_end.false) c.refusal.ensures
+returns c = rw (← c.may_end.ensures, c.if-may_end.false)

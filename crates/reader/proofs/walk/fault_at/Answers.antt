@@ -1,9 +1,12 @@
 -- `fault_at` meets its contract.
-use borrow.Author.Tests.{eq-eqb, ne_eqb}
+use Rattle.reader.specs.internal.WalkAnswer.{walked_to}
+use Rattle.reader.proofs.lemmas.walk.Refusals.{is_absent}
 use Rattle.reader.proofs.walk.fault_at.Goals as goal
 
-pub returns-then-number-eq-ABSENT : goal.returns-then-number-eq-ABSENT
-returns-then-number-eq-ABSENT c = rw (eq-eqb _ 9 c.if-number-eq-ABSENT.true) c.refusal.ensures
+pub returns-then-eq : goal.returns-then-eq
+unfolding walked_to
+returns-then-eq c = rw (is_absent c.args.refusal, ← c.eq.ensures, c.if-eq.true)
 
-pub returns : goal.returns
-returns c = rw (ne_eqb _ 9 c.if-number-eq-ABSENT.false) c.refusal-2.ensures
+pub returns-else-eq : goal.returns-else-eq
+unfolding walked_to
+returns-else-eq c = rw (is_absent c.args.refusal, ← c.eq.ensures, c.if-eq.false)
