@@ -2,8 +2,9 @@
 use mathlib.Core.Path.{refl, sym, ◌∙◌}
 use native.Mathlib.Omega.{arith}
 use Rattle.reader.proofs.lemmas.walk.LoopInvariant.{past_fault}
+use Rattle.reader.proofs.lemmas.walk.Refusals.{refusal_some}
 use Rattle.reader.proofs.lemmas.commands.CommandClasses.{not_ended}
-use Rattle.reader.proofs.lemmas.commands.BlockLoops.{refusal_some, exit, answered, gone_on, later, place_from, place_within, past_bounded}
+use Rattle.reader.proofs.lemmas.commands.BlockLoops.{exit, answered, gone_on, later, place_from, place_within, past_bounded}
 use Rattle.reader.proofs.lemmas.commands.BlockLoops.{closed_at, not_closed, command_end, command_cut, content_end}
 use Rattle.reader.proofs.lemmas.commands.BlockLoops.{turn_fits, atom_forward, list_forward, command_refused, content_refused, command_atom, content_atom}
 use Rattle.reader.proofs.lemmas.commands.BlockLoops.{taken_forward, fewer, parameter_stopped, parameter_passed, belongs, child_stopped, child_passed}

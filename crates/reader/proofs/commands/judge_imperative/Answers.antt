@@ -1,7 +1,7 @@
 -- `judge_imperative` meets its contract: each way out is one law of `WholeText`.
 use mathlib.Core.Path.{refl}
 use native.Mathlib.Omega.{arith}
-use Rattle.reader.proofs.lemmas.commands.BlockLoops.{refusal_some}
+use Rattle.reader.proofs.lemmas.walk.Refusals.{refusal_some}
 use Rattle.reader.proofs.lemmas.commands.WholeText.{exit_judged, root_refused, root_starts, document_fault, document_fine}
 use Rattle.reader.proofs.commands.judge_imperative.Goals as goal
 

@@ -12,8 +12,6 @@ use borrow.Author.Tests.{eqb-true, eqb-false, leb-true}
 use Rattle.std.specs.Prelude.{Result, Ok, Err}
 use Rattle.std.specs.Result.{IsErrAnd}
 use Rattle.std.proofs.lemmas.Result.{err_from_is_err_and}
-use Rattle.base.specs.declared.refusal.Refusal.{Refusal}
-use Rattle.base.specs.Refusals.{number}
 use Rattle.base.proofs.Booleans.{cond_case, bool_case, both, true_T, T_true}
 use Rattle.elements.specs.rules.Class as Class
 use Rattle.elements.specs.rules.Inside.{ended}
@@ -40,6 +38,7 @@ use Rattle.reader.specs.internal.BlockWalk.{command_class, loose_class, leads_co
 use Rattle.reader.specs.internal.Walks.{Refuses, by_step, stuck, TakenAs}
 use Rattle.reader.specs.internal.BlockWalk.{BlockAnswer, InCommand, InContent, Belongs, ChildAnswer, JudgesChild}
 use Rattle.reader.specs.internal.WalkAnswer.{Walked}
+use Rattle.reader.proofs.lemmas.walk.Refusals.{refusal_some}
 use Rattle.reader.proofs.lemmas.walk.SeenExpressions.{SeenAs, saw_end, saw_symbol, saw_string, saw_list, look_stands, seen_bounds}
 use Rattle.reader.proofs.lemmas.walk.OneTurn.{Looked, none_taken, run_bad, run_fine, run_fault, seen_forward, open_list, seen_within}
 use Rattle.reader.proofs.lemmas.tape.AfterWalk.{taped_on, element_tape_lem, taped_element}
@@ -82,10 +81,6 @@ pub fewer : {size i j n p : ℕ} → (i < j) × (j ≤ size) × (n ≤ j) × (p 
 fewer h = omega arith
 
 -- ---- answers
-
--- A refusal has a number that is not 0.
-pub refusal_some : (r : Refusal) → number r ≡ 0 → ⊥
-refusal_some r h = grind arith
 
 -- What the exit of a `?` answers is what the call answered.
 pub exit : (r : Result Reached Refused) (f : Refused) → IsErrAnd r (λ (e : Refused). e ≡ f) → told r ≡ told (Err f)
