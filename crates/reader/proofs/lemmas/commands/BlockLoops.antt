@@ -1,4 +1,4 @@
--- How the walk over the blocks of an imperative text goes on: the invariant of its loops, kept by each way through a loop's body.
+-- What a walk over the blocks of an imperative text answers, by what it answers from the next expression on.
 use Prim.Native.Nat.{ℕ, ◌+◌, ◌-◌, ◌≤◌, ◌<◌}
 use mathlib.Core.Path.{◌≡◌, refl, ap, sym, ◌∙◌}
 use mathlib.Core.Bool.{true, false, cond}
@@ -28,7 +28,7 @@ use Rattle.document.specs.reference.Meaning.{Verdict, fine, fault, finish, run, 
 use Rattle.document.proofs.BlockExpressions.{block_element}
 use Rattle.reader.specs.internal.RunStands.{Has, RunStands}
 use Rattle.reader.specs.internal.Counts.{node_count, node_count_in, pool_bytes, pool_bytes_in}
-use Rattle.reader.specs.internal.WalkAnswer.{told, walked_to, Bounded, PoolBound}
+use Rattle.reader.specs.internal.WalkAnswer.{told, walked_to, Bounded}
 use Rattle.reader.specs.declared.walk.Reached.{Reached}
 use Rattle.reader.specs.declared.walk.Refused.{Refused}
 use Rattle.reader.specs.internal.Tape.{Tape, entered, left, taped, taped_all}
@@ -47,47 +47,11 @@ use Rattle.document.proofs.BlockContents.{taken}
 use Rattle.reader.proofs.lemmas.commands.CommandClasses.{command_itself, parameter_class, loose_itself, loose_same, as_parameter, parameter_of_class, parameter_place}
 use Rattle.reader.proofs.lemmas.commands.CommandClasses.{first_taken, FirstSeen, first_seen, AtomSeen, atom_seen}
 
--- ---- the invariant
-
--- The walk that began at `from` has got to i, and what is the answer from there, and the tape, as `P` says, is that of the walk.
-pub record Gone (P : ℕ → ℕ → ℕ → ℕ → Tape → Tape → Walked → Type 0) (size from st₀ nodes pool : ℕ) (t₀ : Tape) (i st n p : ℕ)
-    (t : Tape) : Type 0 where
-  pub forward : from ≤ i
-  pub within : i ≤ size
-  pub nodes_within : n ≤ i
-  pub pool_within : PoolBound p i
-  pub goes : (z : Tape) (w : Walked) → P i st n p t z w → P from st₀ nodes pool t₀ z w
-
-module _ {P : ℕ → ℕ → ℕ → ℕ → Tape → Tape → Walked → Type 0} where
-  pub answered : {s : List ℕ} {t₀ t z : Tape} {from st₀ nodes pool i st n p : ℕ} {w : Walked} → Gone P (length s) from st₀ nodes pool t₀ i st n p t
-      → Bounded s i w
-      → P i st n p t z w → Bounded s from w × P from st₀ nodes pool t₀ z w
-  answered {z = z} {w = w} v b a = (record { bounds = λ y. omega (arith, b.bounds y, v.forward) }, v.goes z w a)
-
-  pub gone_on : {size from st₀ nodes pool i st n p j st' n' p' : ℕ} {t₀ t t' : Tape} → Gone P size from st₀ nodes pool t₀ i st n p t
-      → (i < j) × (j ≤ size) × (n' ≤ j) × (p' ≤ j) → ((z : Tape) (w : Walked) → P j st' n' p' t' z w → P i st n p t z w)
-      → Gone P size from st₀ nodes pool t₀ j st' n' p' t'
-  gone_on v b h =
-      record {
-        forward = omega (arith, v.forward, b);
-        within = b.1;
-        nodes_within = b.2;
-        pool_within = b.3;
-        goes = λ z w x. v.goes z w (h z w x);
-      }
-
--- The bytes left fall.
-pub fewer : {size i j n p : ℕ} → (i < j) × (j ≤ size) × (n ≤ j) × (p ≤ j) → size - j < size - i
-fewer h = omega arith
-
 -- ---- answers
 
 -- What the exit of a `?` answers is what the call answered.
 pub exit : (r : Result Reached Refused) (f : Refused) → IsErrAnd r (λ (e : Refused). e ≡ f) → told r ≡ told (Err f)
 exit r f h = let p = err_from_is_err_and r h in rw (p.1, p.2)
-
-pub later : {s : List ℕ} {i j : ℕ} {w : Walked} → i ≤ j → Bounded s j w → Bounded s i w
-later h b = record { bounds = λ y. omega (arith, b.bounds y) }
 
 -- What is seen is not seen before the place where it was looked for.
 pub place_from : (s : List ℕ) (i : ℕ) {sort q c j l : ℕ} → Looked s i sort q c j l → i ≤ length s → i ≤ q
@@ -125,7 +89,7 @@ module _ {s : List ℕ} {j : ℕ} {w r : Walked} (bounded : Bounded s j w) (past
 abbrev pub listed : {s : List ℕ} {q c j : ℕ} {es : Exprs} {m : ℕ} → NamedListFirst s q c j es m → Expr
 listed {q} o = list q (and o.lead o.rest)
 
-pub list_answer : {s : List ℕ} {t z : Tape} {q j k c n p node : ℕ} {w r : Walked} → Bounded s j w → JudgesList s q j k c n p node t z w
+list_answer : {s : List ℕ} {t z : Tape} {q j k c n p node : ℕ} {w r : Walked} → Bounded s j w → JudgesList s q j k c n p node t z w
     → r ≡ past_bracket (length s) w → 0 < j
     → {es : Exprs} {m : ℕ} (o : NamedListFirst s q c j es m)
     → (r ≡ walked_to r.next (n + node_count (listed o)) (p + pool_bytes (listed o)) (judge k (listed o))) × (r.number ≡ 0 → RunStands s r.next o.others m)
@@ -137,7 +101,7 @@ list_answer {k = k} {n = n} {p = p} {w = w} bounded judged past-it h o =
     (same, λ z. rw (next z) o.goes_on)
 
 -- The list is on the tape.
-pub list_tape : {s : List ℕ} {t z : Tape} {q j k c n p node : ℕ} {w r : Walked} → JudgesList s q j k c n p node t z w → r ≡ past_bracket (length s) w
+list_tape : {s : List ℕ} {t z : Tape} {q j k c n p node : ℕ} {w r : Walked} → JudgesList s q j k c n p node t z w → r ≡ past_bracket (length s) w
     → {es : Exprs} {m : ℕ} (o : NamedListFirst s q c j es m) → r.number ≡ 0 → length t ≡ 4096 → z ≡ taped t n node (listed o)
 unfolding taped
 list_tape {s = s} {w = w} {r = r} judged past-it o y full =

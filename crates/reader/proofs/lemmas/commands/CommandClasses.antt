@@ -41,7 +41,7 @@ pub loose_itself : (c : ℕ) → (loose_class c ≡ 0 → ⊥) → loose_class c
 unfolding loose_class
 loose_itself c h = bool_case (is_block_parameter c || eqb c Class.document) (λ e. absurd (h (rw e))) (λ e. rw e)
 
-pub command_loose : (c : ℕ) → leads_command c ≡ true → loose_class c ≡ c
+command_loose : (c : ℕ) → leads_command c ≡ true → loose_class c ≡ c
 unfolding leads_command loose_class
 command_loose c h =
     let (b, d) = both (Class.is_block c) (not (eqb c Class.document)) (true_T h) in
