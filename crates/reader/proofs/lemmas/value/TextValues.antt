@@ -8,7 +8,10 @@ use lib.Dec.{eqb}
 use lib.ListN.{length, drop, length-append}
 use native.Mathlib.Nat.{add-zero}
 use borrow.Author.Tests.{ne_eqb, eqb-true, eqb-false, not-true, not-false}
-use Rattle.base.proofs.Booleans.{cond_case, bool_case, and_true, and_false}
+use Rattle.std.specs.Prelude.{Option, None, Result, Err, IsErrAnd}
+use Rattle.std.specs.Option.{ok_or}
+use Rattle.std.proofs.lemmas.Result.{err_from_is_err_and}
+use Rattle.base.proofs.Booleans.{bool_case, and_true, and_false}
 use Rattle.elements.specs.rules.Class as Class
 use Rattle.elements.specs.rules.Characters.{type_character, id_character, uri_character, character_of}
 use Rattle.syntax.specs.rules.Expression.{Expr, symbol, quoted, list, Exprs, none, and, place}
@@ -28,6 +31,7 @@ use Rattle.reader.specs.internal.Tape.{Tape, value_place, key_noted, type_noted,
 use Rattle.reader.specs.internal.ParameterValue.{holds_sort, held_bytes, Alone, Holds, Notes}
 use Rattle.reader.specs.internal.WalkAnswer.{Walked}
 use Rattle.reader.specs.declared.value.One.{One}
+use Rattle.reader.specs.declared.walk.Refused.{Refused}
 use Rattle.reader.proofs.lemmas.walk.FirstToken.{symbol_here, string_here}
 use Rattle.reader.proofs.lemmas.walk.SeenExpressions.{SeenAs, saw_end, saw_symbol, saw_string, saw_list, look_stands, seen_bounds}
 use Rattle.reader.proofs.lemmas.walk.OneTurn.{Looked, seen_forward, seen_within}
@@ -285,7 +289,11 @@ no_value : (k c : ℕ) → is_value k c [] ≡ false
 unfolding is_value non_empty
 no_value k c = refl
 
--- A value that is refused.
+-- A value that is not there is refused.
+pub not_there : {X A : Type 0} (o : Option X) {r : Result A Refused} {f g : Refused} → IsErrAnd r (λ (h : Refused). h ≡ g) → Err g ≡ ok_or o f → o ≡ None
+    → r ≡ Err f
+not_there o {r} is e h = let p = err_from_is_err_and r is in cc (p.1, p.2, rw h at e)
+
 pub refused_within : (s : List ℕ) (i at : ℕ) → Bounded s i (walked_to 0 0 0 (fault 10 at))
 unfolding walked_to
 refused_within s i at = record { bounds = λ e. absurd (omega (arith, e)) }

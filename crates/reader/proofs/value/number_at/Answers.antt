@@ -1,4 +1,5 @@
 -- `number_at` meets its contract: each way out is one law of `SizeValues`.
+use native.Mathlib.Omega.{arith}
 use mathlib.Core.Logic.{⊎_elim}
 use Rattle.reader.proofs.lemmas.value.SizeValues.{read_other, read_stuck, read_within, read_unfit, read_number}
 use Rattle.reader.proofs.value.number_at.Goals as goal
@@ -12,10 +13,15 @@ pub decimal-requires : goal.decimal-requires
 decimal-requires c = read_within _ _ c.look-seen.ensures c.requires c.if-seen-ne-A_SYMBOL.false c.if-next-from.false
 
 pub returns-in_err-number : goal.returns-in_err-number
-returns-in_err-number c = ?
+returns-in_err-number c =
+    rw c.from_residual.ensures
+    (read_unfit _ _ c.look-seen.ensures c.requires c.if-seen-ne-A_SYMBOL.false c.if-next-from.false c.in_err-number.ensures (omega arith))
 
 pub returns-then-number-gt-MOST_NUMBER : goal.returns-then-number-gt-MOST_NUMBER
-returns-then-number-gt-MOST_NUMBER c = ?
+returns-then-number-gt-MOST_NUMBER c =
+    read_unfit _ _ c.look-seen.ensures c.requires c.if-seen-ne-A_SYMBOL.false c.if-next-from.false c.in_ok-number.ensures
+    c.if-number-gt-MOST_NUMBER.true
 
 pub returns : goal.returns
-returns c = ?
+returns c = read_number _ _ c.look-seen.ensures c.requires c.if-seen-ne-A_SYMBOL.false c.if-next-from.false c.in_ok-number.ensures
+    c.if-number-gt-MOST_NUMBER.false
