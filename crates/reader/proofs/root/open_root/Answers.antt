@@ -16,7 +16,7 @@ unfolding walked_to
 returns-then-root-ne-DOCUMENT c =
     ⊎_elim
     (λ d. no_document (λ e. omega arith) (λ e. omega arith) (cc))
-    (λ d. stuck (omega (arith, d.1)) (cc))
+    (λ d. stuck (λ e. omega arith) (omega (arith, d.1)) (cc))
     c.then-root-ne-DOCUMENT.either
 
 pub enter-requires : goal.enter-requires
