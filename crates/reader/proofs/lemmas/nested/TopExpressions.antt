@@ -17,7 +17,7 @@ use Rattle.document.specs.reference.Meaning.{Verdict, fine, fault, finish, run, 
 use Rattle.document.specs.reference.Outcome.{judged, is_too_deep, one_expression}
 use Rattle.reader.specs.internal.RunStands.{Has, RunStands}
 use Rattle.reader.specs.internal.Walk.{NamedListFirst, AnswersFrom, Finishes, past_bracket}
-use Rattle.reader.specs.internal.Walks.{RootOpened, RootRefused, no_expression, no_document}
+use Rattle.reader.specs.internal.Walks.{WalkStarts, RootOpened, RootRefused, no_expression, no_document}
 use Rattle.reader.specs.declared.walk.Element.{Element}
 use Rattle.reader.specs.declared.walk.Reached.{Reached}
 use Rattle.reader.specs.internal.FirstExpressions.{first_place, second_place, FirstJudged}
@@ -358,6 +358,12 @@ module _ {s : List ℕ} {w : Walked} where
   root_refused (no_expression z e) = refused_number 7 _ e (omega arith)
   root_refused (no_document some d e) = refused_number 8 _ e (omega arith)
   root_refused (RootRefused.stuck some h e) = refused_number 8 _ e (omega arith)
+
+-- or a walk starts in it,
+pub root_starts : {s : List ℕ} {t z : Tape} {x : Element} {i : Reached} → RootOpened s t z x i → length s ≤ 65536 → WalkStarts s i x.node
+root_starts {s} root long =
+    let b = (seen_bounds s 0 (omega arith)).forward root.is_seen (omega (arith, root.forward, ap (λ (i : Reached). i.place) root.inner)) in
+    rw (root.element, root.inner) (b.1, omega (arith, b), omega arith, long, omega arith)
 
 -- or w is the walk's answer in it, and r that past the closing bracket. The root's node is entered before the walk, and left after it.
 module _ {s : List ℕ} {t t₁ t₂ : Tape} {x : Element} {i : Reached} (root : RootOpened s t t₁ x i) {w r : Walked}
