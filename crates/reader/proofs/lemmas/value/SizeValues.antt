@@ -17,16 +17,17 @@ use Rattle.characters.proofs.Symbols.{run_part}
 use Rattle.document.specs.rules.Value.{is_size, is_decimal, non_empty}
 use Rattle.document.specs.rules.Document.{width_or, height_or}
 use Rattle.document.specs.reference.RulesTest.{keeps_rules}
-use Rattle.document.specs.reference.Meaning.{number_of, symbol_bytes, size_tree, judge_value, fault}
+use Rattle.document.specs.reference.Meaning.{number_of, symbol_bytes, size_tree, judge_value}
 use Rattle.reader.specs.internal.RunStands.{RunStands}
-use Rattle.reader.specs.internal.WalkAnswer.{walked_to, Bounded}
+use Rattle.std.specs.Prelude.{Ok, Err}
+use Rattle.reader.specs.internal.WalkAnswer.{told, walked_to, Bounded}
 use Rattle.reader.specs.internal.Tape.{Tape, size_noted, noted}
 use Rattle.reader.specs.internal.ParameterValue.{BeginsWithNumber, Begins, Unfit, Notes}
 use Rattle.reader.specs.internal.WalkAnswer.{Walked}
 use Rattle.reader.specs.declared.value.Number.{Number}
 use Rattle.reader.proofs.lemmas.walk.SeenExpressions.{SeenAs, saw_end, saw_symbol, saw_string, saw_list, look_stands, seen_bounds}
 use Rattle.reader.proofs.lemmas.walk.OneTurn.{Looked, seen_within}
-use Rattle.reader.proofs.lemmas.value.TextValues.{stuck, seen_ends, seen_more, refused_within, refused_as_lem, refused_notes}
+use Rattle.reader.proofs.lemmas.value.TextValues.{stuck, seen_ends, seen_more, malformed, refused_as}
 
 -- ---- the bytes of a symbol
 
@@ -134,35 +135,27 @@ unfit_third : (k : ℕ) (e e' e'' : Expr) (es : Exprs) → keeps_rules k (size_t
 unfolding keeps_rules size_tree is_size
 unfit_third k e e' e'' es = refl
 
--- The two numbers are noted.
-size_notes : (t z : Tape) (node a b : ℕ) (e e' : Expr) → number_of e ≡ a → number_of e' ≡ b → z ≡ size_noted t node a b
-    → z ≡ noted t node 29 (and e (and e' none))
-unfolding noted size_tree width_or height_or
-size_notes t z node a b e e' f g h = rw (f, g) h
+-- w is the answer of a size in an element of kind k, whatever stands from place i on.
+abbrev pub SizeJudged : List ℕ → ℕ → ℕ → ℕ → ℕ → ℕ → Walked → Type 0
+SizeJudged s i at k n p w = (es : Exprs) (m : ℕ) → RunStands s i es m → w ≡ walked_to m n p (judge_value k at (size_tree es))
 
--- Whatever stands from place i on, r is the answer of a size in an element of kind k, and z the tape t with the size.
-abbrev pub SizeAnswers : List ℕ → ℕ → ℕ → ℕ → ℕ → ℕ → ℕ → Tape → Walked → Tape → Type 0
-SizeAnswers s at i k n p node t r z =
-    Bounded s i r × (((es : Exprs) (m : ℕ) → RunStands s i es m → r ≡ walked_to m n p (judge_value k at (size_tree es))) × Notes s i 29 node t r z)
-
-module _ {s : List ℕ} {i node : ℕ} {t z : Tape} (at k n p : ℕ) where
-  size_bad : ((es : Exprs) (m : ℕ) → RunStands s i es m → keeps_rules k (size_tree es) ≡ false)
-      → SizeAnswers s at i k n p node t (walked_to 0 0 0 (fault 10 at)) z
+module _ {s : List ℕ} {i : ℕ} (at k n p : ℕ) where
+  size_bad : ((es : Exprs) (m : ℕ) → RunStands s i es m → keeps_rules k (size_tree es) ≡ false) → SizeJudged s i at k n p (told (Err (malformed at)))
   unfolding judge_value
-  size_bad h = (refused_within s i at, (λ es m u. rw (h es m u) (refused_as_lem at m n p), refused_notes s i 29 node at t z))
+  size_bad h es m u = rw (h es m u) (refused_as at m n p)
 
-  pub size_unfit : BeginsUnfit s i → SizeAnswers s at i k n p node t (walked_to 0 0 0 (fault 10 at)) z
-  size_unfit f = size_bad (λ es m t. unfit_width k es (f es m t))
+  pub size_unfit : BeginsUnfit s i → SizeJudged s i at k n p (told (Err (malformed at)))
+  size_unfit f = size_bad (λ es m u. unfit_width k es (f es m u))
 
   module _ {w : Number} (width : Begins s i w) where
-    pub size_unfit_height : BeginsUnfit s w.next → SizeAnswers s at i k n p node t (walked_to 0 0 0 (fault 10 at)) z
+    pub size_unfit_height : BeginsUnfit s w.next → SizeJudged s i at k n p (told (Err (malformed at)))
     size_unfit_height f =
-        size_bad (λ es m t.
-        let x = width.begins es m t in
+        size_bad (λ es m u.
+        let x = width.begins es m u in
         rw x.made (unfit_height k x.first x.others (f x.others m x.stands)))
 
     module _ {h : Number} (height : Begins s w.next h) {sort q c j l : ℕ} (last : Looked s h.next sort q c j l) where
-      pub size_unfit_third : (sort ≡ 0 → ⊥) → SizeAnswers s at i k n p node t (walked_to 0 0 0 (fault 10 at)) z
+      pub size_unfit_third : (sort ≡ 0 → ⊥) → SizeJudged s i at k n p (told (Err (malformed at)))
       size_unfit_third y =
           size_bad (λ es m u.
           let x = width.begins es m u in
@@ -170,24 +163,28 @@ module _ {s : List ℕ} {i node : ℕ} {t z : Tape} (at k n p : ℕ) where
           let (e, others, made) = seen_more (look_stands s h.next m v.others v.stands) (λ e. y (last.0 ∙ e)) in
           rw (x.made, v.made, made) (unfit_third k x.first v.first e others))
 
-      pub size_good : sort ≡ 0 → n ≤ i → p ≤ i → (length t ≡ 4096 → z ≡ size_noted t node w.number h.number)
-          → SizeAnswers s at i k n p node t (record { number = 0; place = 0; next = q; nodes = n; pool = p }) z
+      pub size_good : sort ≡ 0 → SizeJudged s i at k n p (told (Ok (record { place = q; nodes = n; pool = p })))
       unfolding walked_to judge_value
-      size_good y nodes pool stored =
-          let d = seen_bounds s h.next height.within.1 in (
-            record { bounds = λ e. omega (arith, width.within, height.within, d.place_from, d.place_within, last.1) },
-            (
-              λ es m u.
-                  let x = width.begins es m u in
-                  let v = height.begins x.others m x.stands in
-                  let (made, ends) = seen_ends (look_stands s h.next m v.others v.stands) (sym last.0 ∙ y) in
-                  rw (x.made, v.made, made, small_size k x.first v.first (omega (arith, x.is, width.small)) (omega (arith, v.is, height.small)), last.1, ends),
-              record {
-                notes = λ es m u e full.
-                    let x = width.begins es m u in
-                    let v = height.begins x.others m x.stands in
-                    let (made, ends) = seen_ends (look_stands s h.next m v.others v.stands) (sym last.0 ∙ y) in
-                    rw (x.made, v.made, made) (size_notes t z node w.number h.number x.first v.first x.is v.is (stored full));
-              },
-            ),
-          )
+      size_good y es m u =
+          let x = width.begins es m u in
+          let v = height.begins x.others m x.stands in
+          let (made, ends) = seen_ends (look_stands s h.next m v.others v.stands) (sym last.0 ∙ y) in
+          rw (x.made, v.made, made, small_size k x.first v.first (omega (arith, x.is, width.small)) (omega (arith, v.is, height.small)), last.1, ends)
+
+module _ {s : List ℕ} {i : ℕ} {w h : Number} (width : Begins s i w) (height : Begins s w.next h) {sort q c j l : ℕ} (last : Looked s h.next sort q c j l) where
+  pub size_within : {n p : ℕ} → n ≤ i → p ≤ i → Bounded s i (told (Ok (record { place = q; nodes = n; pool = p })))
+  size_within nodes pool =
+      let d = seen_bounds s h.next height.within.1 in
+      record { bounds = λ e. omega (arith, width.within, height.within, d.place_from, d.place_within, last.1) }
+
+  -- The two numbers are noted.
+  pub size_notes : {node : ℕ} {t z : Tape} {r : Walked} → sort ≡ 0 → (length t ≡ 4096 → z ≡ size_noted t node w.number h.number) → Notes s i 29 node t r z
+  unfolding noted size_tree width_or height_or
+  size_notes y stored =
+      record {
+        notes = λ es m u e full.
+            let x = width.begins es m u in
+            let v = height.begins x.others m x.stands in
+            let (made, ends) = seen_ends (look_stands s h.next m v.others v.stands) (sym last.0 ∙ y) in
+            rw (x.made, v.made, made, x.is, v.is) (stored full);
+      }

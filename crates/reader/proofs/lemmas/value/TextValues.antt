@@ -8,7 +8,7 @@ use lib.Dec.{eqb}
 use lib.ListN.{length, drop, length-append}
 use native.Mathlib.Nat.{add-zero}
 use borrow.Author.Tests.{ne_eqb, eqb-true, eqb-false, not-true, not-false}
-use Rattle.std.specs.Prelude.{Option, None, Result, Err, IsErrAnd}
+use Rattle.std.specs.Prelude.{Option, None, Result, Ok, Err, IsErrAnd}
 use Rattle.std.specs.Option.{ok_or}
 use Rattle.std.proofs.lemmas.Result.{err_from_is_err_and}
 use Rattle.base.proofs.Booleans.{bool_case, and_true, and_false}
@@ -26,12 +26,13 @@ use Rattle.document.specs.reference.RulesTest.{keeps_rules}
 use Rattle.document.specs.reference.Meaning.{only_one, text_bytes, symbol_bytes, size_tree, value_tree, judge_value, fine, fault}
 use Rattle.reader.specs.internal.RunStands.{RunStands, ended, after_blank, after_line_end, a_symbol, a_string, a_list}
 use Rattle.reader.specs.internal.Counts.{value_size}
-use Rattle.reader.specs.internal.WalkAnswer.{walked_to, Bounded}
+use Rattle.reader.specs.internal.WalkAnswer.{told, walked_to}
 use Rattle.reader.specs.internal.Tape.{Tape, value_place, key_noted, type_noted, noted}
 use Rattle.reader.specs.internal.ParameterValue.{holds_sort, held_bytes, Alone, Holds, Notes}
 use Rattle.reader.specs.internal.WalkAnswer.{Walked}
 use Rattle.reader.specs.declared.value.One.{One}
 use Rattle.reader.specs.declared.walk.Refused.{Refused}
+use Rattle.base.specs.declared.refusal.Refusal.TheVariants.{Malformed}
 use Rattle.reader.proofs.lemmas.walk.FirstToken.{symbol_here, string_here}
 use Rattle.reader.proofs.lemmas.walk.SeenExpressions.{SeenAs, saw_end, saw_symbol, saw_string, saw_list, look_stands, seen_bounds}
 use Rattle.reader.proofs.lemmas.walk.OneTurn.{Looked, seen_forward, seen_within}
@@ -289,80 +290,52 @@ no_value : (k c : ℕ) → is_value k c [] ≡ false
 unfolding is_value non_empty
 no_value k c = refl
 
+-- What refuses a parameter's list at `at`.
+abbrev pub malformed : ℕ → Refused
+malformed at = record { refusal = Malformed; place = at }
+
 -- A value that is not there is refused.
-pub not_there : {X A : Type 0} (o : Option X) {r : Result A Refused} {f g : Refused} → IsErrAnd r (λ (h : Refused). h ≡ g) → Err g ≡ ok_or o f → o ≡ None
-    → r ≡ Err f
+pub not_there : {X A : Type 0} (o : Option X) {r : Result A Refused} {at : ℕ} {f : Refused} → IsErrAnd r (λ (g : Refused). g ≡ f)
+    → Err f ≡ ok_or o (malformed at) → o ≡ None → r ≡ Err (malformed at)
 not_there o {r} is e h = let p = err_from_is_err_and r is in cc (p.1, p.2, rw h at e)
 
-pub refused_within : (s : List ℕ) (i at : ℕ) → Bounded s i (walked_to 0 0 0 (fault 10 at))
+pub refused_as : (at m n p : ℕ) → told (Err (malformed at)) ≡ walked_to m n p (fault 10 at)
 unfolding walked_to
-refused_within s i at = record { bounds = λ e. absurd (omega (arith, e)) }
+refused_as at m n p = refl
 
-pub refused_as_lem : (at m n p : ℕ) → walked_to 0 0 0 (fault 10 at) ≡ walked_to m n p (fault 10 at)
-unfolding walked_to
-refused_as_lem at m n p = refl
+-- w is the answer of the value of a parameter of class c in an element of kind k, whatever stands from place i on.
+abbrev pub ValueJudged : List ℕ → ℕ → ℕ → ℕ → ℕ → ℕ → ℕ → Walked → Type 0
+ValueJudged s i at k c n p w =
+    (es : Exprs) (m : ℕ) → RunStands s i es m → w ≡ walked_to m n (p + value_size c es) (judge_value k at (value_tree c es))
 
--- A refused value is noted nowhere.
-pub refused_notes : (s : List ℕ) (i c node at : ℕ) (t z : Tape) → Notes s i c node t (walked_to 0 0 0 (fault 10 at)) z
-unfolding walked_to
-refused_notes s i c node at t z = record { notes = λ es m u h full. absurd (omega (arith, h)) }
-
--- The place of what a parameter holds is noted.
-held_notes : (t z : Tape) (node c q : ℕ) (es : Exprs) → (c ≡ 29 → ⊥) → value_place es ≡ q
-    → z ≡ cond (eqb c Class.type) (type_noted t node q) (key_noted t node q) → z ≡ noted t node c es
-unfolding noted
-held_notes t z node c q es h f g = rw (ne_eqb c 29 h, f) g
-
--- Whatever stands from place i on, r is the answer of the value of a parameter of class c in an element of kind k, and z the tape t with the value.
-abbrev pub ValueAnswers : List ℕ → ℕ → ℕ → ℕ → ℕ → ℕ → ℕ → ℕ → Tape → Walked → Tape → Type 0
-ValueAnswers s at i k c n p node t r z =
-    Bounded s i r × (((es : Exprs) (m : ℕ) → RunStands s i es m → r ≡ walked_to m n (p + value_size c es) (judge_value k at (value_tree c es)))
-    × Notes s i c node t r z)
-
-module _ {s : List ℕ} {i c node : ℕ} {t z : Tape} (at k n p : ℕ) where
-  pub value_size_lem : c ≡ 29 → {r : Walked}
-      → Bounded s i r × (((es : Exprs) (m : ℕ) → RunStands s i es m → r ≡ walked_to m n p (judge_value k at (size_tree es))) × Notes s i 29 node t r z)
-      → ValueAnswers s at i k c n p node t r z
+module _ {s : List ℕ} {i c : ℕ} (at k n p : ℕ) where
+  pub size_judged : c ≡ 29 → {w : Walked} → ((es : Exprs) (m : ℕ) → RunStands s i es m → w ≡ walked_to m n p (judge_value k at (size_tree es)))
+      → ValueJudged s i at k c n p w
   unfolding value_size value_tree key_of type_of
-  value_size_lem h (bounded, (answers, notes)) =
-      (bounded, (λ es m u. let (x, y, made) = size_tree_lem es in rw (h, made, add-zero p) (rw made at (answers es m u)), rw h notes))
+  size_judged h judged es m u = let (x, y, made) = size_tree_lem es in rw (h, made, add-zero p) (rw made at (judged es m u))
 
   module _ (h : c ≡ 29 → ⊥) where
-    pub value_nothing : HoldsNone s i c → ValueAnswers s at i k c n p node t (walked_to 0 0 0 (fault 10 at)) z
-    value_nothing nothing = (
-      refused_within s i at,
-      (
-        λ es m u. rw (value_judged k at c es h, nothing es m u, no_value k c) (refused_as_lem at m n (p + value_size c es)),
-        refused_notes s i c node at t z,
-      ),
-    )
+    pub value_nothing : HoldsNone s i c → ValueJudged s i at k c n p (told (Err (malformed at)))
+    value_nothing nothing es m u = rw (value_judged k at c es h, nothing es m u, no_value k c) (refused_as at m n (p + value_size c es))
 
-    module _ {o : One} (holds : Holds s i c o) where
-      pub value_bad : {r : Bool} → r ≡ false → non_empty (atom_value (drop o.place s)) && r ≡ is_value k c (atom_value (drop o.place s))
-          → ValueAnswers s at i k c n p node t (walked_to 0 0 0 (fault 10 at)) z
-      value_bad e f = (
-        refused_within s i at,
-        (
-          λ es m u.
-              let v = atom_value (drop o.place s) in
-              let bad : is_value k c v ≡ false = sym f ∙ rw e (and_false (non_empty v)) in
-              rw (value_judged k at c es h, (holds.alone es m u).bytes, bad) (refused_as_lem at m n (p + value_size c es)),
-          refused_notes s i c node at t z,
-        ),
-      )
+    module _ {o : One} (holds : Holds s i c o) {r : Bool}
+        (fits : non_empty (atom_value (drop o.place s)) && r ≡ is_value k c (atom_value (drop o.place s))) where
+      pub value_bad : r ≡ false → ValueJudged s i at k c n p (told (Err (malformed at)))
+      value_bad e es m u =
+          let v = atom_value (drop o.place s) in
+          let bad : is_value k c v ≡ false = sym fits ∙ rw e (and_false (non_empty v)) in
+          rw (value_judged k at c es h, (holds.alone es m u).bytes, bad) (refused_as at m n (p + value_size c es))
 
-      pub value_good : {r : Bool} → r ≡ true → non_empty (atom_value (drop o.place s)) && r ≡ is_value k c (atom_value (drop o.place s))
-          → n ≤ i → p ≤ i → (length t ≡ 4096 → z ≡ cond (eqb c Class.type) (type_noted t node o.place) (key_noted t node o.place))
-          → ValueAnswers s at i k c n p node t (record { number = 0; place = 0; next = o.end; nodes = n; pool = p + o.length }) z
+      pub value_good : r ≡ true → ValueJudged s i at k c n p (told (Ok (record { place = o.end; nodes = n; pool = p + o.length })))
       unfolding walked_to
-      value_good e f nodes pool stored = (
-        record { bounds = λ z. omega (arith, holds.within) },
-        (
-          λ es m u.
-              let v = atom_value (drop o.place s) in
-              let a = holds.alone es m u in
-              let good : is_value k c v ≡ true = sym f ∙ rw (e, some_non_empty v a.some) in
-              rw (value_judged k at c es h, value_long c es h, a.bytes, good, a.long, a.ends),
-          record { notes = λ es m u y full. held_notes t z node c o.place es h (holds.alone es m u).placed (stored full) },
-        ),
-      )
+      value_good e es m u =
+          let v = atom_value (drop o.place s) in
+          let a = holds.alone es m u in
+          let good : is_value k c v ≡ true = sym fits ∙ rw (e, some_non_empty v a.some) in
+          rw (value_judged k at c es h, value_long c es h, a.bytes, good, a.long, a.ends)
+
+-- The place of what a parameter holds is noted.
+pub value_noted : {s : List ℕ} {i c node : ℕ} {t z : Tape} {w : Walked} {o : One} → (c ≡ 29 → ⊥) → Holds s i c o
+    → (length t ≡ 4096 → z ≡ cond (eqb c Class.type) (type_noted t node o.place) (key_noted t node o.place)) → Notes s i c node t w z
+unfolding noted
+value_noted {c = c} h holds stored = record { notes = λ es m u y full. rw (ne_eqb c 29 h, (holds.alone es m u).placed) (stored full) }
