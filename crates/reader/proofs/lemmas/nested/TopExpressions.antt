@@ -28,6 +28,7 @@ use Rattle.reader.specs.internal.WalkAnswer.{Walked}
 use Rattle.reader.proofs.lemmas.walk.SeenExpressions.{seen_bounds, SeenAs, saw_end, saw_symbol, saw_string, saw_list, look_stands, stands_within}
 use Rattle.reader.proofs.lemmas.walk.OneTurn.{Looked}
 use Rattle.reader.proofs.lemmas.tape.AfterWalk.{element_tape_lem, taped_element}
+use Rattle.reader.proofs.lemmas.value.TextValues.{seen_ends}
 use Rattle.reader.proofs.lemmas.walk.LoopInvariant.{past_none, nodes_counted, to_start}
 use Rattle.reader.proofs.lemmas.commands.BlockLoops.{past_by}
 
@@ -59,12 +60,6 @@ record AtomFirst (s : List ℕ) (j : ℕ) (es : Exprs) (e : ℕ) : Type 0 where
   goes_on : RunStands s j others e
 
 module _ {s : List ℕ} {r : Seen} where
-  seen_end_lem : {es : Exprs} {e : ℕ} → SeenAs s r es e → r.sort ≡ 0 → (es ≡ none) × (r.place ≡ e)
-  seen_end_lem (saw_end h) z = (refl, refl)
-  seen_end_lem (saw_symbol h c l f t) z = let w : ◌≡◌ {A = ℕ} 0 1 = cc in absurd (omega arith)
-  seen_end_lem (saw_string h c l f t) z = let w : ◌≡◌ {A = ℕ} 0 1 = cc in absurd (omega arith)
-  seen_end_lem (saw_list x h c f t d b u) z = let w : ◌≡◌ {A = ℕ} 0 1 = cc in absurd (omega arith)
-
   seen_first_lem : {es : Exprs} {e : ℕ} → SeenAs s r es e → (r.sort ≡ 0 → ⊥) → FirstExpression r.place r.class es × (r.place < r.next)
   unfolding place expr_class
   seen_first_lem (saw_end h) z = absurd (z h)
@@ -111,7 +106,7 @@ module _ {s : List ℕ} {r : Seen} where
 -- The same, of what was looked at.
 module _ {s : List ℕ} {i sort q c j l : ℕ} (looked : Looked s i sort q c j l) where
   pub looked_end : {es : Exprs} {e : ℕ} → RunStands s i es e → sort ≡ 0 → (es ≡ none) × (q ≡ e)
-  looked_end {es} {e} t z = let r = seen_end_lem (look_stands s i e es t) (sym looked.0 ∙ z) in (r.0, looked.1 ∙ r.1)
+  looked_end {es} {e} t z = let r = seen_ends (look_stands s i e es t) (sym looked.0 ∙ z) in (r.0, looked.1 ∙ r.1)
 
   pub looked_first : {es : Exprs} {e : ℕ} → RunStands s i es e → (sort ≡ 0 → ⊥) → FirstExpression q c es × (q < j)
   looked_first {es} {e} t z = rw (looked.1, looked.2, looked.3) (seen_first_lem (look_stands s i e es t) (λ h. z (looked.0 ∙ h)))
@@ -381,8 +376,11 @@ module _ {s : List ℕ} {t t₁ t₂ : Tape} {x : Element} {i : Reached} (root :
       let e = past_by walked.0 past o.end (1 + node_count_in o.rest) (0 + pool_bytes_in o.rest) _ (walked.1.0 o.rest o.end o.follows)
       o.closed.inside forward in
       rw o.made (
-        rw (judge_document (seen 0 s).place o.lead o.rest named, document_nodes (seen 0 s).place o.lead o.rest named,
-        document_bytes (seen 0 s).place o.lead o.rest named)
+        rw (
+          judge_document (seen 0 s).place o.lead o.rest named,
+          document_nodes (seen 0 s).place o.lead o.rest named,
+          document_bytes (seen 0 s).place o.lead o.rest named,
+        )
             e.0,
         λ z. rw (e.1 z) o.goes_on,
       )
