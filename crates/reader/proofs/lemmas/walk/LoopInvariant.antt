@@ -21,7 +21,7 @@ use Rattle.document.specs.reference.Meaning.{Verdict, fine, fault, finish, run, 
 use Rattle.reader.specs.internal.RunStands.{RunStands}
 use Rattle.reader.specs.internal.Counts.{node_count, node_count_in, pool_bytes, pool_bytes_in, value_size}
 use Rattle.reader.specs.internal.WalkAnswer.{walked_to, Bounded, PoolBound}
-use Rattle.reader.specs.internal.Tape.{Tape, entered, left, taped}
+use Rattle.reader.specs.internal.Tape.{entered, left, taped}
 use Rattle.reader.specs.internal.ParameterValue.{Notes}
 use Rattle.reader.specs.internal.Walk.{run_answer, AnswersFrom, Finishes, Remaining, Goes, NamedListFirst, TakesList, TakesAtom, JudgesList, verdict_of, past_bracket}
 use Rattle.reader.specs.internal.WalkAnswer.{Walked}
@@ -30,14 +30,14 @@ use Rattle.reader.proofs.lemmas.tape.AfterWalk.{kept_full, taped_first, element_
 use Rattle.reader.proofs.lemmas.walk.OneTurn.{run_fine, run_fault}
 
 -- The invariant: the walk that began at `from` has got to i, and the tape t₀ is t.
-pub record Walking (s : List ℕ) (at k node from nodes pool : ℕ) (t₀ : Tape) (i st n p : ℕ) (t : Tape) : Type 0 where
+pub record Walking (s : List ℕ) (at k node from nodes pool : ℕ) (t₀ : List ℕ) (i st n p : ℕ) (t : List ℕ) : Type 0 where
   pub forward : from ≤ i
   pub within : i ≤ length s
   pub nodes_within : n ≤ i
   pub pool_within : PoolBound p i
   pub goes : Goes s at k from 0 nodes pool node t₀ i st n p t
 
-pub begun : {s : List ℕ} {t : Tape} {at k node from nodes pool : ℕ} → from ≤ length s → nodes ≤ from → pool ≤ from
+pub begun : {s t : List ℕ} {at k node from nodes pool : ℕ} → from ≤ length s → nodes ≤ from → pool ≤ from
     → Walking s at k node from nodes pool t from 0 nodes pool t
 begun h a b =
     record {
@@ -49,7 +49,7 @@ begun h a b =
     }
 
 -- The answer from where a walk has got to is the answer of the walk.
-pub answered : {s : List ℕ} {t₀ t z : Tape} {at k node from nodes pool i st n p : ℕ} {w : Walked} → Walking s at k node from nodes pool t₀ i st n p t
+pub answered : {s t₀ t z : List ℕ} {at k node from nodes pool i st n p : ℕ} {w : Walked} → Walking s at k node from nodes pool t₀ i st n p t
     → Bounded s i w × AnswersFrom s at k i st n p node t z w → Bounded s from w × AnswersFrom s at k from 0 nodes pool node t₀ z w
 answered {t₀ = t₀} {t = t} {node = node} {nodes = nodes} {n = n} v a = (
   record { bounds = λ y. omega (arith, a.0.bounds y, v.forward) },
@@ -63,7 +63,7 @@ answered {t₀ = t₀} {t = t} {node = node} {nodes = nodes} {n = n} v a = (
 )
 
 -- A walk goes on.
-gone_on : {s : List ℕ} {t₀ t t' : Tape} {at k node from nodes pool i st n p j st' n' p' : ℕ} → Walking s at k node from nodes pool t₀ i st n p t
+gone_on : {s t₀ t t' : List ℕ} {at k node from nodes pool i st n p j st' n' p' : ℕ} → Walking s at k node from nodes pool t₀ i st n p t
     → (i < j) × (j ≤ length s) × (n' ≤ j) × (p' ≤ j) → Goes s at k i st n p node t j st' n' p' t'
     → Walking s at k node from nodes pool t₀ j st' n' p' t'
 gone_on {t₀ = t₀} {t = t} {node = node} {nodes = nodes} {n = n} v b h =
@@ -86,7 +86,7 @@ gone_on {t₀ = t₀} {t = t} {node = node} {nodes = nodes} {n = n} v b h =
     }
 
 -- It goes on after a symbol or string.
-pub passed : {s : List ℕ} {t₀ t t' : Tape} {at k node from nodes pool i st n p j st' n' p' : ℕ} → Walking s at k node from nodes pool t₀ i st n p t
+pub passed : {s t₀ t t' : List ℕ} {at k node from nodes pool i st n p j st' n' p' : ℕ} → Walking s at k node from nodes pool t₀ i st n p t
     → ((i < j) × (j ≤ length s) × (n' ≤ j) × (p' ≤ j)) × TakesAtom s at k i st n p node t j st' n' p' t'
     → Walking s at k node from nodes pool t₀ j st' n' p' t'
 passed v u = gone_on v u.0 u.1.goes
@@ -117,13 +117,13 @@ unfolding walked_to
 nodes_counted e n p fine b h g y = ap (λ (w : Walked). w.nodes) g
 nodes_counted e n p (fault f q) b h g y = absurd (omega (arith, b.bounds y, ap (λ (w : Walked). w.next) g))
 
-pub to_start : {s : List ℕ} {t z : Tape} {at k i n p node : ℕ} {w : Walked} → Bounded s i w × AnswersFrom s at k i 0 n p node t z w
+pub to_start : {s t z : List ℕ} {at k i n p node : ℕ} {w : Walked} → Bounded s i w × AnswersFrom s at k i 0 n p node t z w
     → Bounded s i w × Finishes s at k i n p node t z w
 unfolding run_answer
 to_start {k = k} h = (h.0, (λ es e u. h.1.answers es e u ∙ rw (start_state k), h.1.tapes))
 
 -- An element's answer is that of the list that it is. Its node is entered before its content is walked, and left after it.
-pub element_judges : {s : List ℕ} {t t₁ t₂ z : Tape} {at k c j n p node : ℕ} {w : Walked} → is_element c ≡ true → 0 < j
+pub element_judges : {s t t₁ t₂ z : List ℕ} {at k c j n p node : ℕ} {w : Walked} → is_element c ≡ true → 0 < j
     → Bounded s j w × Finishes s at c j (n + 1) p n t₁ t₂ w → (length t ≡ 4096 → t₁ ≡ entered t n at c node 0)
     → (w.number ≡ 0 → length t₂ ≡ 4096 → z ≡ left t₂ n w.nodes) → Bounded s j w × JudgesList s at j k c n p node t z w
 unfolding verdict_of
@@ -138,14 +138,14 @@ element_judges {t = t} {t₁ = t₁} {t₂ = t₂} {z = z} {at = at} {c = c} {n 
   },
 )
 
-pub item_judges : {s : List ℕ} {t t₁ t₂ z : Tape} {at k c j n p node : ℕ} {w : Walked} → c ≡ 18 → 0 < j
+pub item_judges : {s t t₁ t₂ z : List ℕ} {at k c j n p node : ℕ} {w : Walked} → c ≡ 18 → 0 < j
     → Bounded s j w × AnswersFrom s at 18 j 0 (n + 1) p n t₁ t₂ w
     → (length t ≡ 4096 → t₁ ≡ entered t n at 18 node 0) → (w.number ≡ 0 → length t₂ ≡ 4096 → z ≡ left t₂ n w.nodes)
     → Bounded s j w × JudgesList s at j k c n p node t z w
 unfolding is_element Class.is_kind
 item_judges e some h before after = rw e (element_judges refl some (to_start h) before after)
 
-pub list_judges : {s : List ℕ} {t t₁ t₂ z : Tape} {at k c j n p node : ℕ} {w : Walked} → IsList c → 0 < j
+pub list_judges : {s t t₁ t₂ z : List ℕ} {at k c j n p node : ℕ} {w : Walked} → IsList c → 0 < j
     → Bounded s j w × AnswersFrom s at c j 0 (n + 1) p n t₁ t₂ w
     → (length t ≡ 4096 → t₁ ≡ entered t n at c node 0) → (w.number ≡ 0 → length t₂ ≡ 4096 → z ≡ left t₂ n w.nodes)
     → Bounded s j w × JudgesList s at j k c n p node t z w
@@ -153,7 +153,7 @@ unfolding is_element Class.is_kind
 list_judges l some h before after = element_judges (⊎_elim (λ e. rw e) (λ e. rw e) l) some (to_start h) before after
 
 -- And so is a value's.
-pub value_judges : {s : List ℕ} {t z : Tape} {at k c j n p node : ℕ} {w : Walked} → is_element c ≡ false
+pub value_judges : {s t z : List ℕ} {at k c j n p node : ℕ} {w : Walked} → is_element c ≡ false
     → Bounded s j w × (((es : Exprs) (m : ℕ) → RunStands s j es m → w ≡ walked_to m n (p + value_size c es) (judge_value k at (value_tree c es)))
     × Notes s j c node t w z)
     → Bounded s j w × JudgesList s at j k c n p node t z w
@@ -164,7 +164,7 @@ value_judges {n = n} e h = (
 )
 
 -- A list that is taken, in a walk that has got to i: w is its answer, r that past its closing bracket, and t' the tape with it.
-module _ {s : List ℕ} {t₀ t t₁ t' : Tape} {at k node from nodes pool i st n p place c j st' : ℕ} {w r : Walked}
+module _ {s t₀ t t₁ t' : List ℕ} {at k node from nodes pool i st n p place c j st' : ℕ} {w r : Walked}
     (walking : Walking s at k node from nodes pool t₀ i st n p t)
     (turn : ((i < j) × (j ≤ length s) × (place ≤ length s)) × (TakesList s k i st place c j st' × (t₁ ≡ t)))
     (child : Bounded s j w × JudgesList s place j k c n p node t₁ t' w)

@@ -22,7 +22,7 @@ use Rattle.document.proofs.RuleClasses.{all_lead, leads, Leading, start_leading,
 use Rattle.document.proofs.ElementSteps.{begun_of, stepped as step-says}
 use Rattle.reader.specs.internal.Counts.{node_count, node_count_in, pool_bytes, pool_bytes_in}
 use Rattle.reader.specs.internal.WalkAnswer.{walked_to, Bounded}
-use Rattle.reader.specs.internal.Tape.{Tape, entered, taped, taped_all}
+use Rattle.reader.specs.internal.Tape.{entered, taped, taped_all}
 use Rattle.reader.specs.internal.Walk.{run_answer, AnswersFrom, Remaining, NamedListFirst, TakesList, StepTakes, TakesAtom}
 use Rattle.reader.proofs.lemmas.walk.SeenExpressions.{seen_bounds, SeenAs, saw_end, saw_symbol, saw_string, saw_list, look_stands}
 
@@ -129,7 +129,7 @@ module _ {s : List ℕ} {r : Seen} where
   seen_forward (saw_string h c l f t) z = f
   seen_forward (saw_list x h c f t d b u) z = f
 
-  pass_atom : (at k st n p node : ℕ) (t : Tape) (st' : ℕ) (t' : Tape) {es : Exprs} {e : ℕ} → SeenAs s r es e → (r.sort ≡ 0 → ⊥)
+  pass_atom : (at k st n p node : ℕ) (t : List ℕ) (st' : ℕ) (t' : List ℕ) {es : Exprs} {e : ℕ} → SeenAs s r es e → (r.sort ≡ 0 → ⊥)
       → (r.sort ≡ 3 → ⊥)
       → StepTakes k st r.class st' → (length t ≡ 4096 → t' ≡ entered t n r.place Class.text node (n + 1))
       → Remaining s at k st n p node t r.next st' (n + 1) (p + r.length) t' es e
@@ -152,7 +152,7 @@ module _ {s : List ℕ} {r : Seen} where
   pass_atom at k st n p node t st' t' (saw_list x h c f u d b v) z a g y = absurd (a h)
 
   -- Nothing stands where nothing is seen, and the tape is as it was.
-  tapes_end : (n node : ℕ) (t : Tape) {es : Exprs} {e : ℕ} → SeenAs s r es e → r.sort ≡ 0 → t ≡ taped_all t n node es
+  tapes_end : (n node : ℕ) (t : List ℕ) {es : Exprs} {e : ℕ} → SeenAs s r es e → r.sort ≡ 0 → t ≡ taped_all t n node es
   unfolding taped_all
   tapes_end n node t (saw_end h) z = refl
   tapes_end n node t (saw_symbol h c l f u) z = let o : ◌≡◌ {A = ℕ} 0 1 = cc in absurd (omega arith)
@@ -195,7 +195,7 @@ seen_within s i looked within some h =
 
 -- The ways through a turn.
 module _ {s : List ℕ} {k i st sort q c j l : ℕ} (looked : Looked s i sort q c j l) (within : i ≤ length s) where
-  pub turn_end : {at n p node : ℕ} {t : Tape} → n ≤ i → p ≤ i → sort ≡ 0
+  pub turn_end : {at n p node : ℕ} {t : List ℕ} → n ≤ i → p ≤ i → sort ≡ 0
       → Bounded s i (walked_to q n p (cond (ended k (state_of k st)) fine (fault 9 at)))
       × AnswersFrom s at k i st n p node t t (walked_to q n p (cond (ended k (state_of k st)) fine (fault 9 at)))
   unfolding walked_to
@@ -211,7 +211,7 @@ module _ {s : List ℕ} {k i st sort q c j l : ℕ} (looked : Looked s i sort q 
       )
 
   -- Nothing is passed: not where expressions stand.
-  pub turn_stuck : {at n p node : ℕ} {t z : Tape} → (sort ≡ 0 → ⊥) → j ≤ i
+  pub turn_stuck : {at n p node : ℕ} {t z : List ℕ} → (sort ≡ 0 → ⊥) → j ≤ i
       → Bounded s i (walked_to 0 0 0 (fault 8 q)) × AnswersFrom s at k i st n p node t z (walked_to 0 0 0 (fault 8 q))
   unfolding walked_to
   turn_stuck some h = (
@@ -225,7 +225,7 @@ module _ {s : List ℕ} {k i st sort q c j l : ℕ} (looked : Looked s i sort q 
 
   -- A step was tried.
   module _ (f st' : ℕ) (step : step_of k f st' ≡ stepped k (state_of k st) c) (some : sort ≡ 0 → ⊥) where
-    pub turn_fault : {at n p node : ℕ} {t z : Tape} → (f ≡ 0 → ⊥)
+    pub turn_fault : {at n p node : ℕ} {t z : List ℕ} → (f ≡ 0 → ⊥)
         → Bounded s i (walked_to 0 0 0 (fault f (cond (eqb f 9) at q)))
         × AnswersFrom s at k i st n p node t z (walked_to 0 0 0 (fault f (cond (eqb f 9) at q)))
     unfolding walked_to
@@ -239,7 +239,7 @@ module _ {s : List ℕ} {k i st sort q c j l : ℕ} (looked : Looked s i sort q 
       },
     )
 
-    pub turn_atom : {at n p node : ℕ} {t t' : Tape} → n ≤ i → p ≤ i → f ≡ 0 → i < j → (sort ≡ 3 → ⊥)
+    pub turn_atom : {at n p node : ℕ} {t t' : List ℕ} → n ≤ i → p ≤ i → f ≡ 0 → i < j → (sort ≡ 3 → ⊥)
         → (length t ≡ 4096 → t' ≡ entered t n q Class.text node (n + 1))
         → ((i < j) × (j ≤ length s) × (n + 1 ≤ j) × (p + l ≤ j)) × TakesAtom s at k i st n p node t j st' (n + 1) (p + l) t'
     turn_atom {at} {n} {p} {node} {t} {t'} nodes pool h v a stored =
