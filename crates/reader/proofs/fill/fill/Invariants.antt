@@ -7,14 +7,11 @@ use Rattle.reader.specs.internal.Filling.{Filling}
 use Rattle.reader.proofs.lemmas.fill.Rows.{rows_of}
 use Rattle.reader.proofs.fill.fill.Given as goal
 
-abbrev pub invariant-loop-k : goal.invariant-loop-k
-invariant-loop-k l = (l.k ≤ l.count)
+abbrev pub invariant-loop-node : goal.invariant-loop-node
+invariant-loop-node l = (l.node ≤ l.count)
     × (length l.nodes ≡ length l.initial.nodes)
     × (length l.places ≡ length l.initial.places)
     × (length l.pool ≡ length l.initial.pool)
-    × (l.b ≤ 2 * most_bytes * l.k)
-    × (◌≡◌ {A = Filling} (record { node = l.k; bytes = l.b; words = l.nodes; places = l.places; pool = l.pool })
-    (rows_of l.text l.tape l.k (record { node = 0; bytes = 0; words = l.initial.nodes; places = l.initial.places; pool = l.initial.pool })))
-
-abbrev pub decreases-loop-k : goal.decreases-loop-k
-decreases-loop-k l = l.count - l.k
+    × (l.bytes ≤ 2 * most_bytes * l.node)
+    × (◌≡◌ {A = Filling} (record { node = l.node; bytes = l.bytes; words = l.nodes; places = l.places; pool = l.pool })
+    (rows_of l.text l.tape l.node (record { node = 0; bytes = 0; words = l.initial.nodes; places = l.initial.places; pool = l.initial.pool })))

@@ -16,7 +16,8 @@ use Rattle.base.specs.rules.Limits.{missing}
 use Rattle.document.specs.rules.Record.{record_length}
 use Rattle.document.specs.rules.Table.{offset}
 use Rattle.reader.specs.declared.tape.Entry.{Entry}
-use Rattle.reader.specs.internal.Filling.{Filling, held_at, with_row, entry_at, text_row, element_row, next_row, Rowed}
+use Rattle.reader.specs.internal.Tape.{Tape, entry_at}
+use Rattle.reader.specs.internal.Filling.{Filling, held_at, with_row, text_row, element_row, next_row, Rowed}
 use Rattle.reader.proofs.lemmas.fill.Stores.{sets_on, offset_is}
 use Rattle.reader.proofs.lemmas.walk.QuotedStrings.{atom_within}
 
@@ -69,7 +70,7 @@ pub next_text : (s : List ℕ) (e : Entry) (a z : Filling) → eqb e.class Class
 next_text s e a z c r = r ∙ sym (text_next s e a c)
 
 -- The first k rows.
-unfoldable pub rows_of : List ℕ → List ℕ → ℕ → Filling → Filling
+unfoldable pub rows_of : List ℕ → Tape → ℕ → Filling → Filling
 rows_of s t zero a = a
 rows_of s t (suc k) a = next_row s (entry_at t (rows_of s t k a).node) (rows_of s t k a)
 
@@ -84,19 +85,19 @@ row_grows s e a =
     cond_case (λ (z : Filling). (z.node ≡ a.node + 1) × (z.bytes ≤ a.bytes + 2 * length s)) (eqb e.class Class.text)
     (λ c. (refl, omega (arith, atom_within s e.place))) (λ c. (refl, omega (arith, held_within s e.key, held_within s e.typename)))
 
-pub rows_node : (s t : List ℕ) (k : ℕ) (a : Filling) → (rows_of s t k a).node ≡ a.node + k
+pub rows_node : (s : List ℕ) (t : Tape) (k : ℕ) (a : Filling) → (rows_of s t k a).node ≡ a.node + k
 unfolding rows_of
 rows_node s t zero a = omega arith
 rows_node s t (suc k) a = omega (arith, (row_grows s (entry_at t (rows_of s t k a).node) (rows_of s t k a)).0, rows_node s t k a)
 
 -- One row more.
-pub rows_on : (s t : List ℕ) (k : ℕ) (a m z : Filling) (e : Entry) → e ≡ entry_at t m.node → m ≡ rows_of s t k a → Rowed (next_row s e) m z
+pub rows_on : (s : List ℕ) (t : Tape) (k : ℕ) (a m z : Filling) (e : Entry) → e ≡ entry_at t m.node → m ≡ rows_of s t k a → Rowed (next_row s e) m z
     → z ≡ rows_of s t (k + 1) a
 unfolding rows_of
 rows_on s t k a m z e ee em r = rw add-one (r ∙ rw (ee, em))
 
 -- Rows after rows.
-pub rows_add : (s t : List ℕ) (j k : ℕ) (a : Filling) → rows_of s t (j + k) a ≡ rows_of s t k (rows_of s t j a)
+pub rows_add : (s : List ℕ) (t : Tape) (j k : ℕ) (a : Filling) → rows_of s t (j + k) a ≡ rows_of s t k (rows_of s t j a)
 unfolding rows_of
 rows_add s t j zero a = rw (add-zero j)
 rows_add s t j (suc k) a =
