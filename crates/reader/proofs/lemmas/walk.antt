@@ -5,4 +5,5 @@ pub mod ListItems
 pub mod LoopInvariant
 pub mod OneTurn
 pub mod QuotedStrings
+pub mod Refusals
 pub mod SeenExpressions
