@@ -1,9 +1,10 @@
 -- The rows of the entries that a walk over fine expressions noted are those of what the expressions say.
-use Prim.Native.Nat.{ℕ, suc, ◌+◌, ◌*◌, ◌≤◌, ◌<◌}
+use Prim.Native.Nat.{ℕ, suc, ◌+◌, ◌≤◌, ◌<◌}
 use mathlib.Core.Path.{◌≡◌, refl, sym, ap, subst, ◌∙◌}
 use mathlib.Core.Bool.{true, false, not}
 use mathlib.Core.List.{List, [], ◌∷◌}
 use native.Mathlib.Omega.{arith}
+use borrow.Author.Tests.{ne_eqb}
 use lib.Dec.{T, eqb, T_not}
 use lib.ListN.{length, drop}
 use lib.Seq.{get_or-set_same}
@@ -21,9 +22,9 @@ use Rattle.document.proofs.BlockExpressions.{EndsFine}
 use Rattle.reader.specs.internal.Counts.{node_count, node_count_of_list, node_count_in}
 use Rattle.reader.specs.declared.tape.Entry.{Entry}
 use Rattle.reader.specs.internal.Tape.{Tape, not_met, entry_at, entered, with_end, left, taped, taped_list, taped_all, Located, LocatedAll}
-use Rattle.reader.specs.internal.Filling.{Filling, with_row, text_row, element_row, next_row}
+use Rattle.reader.specs.internal.Filling.{Filling, held_at, with_row, said_at, next_row}
 use Rattle.reader.proofs.lemmas.fill.SingleValues.{EachFine, element_fine, read_each}
-use Rattle.reader.proofs.lemmas.fill.Rows.{rows_of, rows_node, rows_add}
+use Rattle.reader.proofs.lemmas.fill.Rows.{rows_of, rows_grow, rows_add}
 use Rattle.reader.proofs.lemmas.tape.AfterWalk.{length_taped, length_all, length_entered}
 use Rattle.reader.proofs.lemmas.tape.ChangedEntries.{front, element_tape, left_other, all_other, all_front}
 use Rattle.reader.proofs.lemmas.fill.EntryValues.{HoldsValues, values_noted}
@@ -49,18 +50,12 @@ element_no_text c i = not_T_false (eqb c Class.text) (T_not (eqb c Class.text) (
 abbrev Agrees : Tape → Tape → ℕ → ℕ → Type 0
 Agrees T t n k = (i : ℕ) → n ≤ i → i < n + k → entry_at T i ≡ entry_at t i
 
--- What an entry says of its node, but for its values.
+-- What an entry says of an element, but for its values.
 record Entered (x : Entry) (at c parent end : ℕ) : Type 0 where
   pub place_is : x.place ≡ at
   pub class_is : x.class ≡ c
   pub parent_is : x.parent ≡ parent
   pub end_is : x.end ≡ end
-
-text_entered : (T t : Tape) (n at c parent : ℕ) → n < length t → Agrees T (entered t n at c parent (n + 1)) n 1
-    → Entered (entry_at T n) at c parent (n + 1)
-text_entered T t n at c parent l g =
-    rw (g n (omega arith) (omega arith), entered_entry t n at c parent (n + 1) l)
-    (record { place_is = refl; class_is = refl; parent_is = refl; end_is = refl })
 
 module _ (T t : Tape) (n at c parent : ℕ) (es : Exprs) (l : n + suc (node_count_in es) ≤ length t)
     (g : Agrees T (element_tape t n parent at c es) n (suc (node_count_in es))) where
@@ -100,18 +95,23 @@ module _ (T t : Tape) (n at c parent : ℕ) (es : Exprs) (l : n + suc (node_coun
       rw own_entry (record { key_is = v.key_is; type_is = v.type_is; width_is = v.width_is; height_is = v.height_is })
 
 -- The rows of those entries.
-text_row_lem : (s : List ℕ) (x : Entry) (a : Filling) (at parent end : ℕ) (b : List ℕ) → Entered x at Class.text parent end → atom_value (drop at s) ≡ b
-    → next_row s x a ≡ with_row at Class.text parent (a.node + 1) missing missing [] [] b a
-unfolding next_row text_row
-text_row_lem s x a at parent end b e v = rw (e.class_is, e.place_is, e.parent_is, v)
+none_held : (s : List ℕ) → held_at s 0 ≡ []
+unfolding held_at
+none_held s = refl
+
+text_row_lem : (s : List ℕ) (x : Entry) (a : Filling) (at parent end : ℕ) (b : List ℕ)
+    → x ≡ record { place = at; class = Class.text; parent = parent; end = end; key = 0; typename = 0; width = missing; height = missing }
+    → (0 < at) × (atom_value (drop at s) ≡ b) → next_row s x a ≡ with_row at Class.text parent end missing missing [] [] b a
+unfolding next_row said_at held_at
+text_row_lem s x a at parent end b e (p, v) = rw (e, ne_eqb at 0 (λ q. omega arith), v)
 
 element_row_lem : (s : List ℕ) (x : Entry) (a : Filling) (at c parent end : ℕ) (es : Exprs) → Class.is_element c ≡ true → Entered x at c parent end
     → HoldsValues s x es
     → next_row s x a
     ≡ with_row at c parent end (width_in (trees_of es)) (height_in (trees_of es)) (key_in (trees_of es)) (type_in (trees_of es)) [] a
-unfolding next_row element_row
+unfolding next_row said_at
 element_row_lem s x a at c parent end es i e v =
-    rw (e.class_is, element_no_text c i, e.place_is, e.parent_is, e.end_is, v.key_is, v.type_is, v.width_is, v.height_is)
+    rw (e.class_is, element_no_text c i, e.place_is, e.parent_is, e.end_is, v.key_is, v.type_is, v.width_is, v.height_is, none_held s)
 
 module _ (s : List ℕ) (T : Tape) where
   one_row : (a : Filling) → rows_of s T 1 a ≡ next_row s (entry_at T a.node) a
@@ -123,11 +123,13 @@ module _ (s : List ℕ) (T : Tape) where
   no_rows a = refl
 
   wrote_atom : (x : Expr) (at : ℕ) (b : List ℕ) (t : Tape) (n parent : ℕ) (a : Filling) → tree_of x ≡ text b → places x ≡ at ∷ [] → a.node ≡ n
-      → n + 1 ≤ length t → Agrees T (entered t n at Class.text parent (n + 1)) n 1 → atom_value (drop at s) ≡ b
+      → n + 1 ≤ length t → Agrees T (entered t n at Class.text parent (n + 1)) n 1 → (0 < at) × (atom_value (drop at s) ≡ b)
       → WroteRun parent (and x none) a (rows_of s T 1 a)
   wrote_atom x at b t n parent a e f m l g v =
-      let w : Entered (entry_at T a.node) at Class.text parent (n + 1) = rw m (text_entered T t n at Class.text parent (omega arith) g) in
-      rw (one_row a, text_row_lem s (entry_at T a.node) a at parent (n + 1) b w v) (wrote_text parent at x b a e f)
+      let w : entry_at T a.node
+      ≡ record { place = at; class = Class.text; parent = parent; end = a.node + 1; key = 0; typename = 0; width = missing; height = missing } =
+      rw m (g n (omega arith) (omega arith) ∙ entered_entry t n at Class.text parent (n + 1) (omega arith)) in
+      rw (one_row a, text_row_lem s (entry_at T a.node) a at parent (a.node + 1) b w v) (wrote_text parent at x b a e f)
 
   -- A list, given what is written of what it holds.
   wrote_by : (at k : ℕ) (lead : Expr) (es : Exprs) (t : Tape) (n parent : ℕ) (a : Filling) → a.node ≡ n
@@ -163,8 +165,8 @@ module _ (s : List ℕ) (T : Tape) where
 
     pub wrote_one : (e : Expr) (k : ℕ) (t : Tape) (n parent : ℕ) (a : Filling) → a.node ≡ n → n + node_count e ≤ length t
         → Agrees T (taped t n parent e) n (node_count e) → Located s e → judge k e ≡ fine → WroteRun parent (and e none) a (rows_of s T (node_count e) a)
-    wrote_one (symbol at b) k t n parent a m l g o f = wrote_atom (symbol at b) at b t n parent a refl refl m l g o.1
-    wrote_one (quoted at b) k t n parent a m l g o f = wrote_atom (quoted at b) at b t n parent a refl refl m l g o.1
+    wrote_one (symbol at b) k t n parent a m l g o f = wrote_atom (symbol at b) at b t n parent a refl refl m l g o
+    wrote_one (quoted at b) k t n parent a m l g o f = wrote_atom (quoted at b) at b t n parent a refl refl m l g o
     wrote_one (list at es) k t n parent a m l g o f = wrote_list es at k t n parent a m l g o f
 
     wrote_list : (es : Exprs) (at k : ℕ) (t : Tape) (n parent : ℕ) (a : Filling) → a.node ≡ n → n + node_count_of_list es ≤ length t
@@ -186,5 +188,5 @@ module _ (s : List ℕ) (T : Tape) where
         λ i h h'. g i (omega arith) (omega arith) in
         rw (rows_add s T (node_count e) (node_count_in es) a)
         (wrote_on parent e es a b (rows_of s T (node_count_in es) b) (wrote_one e k t n parent a m (omega arith) here o.0 f.0)
-        (wrote_all es k (taped t n parent e) (n + node_count e) parent b (rows_node s T (node_count e) a ∙ ap (λ (x : ℕ). x + node_count e) m) (omega arith)
+        (wrote_all es k (taped t n parent e) (n + node_count e) parent b ((rows_grow s T (node_count e) a).node_is ∙ ap (λ (x : ℕ). x + node_count e) m) (omega arith)
         (rw (length_taped t n parent e) (omega arith)) there o.1 f.1))
