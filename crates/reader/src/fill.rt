@@ -12,133 +12,95 @@ ghost use Rattle.document.specs.rules.Table.{table_of};
 ghost use Rattle.document.specs.rules.Table as Table;
 ghost use Rattle.reader.specs.internal.Counts.{node_count};
 ghost use Rattle.reader.specs.internal.Tape.{Located, taped, Tape as TapeOf};
-ghost use Rattle.reader.specs.internal.Filling.{held_at, text_row, element_row, next_row, RoomFor, Rowed};
+ghost use Rattle.reader.specs.internal.Filling.{filling, held_at, next_row, said_at, PutString, RoomFor, SameSlices};
 
 use super::tape::{Entry, Tape};
 use atoms::put_atom;
 use kind::Kind;
-use table::MISSING;
 use table::record::{Record, put_record};
 
-// "A missing string is 0, 0": the offset word of a string of this length at a place of the pool.
-fn offset_word(at: usize, length: usize) -> u32
-    requires { at ≤ missing }
-    ensures { result ≡ cond (eqb length 0) 0 at }
-{
-    if length == 0 {
-        return 0;
-    }
-    at as u32
+// A string in the pool. "A missing string is 0, 0".
+#[derive(Clone, Copy)]
+struct Span {
+    offset: u32,
+    length: u32,
 }
 
-// Writes what stands at the place that a word of the tape says, or nothing where it says none. Answers its length.
-fn put_held(text: &[u8], place: u32, pool: &mut [u8], at: usize) -> usize
-    requires { length text.now ≤ most_bytes }
-    ensures { (result ≤ most_bytes) × (result ≡ length (held_at text.now place))
-        × (pool.new ≡ sets pool.old at (held_at text.now place)) }
-{
-    if place == 0 {
-        return 0;
-    }
-    put_atom(text, place as usize, pool, at)
-}
+const NO_STRING: Span = Span {
+    offset: 0,
+    length: 0,
+};
 
-// The row of a text. Answers the next place in the pool.
-fn text_row(
-    text: &[u8],
-    e: Entry,
-    node: usize,
+// The memory that is lent for a table, and how many bytes of the pool are filled.
+#[derive(Drop)]
+struct Lent<'a> {
+    nodes: &'a mut [u32],
+    places: &'a mut [u32],
+    pool: &'a mut [u8],
     bytes: usize,
-    nodes: &mut [u32],
-    places: &mut [u32],
-    pool: &mut [u8],
-) -> usize
-    requires { RoomFor text.now (record { node = node; bytes = bytes; words = nodes.old; places = places.old; pool = pool.old }) }
-    ensures { Rowed (text_row text.now e)
-        (record { node = node; bytes = bytes; words = nodes.old; places = places.old; pool = pool.old })
-        (record { node = node + 1; bytes = result; words = nodes.new; places = places.new; pool = pool.new }) }
-{
-    let length = put_atom(text, e.place as usize, pool, bytes);
-    places[node] = e.place;
-    put_record(
-        nodes,
-        node,
-        Record {
-            kind: Kind::TEXT.number as u32,
-            parent: e.parent,
-            end: (node + 1) as u32,
-            key: 0,
-            key_length: 0,
-            typename: 0,
-            type_length: 0,
-            text: offset_word(bytes, length),
-            text_length: length as u32,
-            width: MISSING as u32,
-            height: MISSING as u32,
-        },
-    );
-    bytes + length
 }
 
-// The row of an element. Answers the next place in the pool.
-fn element_row(
-    text: &[u8],
-    e: Entry,
-    node: usize,
-    bytes: usize,
-    nodes: &mut [u32],
-    places: &mut [u32],
-    pool: &mut [u8],
-) -> usize
-    requires { RoomFor text.now (record { node = node; bytes = bytes; words = nodes.old; places = places.old; pool = pool.old }) }
-    ensures { Rowed (element_row text.now e)
-        (record { node = node; bytes = bytes; words = nodes.old; places = places.old; pool = pool.old })
-        (record { node = node + 1; bytes = result; words = nodes.new; places = places.new; pool = pool.new }) }
-{
-    let key = put_held(text, e.key, pool, bytes);
-    let middle = bytes + key;
-    let typename = put_held(text, e.typename, pool, middle);
-    places[node] = e.place;
-    put_record(
-        nodes,
-        node,
-        Record {
-            kind: e.class,
-            parent: e.parent,
-            end: e.end,
-            key: offset_word(bytes, key),
-            key_length: key as u32,
-            typename: offset_word(middle, typename),
-            type_length: typename as u32,
-            text: 0,
-            text_length: 0,
-            width: e.width,
-            height: e.height,
-        },
-    );
-    middle + typename
-}
-
-// The row of a node. Answers the next place in the pool.
-fn row(
-    text: &[u8],
-    e: Entry,
-    node: usize,
-    bytes: usize,
-    nodes: &mut [u32],
-    places: &mut [u32],
-    pool: &mut [u8],
-) -> usize
-    requires { RoomFor text.now (record { node = node; bytes = bytes; words = nodes.old; places = places.old; pool = pool.old }) }
-    ensures { Rowed (next_row text.now e)
-        (record { node = node; bytes = bytes; words = nodes.old; places = places.old; pool = pool.old })
-        (record { node = node + 1; bytes = result; words = nodes.new; places = places.new; pool = pool.new }) }
-{
-    let class = e.class;
-    if class == Kind::TEXT.number as u32 {
-        return text_row(text, e, node, bytes, nodes, places, pool);
+impl Lent<'_> {
+    // Puts into the pool what stands at the place that a word of the tape says, or nothing where it says none.
+    fn put(&mut self, text: &[u8], place: u32) -> Span
+        requires { (length text.now ≤ most_bytes) × (self.old.bytes + most_bytes ≤ missing) }
+        ensures put { PutString (held_at text.now place) self.old self.new result }
+        ensures same { SameSlices self.old self.new }
+    {
+        if place == 0 {
+            return NO_STRING;
+        }
+        let offset = self.bytes;
+        let length = put_atom(text, place as usize, self.pool, offset);
+        if length == 0 {
+            return NO_STRING;
+        }
+        self.bytes = offset + length;
+        Span {
+            offset: offset as u32,
+            length: length as u32,
+        }
     }
-    element_row(text, e, node, bytes, nodes, places, pool)
+
+    // The row of a node.
+    fn row(&mut self, text: &[u8], node: usize, e: Entry)
+        requires { RoomFor text.now (filling node self.old) }
+        ensures row { filling (node + 1) self.new ≡ next_row text.now e (filling node self.old) }
+        ensures same { SameSlices self.old self.new }
+    {
+        let key = self.put(text, e.key);
+        let typename = self.put(text, e.typename);
+        let own = self.put(text, said(e));
+        self.places[node] = e.place;
+        put_record(
+            self.nodes,
+            node,
+            Record {
+                kind: e.class,
+                parent: e.parent,
+                end: e.end,
+                key: key.offset,
+                key_length: key.length,
+                typename: typename.offset,
+                type_length: typename.length,
+                text: own.offset,
+                text_length: own.length,
+                width: e.width,
+                height: e.height,
+            },
+        );
+    }
+}
+
+// Where the text that a node has of its own stands: only a text has one.
+#[tactic(auto, unfolding(crate::specs::internal::Filling::said_at))]
+fn said(e: Entry) -> u32
+    ensures { result ≡ said_at e }
+{
+    if e.class == Kind::TEXT.number as u32 {
+        return e.place;
+    }
+    0
 }
 
 // Fills the document whose `count` nodes are on the tape, where there is room for them.
@@ -157,8 +119,13 @@ pub fn fill(
         × (places.new ≡ sets places.old 0 (Meaning.places e))
         × (pool.new ≡ sets pool.old 0 (Table.pool (says (tree_of e)))) }
 {
-    let mut bytes = 0;
+    let mut lent = Lent {
+        nodes,
+        places,
+        pool,
+        bytes: 0,
+    };
     for node in 0..count {
-        bytes = row(text, tape[node], node, bytes, nodes, places, pool);
+        lent.row(text, node, tape[node]);
     }
 }

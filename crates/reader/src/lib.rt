@@ -50,6 +50,7 @@ struct Group {
 }
 
 // How deep the brackets of a spelling nest.
+#[tactic(auto, unfolding(document::specs::rules::Spelling::most_levels))]
 fn levels(spelling: Spelling) -> usize
     ensures { result ≡ most_levels (spelled spelling) }
 {
@@ -98,6 +99,7 @@ fn judge(spelling: Spelling, text: &[u8], tape: &mut Tape) -> Judged
 }
 
 // Whether there is room for so many nodes and pool bytes: 13 where the nodes are too many, 14 where the pool bytes are.
+#[tactic(auto, unfolding(crate::specs::internal::FirstGroups::room_number))]
 fn room(words: usize, places: usize, bytes: usize, counts: Counts) -> Result<(), Refusal>
     ensures { room_told result ≡ room_number words places bytes counts.nodes counts.pool }
 {
@@ -112,6 +114,7 @@ fn room(words: usize, places: usize, bytes: usize, counts: Counts) -> Result<(),
 }
 
 // The answer, with line and column of its place. No place and no count passes the longest text.
+#[tactic(auto, using(utf8::proofs::PositionBounds::position_within), unfolding(document::specs::rules::Memory::answer_at))]
 fn answer_at(text: &[u8], number: u32, place: usize, nodes: usize, pool: usize) -> Answer
     requires { (place ≤ most_bytes) × (nodes ≤ most_bytes) × (pool ≤ most_bytes) }
     ensures { SameAnswer (answer_at text.now number place nodes pool) result }

@@ -41,6 +41,7 @@ pub const NOT_MET: Entry = Entry {
 };
 
 // A node is entered, and none of its values is known yet.
+#[tactic(auto, unfolding(crate::specs::internal::Tape::entered))]
 pub fn enter(tape: &mut Tape, node: usize, at: usize, class: u8, parent: usize, end: usize)
     requires { (at ≤ most_word) × (parent ≤ most_word) × (end ≤ most_word) }
     ensures { length tape.old ≡ most_nodes → tape.new ≡ entered tape.old node at class parent end }
@@ -60,6 +61,7 @@ pub fn enter(tape: &mut Tape, node: usize, at: usize, class: u8, parent: usize, 
 }
 
 // It is left: its last descendant is the node before `end`.
+#[tactic(auto, unfolding(crate::specs::internal::Tape::left))]
 pub fn leave(tape: &mut Tape, node: usize, end: usize)
     requires { end ≤ most_word }
     ensures { length tape.old ≡ most_nodes → tape.new ≡ left tape.old node end }
@@ -70,6 +72,7 @@ pub fn leave(tape: &mut Tape, node: usize, end: usize)
 }
 
 // The place of what its id or target holds.
+#[tactic(auto, unfolding(crate::specs::internal::Tape::key_noted))]
 pub fn note_key(tape: &mut Tape, node: usize, place: usize)
     requires { place ≤ most_word }
     ensures { length tape.old ≡ most_nodes → tape.new ≡ key_noted tape.old node place }
@@ -80,6 +83,7 @@ pub fn note_key(tape: &mut Tape, node: usize, place: usize)
 }
 
 // The place of what its type holds.
+#[tactic(auto, unfolding(crate::specs::internal::Tape::type_noted))]
 pub fn note_type(tape: &mut Tape, node: usize, place: usize)
     requires { place ≤ most_word }
     ensures { length tape.old ≡ most_nodes → tape.new ≡ type_noted tape.old node place }
@@ -90,12 +94,16 @@ pub fn note_type(tape: &mut Tape, node: usize, place: usize)
 }
 
 // Its size.
+#[tactic(auto, unfolding(crate::specs::internal::Tape::size_noted))]
 pub fn note_size(tape: &mut Tape, node: usize, width: usize, height: usize)
     requires { (width ≤ most_word) × (height ≤ most_word) }
     ensures { length tape.old ≡ most_nodes → tape.new ≡ size_noted tape.old node width height }
 {
     if node < MOST_NODES {
-        tape[node].width = width as u32;
-        tape[node].height = height as u32;
+        tape[node] = Entry {
+            width: width as u32,
+            height: height as u32,
+            ..tape[node]
+        };
     }
 }

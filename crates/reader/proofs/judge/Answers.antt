@@ -11,14 +11,14 @@ use Rattle.document.specs.reference.Imperative.{regroup}
 use Rattle.document.proofs.BlockContents.{takes_regroup}
 use Rattle.reader.specs.internal.JudgedText.{TapeOfText}
 use Rattle.reader.specs.internal.RunStands.{RunStands}
-use Rattle.reader.specs.internal.Tape.{taped}
+use Rattle.reader.specs.internal.Tape.{Tape, taped}
 use Rattle.reader.proofs.judge.Goals as goal
 
-nested-tapes : (text : List ℕ) (n : ℕ) (t tape : List ℕ)
+nested-tapes : (text : List ℕ) (n : ℕ) (t tape : Tape)
     → ((e : Expr) → RunStands text 0 (and e none) (length text) → n ≡ 0 → length t ≡ 4096 → tape ≡ taped t 0 missing e) → TapeOfText nested text n t tape
 nested-tapes text n t tape h es e as_it_stands st deep z l = h e st z l
 
-imperative-tapes : (text : List ℕ) (n : ℕ) (t tape : List ℕ)
+imperative-tapes : (text : List ℕ) (n : ℕ) (t tape : Tape)
     → ((e : Expr) (es : Exprs) → RunStands text 0 (and e es) (length text) → depth_all (and e es) ≤ imperative_levels → n ≡ 0 → length t ≡ 4096
     → tape ≡ taped t 0 missing (regroup e es)) → TapeOfText imperative text n t tape
 unfolding most_levels

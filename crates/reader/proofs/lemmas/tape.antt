@@ -1,3 +1,3 @@
--- Lemmas for tape.rt: the tape that a walk leaves, and which of its words a walk changes.
+-- Lemmas for tape.rt: the tape that a walk leaves, and which of its entries a walk changes.
 pub mod AfterWalk
-pub mod ChangedWords
+pub mod ChangedEntries

@@ -1,7 +1,8 @@
--- `reader::read` meets its contract: each way passes what the parts ensure to its lemma of `Answered`.
-use mathlib.Core.Path.{sym, ◌∙◌}
+-- `reader::read` meets its contract: each way passes what the parts ensure to its lemma of `Promises`.
+use mathlib.Core.Path.{refl, sym}
 use native.Mathlib.Omega.{arith}
 use Rattle.document.specs.rules.Memory.{Memory}
+use Rattle.reader.proofs.lemmas.walk.Refusals.{refusal_some}
 use Rattle.reader.proofs.lemmas.read.Promises.{room_fits, group_fits, group_short, group_reads, walk_fits, walk_reads, full_reads, filled_reads}
 use Rattle.reader.proofs.read.Goals as goal
 
@@ -11,40 +12,37 @@ answer_at-requires c = (group_fits _ _ _ _ c.first_groups-g.ensures, omega arith
 pub returns-then-g-ne-OK : goal.returns-then-g-ne-OK
 returns-then-g-ne-OK c = group_reads _ _ _ _ _ c.first_groups-g.ensures c.if-g-ne-OK.true _ c.answer_at.ensures
 
-pub judge-w-requires : goal.judge-w-requires
-judge-w-requires c = group_short _ _ _ _ c.first_groups-g.ensures c.if-g-ne-OK.false
+pub judge-requires : goal.judge-requires
+judge-requires c = group_short _ _ _ _ c.first_groups-g.ensures c.if-g-ne-OK.false
 
-pub answer_at-requires-then-w-ne-OK : goal.answer_at-requires-then-w-ne-OK
-answer_at-requires-then-w-ne-OK c = (
-  (walk_fits _ _ _ _ c.first_groups-g.ensures
-      c.if-g-ne-OK.false _ c.judge-w.ensures.judges_text).0,
+pub answer_at-requires-in-Err : goal.answer_at-requires-in-Err
+answer_at-requires-in-Err c = (
+  (walk_fits _ _ _ _ c.first_groups-g.ensures c.if-g-ne-OK.false _ c.in-Err.ensures.judges_text).0,
   omega arith,
   omega arith,
 )
 
-pub returns-then-w-ne-OK : goal.returns-then-w-ne-OK
-returns-then-w-ne-OK c = walk_reads _ _ _ _ _ c.first_groups-g.ensures
-    c.if-g-ne-OK.false _ c.judge-w.ensures.judges_text c.if-w-ne-OK.true _
-    c.answer_at-then-w-ne-OK.ensures
+pub returns-in-Err : goal.returns-in-Err
+returns-in-Err c = walk_reads _ _ _ _ _ c.first_groups-g.ensures c.if-g-ne-OK.false _ c.in-Err.ensures.judges_text
+    (refusal_some c.in-Err.r.refusal) _ (rw c.number.ensures at c.answer_at-in-Err.ensures)
 
-pub answer_at-requires-then-full-ne-OK : goal.answer_at-requires-then-full-ne-OK
-answer_at-requires-then-full-ne-OK c = let (p, n, b) = walk_fits _ _ _ _ c.first_groups-g.ensures
-    c.if-g-ne-OK.false _ c.judge-w.ensures.judges_text in
+pub answer_at-requires-in-Err-room : goal.answer_at-requires-in-Err-room
+answer_at-requires-in-Err-room c = let (p, n, b) = walk_fits _ _ _ _ c.first_groups-g.ensures c.if-g-ne-OK.false _
+    c.in-Ok.ensures.judges_text in
     (omega arith, n, b)
 
-pub returns-then-full-ne-OK : goal.returns-then-full-ne-OK
-returns-then-full-ne-OK c = full_reads _ _ _ _ _ c.first_groups-g.ensures c.if-g-ne-OK.false _
-    c.judge-w.ensures.judges_text c.if-w-ne-OK.false _
-    c.room-full.ensures c.if-full-ne-OK.true _ c.answer_at-then-full-ne-OK.ensures
+pub returns-in-Err-room : goal.returns-in-Err-room
+returns-in-Err-room c = full_reads _ _ _ _ _ c.first_groups-g.ensures c.if-g-ne-OK.false _ c.in-Ok.ensures.judges_text
+    refl _ c.in-Err-room.ensures (refusal_some c.in-Err-room.full) _
+    (rw c.number-in-Err-room.ensures at c.answer_at-in-Err-room.ensures)
 
 pub fill-requires : goal.fill-requires
-fill-requires c = let (few, words, places) = room_fits _ _ _ _ _
-    (sym c.room-full.ensures ∙ c.if-full-ne-OK.false) in
+fill-requires c = let (few, words, places) = room_fits _ _ _ _ _ (sym c.in_default.ensures) in
     (group_short _ _ _ _ c.first_groups-g.ensures c.if-g-ne-OK.false, few, words, places)
 
 pub answer_at-requires-2 : goal.answer_at-requires-2
 answer_at-requires-2 c = let (p, n, b) = walk_fits _ _ _ _ c.first_groups-g.ensures c.if-g-ne-OK.false _
-    c.judge-w.ensures.judges_text in
+    c.in-Ok.ensures.judges_text in
     (omega arith, n, b)
 
 pub returns : goal.returns
@@ -52,6 +50,6 @@ returns c = let args = c.args in
     let filled = c.fill in
     let m : Memory = record { nodes = args.nodes.now; places = args.places.now; pool = args.pool.now } in
     let exit : Memory = record { nodes = filled.new.nodes; places = filled.new.places; pool = filled.new.pool } in
-    filled_reads _ _ m _ _ c.first_groups-g.ensures c.if-g-ne-OK.false _ c.judge-w.ensures.judges_text
-    c.if-w-ne-OK.false _ c.room-full.ensures
-    c.if-full-ne-OK.false exit _ c.judge-w.ensures.tape_of_text filled.ensures _ c.answer_at-2.ensures
+    filled_reads _ _ m _ _ c.first_groups-g.ensures c.if-g-ne-OK.false _ c.in-Ok.ensures.judges_text
+    refl _ c.in_default.ensures
+    refl exit _ c.in-Ok.ensures.tape_of_text filled.ensures _ c.answer_at-2.ensures

@@ -4,12 +4,14 @@ use Rattle.std.proofs.lemmas.List.Edits.{sets}
 use Rattle.elements.specs.rules.Class as Class
 use Rattle.atoms.specs.Atom.{atom_value}
 use Rattle.syntax.specs.rules.Expression.{Exprs}
-use Rattle.base.specs.rules.Limits.{most_bytes, most_nodes, missing}
+use Rattle.base.specs.rules.Limits.{most_bytes, most_nodes}
 use Rattle.document.specs.rules.Document.{Nodes, say_all}
 use Rattle.document.specs.reference.Meaning.{trees_of}
 use Rattle.document.specs.rules.Record.{record_length}
 use Rattle.document.specs.rules.Table.{offset}
 use Rattle.reader.specs.declared.tape.Entry.{Entry}
+use Rattle.reader.specs.declared.fill.Lent.{Lent}
+use Rattle.reader.specs.declared.fill.Span.{Span}
 
 -- How far a fill has got: the numbers of the next node and the next pool byte, and the lent memory.
 pub record Filling : Type 0 where
@@ -18,6 +20,14 @@ pub record Filling : Type 0 where
   pub words : List ℕ
   pub places : List ℕ
   pub pool : List ℕ
+
+-- It is so far, where node n is the next, with what the code has lent.
+abbrev pub filling : ℕ → Lent → Filling
+filling n l = record { node = n; bytes = l.bytes; words = l.nodes.now; places = l.places.now; pool = l.pool.now }
+
+-- The same slices are lent at a and at z.
+abbrev pub SameSlices : Lent → Lent → Type 0
+SameSlices a z = (z.nodes.ghost_name ≡ a.nodes.ghost_name) × (z.places.ghost_name ≡ a.places.ghost_name) × (z.pool.ghost_name ≡ a.pool.ghost_name)
 
 -- The nodes that a run of expressions says.
 unfoldable pub said_by : Exprs → Nodes
@@ -49,25 +59,28 @@ with_row at kind parent end width height key type text a = record {
   pool = sets a.pool a.bytes (key ++ (type ++ text));
 }
 
--- The row of the next node of the text s from its entry: of a text, of an element, of either.
-unfoldable pub text_row : List ℕ → Entry → Filling → Filling
-text_row s e a = with_row e.place Class.text e.parent (a.node + 1) missing missing [] [] (atom_value (drop e.place s)) a
+-- Only a text has what stands at its place in the pool.
+unfoldable pub said_at : Entry → ℕ
+said_at e = cond (eqb e.class Class.text) e.place 0
 
-unfoldable pub element_row : List ℕ → Entry → Filling → Filling
-element_row s e a =
-    with_row e.place e.class e.parent e.end e.width e.height (held_at s e.key) (held_at s e.typename) [] a
-
+-- The row of the next node of the text s from its entry.
 unfoldable pub next_row : List ℕ → Entry → Filling → Filling
-next_row s e a = cond (eqb e.class Class.text) (text_row s e a) (element_row s e a)
+next_row s e a =
+    with_row e.place e.class e.parent e.end e.width e.height (held_at s e.key) (held_at s e.typename) (held_at s (said_at e)) a
 
--- From a to z a row was written.
-abbrev pub Rowed : (Filling → Filling) → Filling → Filling → Type 0
-Rowed row a z = z ≡ row a
+-- The string s was put into the pool between a and z, and r says where.
+pub record PutString (s : List ℕ) (a z : Lent) (r : Span) : Type 0 where
+  pub offset_is : r.offset ≡ offset a.bytes s
+  pub length_is : r.length ≡ length s
+  pub bytes_are : z.bytes ≡ a.bytes + length s
+  pub pool_is : z.pool.now ≡ sets a.pool.now a.bytes s
+  pub nodes_are : z.nodes.now ≡ a.nodes.now
+  pub places_are : z.places.now ≡ a.places.now
 
--- In a text within the limits there is room for the row of the next node. A row has two strings of the text at most: so no place of the pool passes a word.
+-- In a text within the limits there is room for the row of the next node. A row has three strings of the text at most: so no place of the pool passes a word.
 pub record RoomFor (s : List ℕ) (a : Filling) : Type 0 where
   pub short : length s ≤ most_bytes
   pub few : a.node < most_nodes
   pub words_within : record_length * a.node + record_length ≤ length a.words
   pub places_within : a.node < length a.places
-  pub bytes_within : a.bytes ≤ 2 * most_bytes * a.node
+  pub bytes_within : a.bytes ≤ 3 * most_bytes * a.node

@@ -4,14 +4,9 @@ use mathlib.Core.Path.{◌≡◌, refl, sym, ap, ◌∙◌}
 use mathlib.Core.List.{List, [], ◌∷◌, ◌++◌}
 use native.Mathlib.Nat.{add-zero, add-suc, suc-add}
 use native.Mathlib.Omega.{arith}
-use native.Mathlib.Numerals.{add-one}
-use mathlib.Core.Bool.{cond}
-use lib.Dec.{eqb}
-use borrow.Author.Tests.{ne_eqb}
 use Rattle.document.specs.rules.Table.{offset}
 use lib.ListN.{length, set}
 use lib.Seq.{sets}
-use Rattle.table.proofs.Stores.{stores_from, stores_from_lem}
 
 -- Two runs of stores that meet are one.
 pub sets_join : (l : List ℕ) (i : ℕ) (xs ys : List ℕ) → sets (sets l i xs) (i + length xs) ys ≡ sets l i (xs ++ ys)
@@ -23,12 +18,13 @@ pub sets_on : (l m z : List ℕ) (i j : ℕ) (xs ys zs : List ℕ) → m ≡ set
 sets_on l m z i j xs ys zs p q r s =
     q ∙ ap (λ (n : List ℕ). sets n j ys) p ∙ ap (λ (k : ℕ). sets (sets l i xs) k ys) r ∙ sets_join l i xs ys ∙ ap (sets l i) (sym s)
 
--- One store after the other.
-pub stored_row : (l : List ℕ) (i x : ℕ) (xs : List ℕ) → stores_from (set l i x) i 1 xs ≡ sets l i (x ∷ xs)
-stored_row l i x xs = stores_from_lem (set l i x) i 1 xs ∙ ap (λ (n : ℕ). sets (set l i x) n xs) (add-one i)
-
--- The offset word of a string is 0 where it is empty.
-pub offset_is : (p : ℕ) (s : List ℕ) → cond (eqb (length s) 0) 0 p ≡ offset p s
+-- The offset of a string of length n is 0 where it is empty, and its place elsewhere.
+pub offset_none : (p n : ℕ) (s : List ℕ) → n ≡ length s → n ≡ 0 → 0 ≡ offset p s
 unfolding offset
-offset_is p [] = refl
-offset_is p (b ∷ s) = rw (ne_eqb (suc (length s)) 0 (λ e. omega arith))
+offset_none p n [] e z = refl
+offset_none p n (b ∷ s) e z = absurd (omega arith)
+
+pub offset_some : (p n : ℕ) (s : List ℕ) → n ≡ length s → (n ≡ 0 → ⊥) → p ≡ offset p s
+unfolding offset
+offset_some p n [] e o = absurd (o e)
+offset_some p n (b ∷ s) e o = refl

@@ -4,7 +4,7 @@ use mathlib.Core.Path.{◌≡◌, refl, ap, ◌∙◌}
 use mathlib.Core.Bool.{true}
 use mathlib.Core.List.{List, append-nil}
 use native.Mathlib.Omega.{arith}
-use lib.ListN.{length, get_or}
+use lib.ListN.{length}
 use lib.Seq.{sets}
 use Rattle.elements.specs.rules.Class as Class
 use Rattle.syntax.specs.rules.Expression.{Expr, symbol, quoted, list, none, and}
@@ -15,7 +15,7 @@ use Rattle.document.specs.reference.Meaning.{fine, judge_root, tree_of, trees_of
 use Rattle.document.specs.rules.Table.{pool, pool_all, rows_all, table_of}
 use Rattle.document.proofs.BlockExpressions.{root_document}
 use Rattle.reader.specs.internal.Counts.{node_count}
-use Rattle.reader.specs.internal.Tape.{taped, Located}
+use Rattle.reader.specs.internal.Tape.{Tape, entry_at, taped, Located}
 use Rattle.reader.specs.internal.Filling.{Filling, said_by}
 use Rattle.reader.proofs.lemmas.fill.Rows.{rows_of}
 use Rattle.reader.proofs.lemmas.fill.RunWrites.{WroteRun}
@@ -46,10 +46,10 @@ root_whole e a z n b c w = (
   w.pool_is ∙ rw (b, root_said e (root_node e c), append-nil),
 )
 
-pub filled_whole : (s T : List ℕ) (k : ℕ) (a z : Filling) → a.node ≡ 0 → a.bytes ≡ 0 → k ≤ 4096 → z ≡ rows_of s T k a → (e : Expr) (t : List ℕ)
+pub filled_whole : (s : List ℕ) (T : Tape) (k : ℕ) (a z : Filling) → a.node ≡ 0 → a.bytes ≡ 0 → k ≤ 4096 → z ≡ rows_of s T k a → (e : Expr) (t : Tape)
     → Located s e → judge_root e ≡ fine → length t ≡ 4096 → T ≡ taped t 0 missing e → k ≡ node_count e → WroteDocument e a z
 filled_whole s T k a z n b few w e t o f l is c =
     let r = root_document e f in
     let v : WroteRun missing (and e none) a (rows_of s T (node_count e) a) =
-    wrote_one s T e 0 t 0 missing a n (omega arith) (λ i h h'. ap (λ (u : List ℕ). get_or u i 0) is) o r.1 in
+    wrote_one s T e 0 t 0 missing a n (omega arith) (λ i h h'. ap (λ (u : Tape). entry_at u i) is) o r.1 in
     root_whole e a z n b r.0 (rw (w, c) v)

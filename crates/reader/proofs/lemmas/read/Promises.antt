@@ -5,7 +5,7 @@ use mathlib.Core.Bool.{Bool, true, false, cond}
 use mathlib.Core.List.{List, []}
 use native.Mathlib.Nat.{zero-add}
 use native.Mathlib.Omega.{arith}
-use borrow.Author.Tests.{lt-ltb, le-ltb, ltb-false}
+use borrow.Author.Tests.{ltb-false}
 use lib.Dec.{ltb}
 use lib.ListN.{length, replicate, length-replicate}
 use lib.Seq.{sets, sets-eq}
@@ -28,27 +28,16 @@ use Rattle.reader.specs.internal.JudgedText.{JudgesText, TapeOfText}
 use Rattle.reader.specs.internal.FirstGroups.{group_number, group_place, room_number}
 use Rattle.reader.specs.Read.{SameAnswer, Reads}
 use Rattle.reader.specs.internal.Counts.{node_count}
-use Rattle.reader.specs.internal.Tape.{taped, Located}
+use Rattle.reader.specs.declared.tape.Entry.{Entry}
+use Rattle.reader.specs.internal.Tape.{Tape, not_met, taped, Located}
 use Rattle.reader.proofs.lemmas.walk.Counts.{nodes_places}
 use Rattle.reader.proofs.lemmas.read.Located.{form_located}
 use Rattle.reader.proofs.lemmas.read.AnswerBounds.{group_place_lem, walk_within}
 use Rattle.reader.proofs.lemmas.read.AnswerGroups.{PassedGroups, DocumentRead, group_refused, group_passed, judged_refused, judged_read}
 
--- ---- the ways through `room`: one of the tests that the nodes fit fails, or none does
+-- ---- the room that there is
 
 module _ (words places bytes n p : ℕ) where
-  pub room_nodes : min 4096 (min (words / record_length) places) < n → 13 ≡ room_number words places bytes n p
-  unfolding room_number
-  room_nodes h = rw (lt-ltb (min 4096 (min (words / record_length) places)) n h)
-
-  pub room_bytes : n ≤ min 4096 (min (words / record_length) places) → bytes < p → 14 ≡ room_number words places bytes n p
-  unfolding room_number
-  room_bytes h g = rw (le-ltb (min 4096 (min (words / record_length) places)) n h, lt-ltb bytes p g)
-
-  pub room_enough : n ≤ min 4096 (min (words / record_length) places) → p ≤ bytes → 0 ≡ room_number words places bytes n p
-  unfolding room_number
-  room_enough h g = rw (le-ltb (min 4096 (min (words / record_length) places)) n h, le-ltb bytes p g)
-
   -- Where there is room, the nodes are few and fit what is lent.
   pub room_fits : room_number words places bytes n p ≡ 0 → (n ≤ most_nodes) × (record_length * n ≤ words) × (n ≤ places)
   unfolding room_number
@@ -121,11 +110,11 @@ module _ (s : Spelling) (text : List ℕ) (n p : ℕ) (group : (n ≡ group_numb
       (omega arith, omega arith, omega arith)
 
 -- The tape that a read lends.
-abbrev pub blank_tape : List ℕ
-blank_tape = replicate 4096 0
+abbrev pub blank_tape : Tape
+blank_tape = replicate 4096 not_met
 
 long : length blank_tape ≡ 4096
-long = length-replicate {A = ℕ} 4096 0
+long = length-replicate {A = Entry} 4096 not_met
 
 -- What the fill of this many nodes from a tape ensures.
 abbrev Filled : Memory → Memory → Expr → Type 0
@@ -138,9 +127,9 @@ filled_written : (m exit : Memory) (e : Expr) → Filled m exit e → exit ≡ w
 unfolding written
 filled_written m exit e (a, b, c) = rw (← a, ← b, ← c)
 
-abbrev pub Fills : List ℕ → List ℕ → ℕ → Memory → Memory → Type 0
+abbrev pub Fills : List ℕ → Tape → ℕ → Memory → Memory → Type 0
 Fills text tape n m exit =
-    (e : Expr) (t : List ℕ) → Located text e → judge_root e ≡ fine → length t ≡ 4096 → tape ≡ taped t 0 4294967295 e → n ≡ node_count e
+    (e : Expr) (t : Tape) → Located text e → judge_root e ≡ fine → length t ≡ 4096 → tape ≡ taped t 0 4294967295 e → n ≡ node_count e
     → Filled m exit e
 
 -- ---- the ways through a read
@@ -199,7 +188,7 @@ module _ (s : Spelling) (text : List ℕ) (m : Memory) where
         full_reads =
             full_after found.expr found.fine_root found.goes_on w.nodes w.pool found.nodes_are found.bytes_are f room
 
-        module _ (y : f ≡ 0) (exit : Memory) (tape : List ℕ) (tapes : TapeOfText s text w.number blank_tape tape)
+        module _ (y : f ≡ 0) (exit : Memory) (tape : Tape) (tapes : TapeOfText s text w.number blank_tape tape)
             (fills : Fills text tape w.nodes m exit) where
           exit_is : exit ≡ written m (places found.expr) (says (tree_of found.expr))
           exit_is =
