@@ -46,12 +46,12 @@ record ListFirst (s : List ℕ) (q : ℕ) (es : Exprs) (e : ℕ) : Type 0 where
   goes_on : RunStands s (end + 1) others e
 
 -- The first of these expressions is at q and of class c.
-pub record FirstExpression (q c : ℕ) (es : Exprs) : Type 0 where
-  pub first : Expr
-  pub others : Exprs
-  pub made : es ≡ and first others
-  pub placed : place first ≡ q
-  pub of_class : expr_class first ≡ c
+record FirstExpression (q c : ℕ) (es : Exprs) : Type 0 where
+  first : Expr
+  others : Exprs
+  made : es ≡ and first others
+  placed : place first ≡ q
+  of_class : expr_class first ≡ c
 
 record AtomFirst (s : List ℕ) (j : ℕ) (es : Exprs) (e : ℕ) : Type 0 where
   first : Expr
@@ -105,10 +105,10 @@ module _ {s : List ℕ} {r : Seen} where
 
 -- The same, of what was looked at.
 module _ {s : List ℕ} {i sort q c j l : ℕ} (looked : Looked s i sort q c j l) where
-  pub looked_end : {es : Exprs} {e : ℕ} → RunStands s i es e → sort ≡ 0 → (es ≡ none) × (q ≡ e)
+  looked_end : {es : Exprs} {e : ℕ} → RunStands s i es e → sort ≡ 0 → (es ≡ none) × (q ≡ e)
   looked_end {es} {e} t z = let r = seen_ends (look_stands s i e es t) (sym looked.0 ∙ z) in (r.0, looked.1 ∙ r.1)
 
-  pub looked_first : {es : Exprs} {e : ℕ} → RunStands s i es e → (sort ≡ 0 → ⊥) → FirstExpression q c es × (q < j)
+  looked_first : {es : Exprs} {e : ℕ} → RunStands s i es e → (sort ≡ 0 → ⊥) → FirstExpression q c es × (q < j)
   looked_first {es} {e} t z = rw (looked.1, looked.2, looked.3) (seen_first_lem (look_stands s i e es t) (λ h. z (looked.0 ∙ h)))
 
   looked_atom : {es : Exprs} {e : ℕ} → RunStands s i es e → (sort ≡ 0 → ⊥) → (sort ≡ 3 → ⊥) → AtomFirst s j es e

@@ -10,7 +10,6 @@ use native.Mathlib.Nat.{add-zero}
 use borrow.Author.Tests.{ne_eqb, eqb-true, eqb-false, not-true, not-false}
 use Rattle.std.specs.Prelude.{Option, None, Result, Ok, Err, IsErrAnd}
 use Rattle.std.specs.Option.{ok_or}
-use Rattle.std.proofs.lemmas.Result.{err_from_is_err_and}
 use Rattle.base.proofs.Booleans.{bool_case, and_true, and_false}
 use Rattle.elements.specs.rules.Class as Class
 use Rattle.elements.specs.rules.Characters.{type_character, id_character, uri_character, character_of}
@@ -37,6 +36,7 @@ use Rattle.reader.proofs.lemmas.walk.FirstToken.{symbol_here, string_here}
 use Rattle.reader.proofs.lemmas.walk.SeenExpressions.{SeenAs, saw_end, saw_symbol, saw_string, saw_list, look_stands, seen_bounds}
 use Rattle.reader.proofs.lemmas.walk.OneTurn.{Looked, seen_forward, seen_within}
 use Rattle.reader.proofs.lemmas.walk.Counts.{size_tree_lem}
+use Rattle.reader.proofs.lemmas.walk.Refusals.{passed_up}
 
 -- ---- characters
 
@@ -297,7 +297,7 @@ malformed at = record { refusal = Malformed; place = at }
 -- A value that is not there is refused.
 pub not_there : {X A : Type 0} (o : Option X) {r : Result A Refused} {at : ℕ} {f : Refused} → IsErrAnd r (λ (g : Refused). g ≡ f)
     → Err f ≡ ok_or o (malformed at) → o ≡ None → r ≡ Err (malformed at)
-not_there o {r} is e h = let p = err_from_is_err_and r is in cc (p.1, p.2, rw h at e)
+not_there o {r} is e h = cc (passed_up r is, rw h at e)
 
 pub refused_as : (at m n p : ℕ) → told (Err (malformed at)) ≡ walked_to m n p (fault 10 at)
 unfolding walked_to

@@ -1,8 +1,8 @@
 -- `judge_nested` meets its contract: each way out is one law of `TopExpressions`.
 use Rattle.syntax.specs.rules.Expression.{none}
-use Rattle.std.proofs.lemmas.Result.{err_from_is_err_and}
 use Rattle.reader.specs.internal.WalkAnswer.{told, walked_to}
 use Rattle.reader.proofs.lemmas.nested.TopExpressions.{judge_two, judge_one}
+use Rattle.reader.proofs.lemmas.walk.Refusals.{passed_up}
 use Rattle.reader.proofs.nested.judge_nested.Goals as goal
 
 pub returns-then-other-text-clause-value : goal.returns-then-other-text-clause-value
@@ -12,9 +12,8 @@ returns-then-other-text-clause-value c =
 
 pub returns-in_err-end : goal.returns-in_err-end
 returns-in_err-end c =
-    let p = err_from_is_err_and c.from_residual.result c.from_residual.ensures.1 in
     let one = judge_one (told c.judge_first-w.result) c.judge_first-w.ensures.first_judged c.second_after-other.ensures c.if-other-text.false in
-    rw (p.1, p.2) (record {
+    rw (passed_up c.from_residual.result c.from_residual.ensures.1) (record {
       value = rw c.in_err-end.was at one;
       tape_after = λ e u y full. c.in_err-end.ensures.tape_after e none u y full;
     })
