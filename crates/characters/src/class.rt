@@ -1,6 +1,6 @@
 // The classes of bytes (document 01, "Characters and brackets").
 ghost use Rattle.std.specs.Prelude.{◌≡◌};
-ghost use Rattle.syntax.specs.rules.Byte.{byte_class, is_ordinary};
+ghost use Rattle.syntax.specs.rules.Byte.{byte_class, is_blank, is_ordinary};
 ghost use Rattle.characters.specs.Codes.{code_of};
 
 // "`(` closes with `)`, `[` with `]`."
@@ -40,6 +40,13 @@ pub fn byte_class(b: u8) -> ByteClass
         0x00..=0x1F => ByteClass::Forbidden,
         _ => ByteClass::Ordinary,
     }
+}
+
+// Whether a byte is white space where it stands; a carriage return is it before a line feed alone.
+pub fn is_blank(b: u8) -> bool
+    ensures { result ≡ is_blank b }
+{
+    matches!(byte_class(b), ByteClass::Blank)
 }
 
 // Whether a byte is one of a symbol.

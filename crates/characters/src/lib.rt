@@ -5,6 +5,6 @@ mod class; // class.rt: the classes of bytes
 mod symbol; // symbol.rt: where a symbol ends
 mod values; // values.rt: the characters of values
 
-pub use class::{Bracket, ByteClass, byte_class, is_ordinary};
+pub use class::{Bracket, ByteClass, byte_class, is_blank, is_ordinary};
 pub use symbol::symbol_end;
 pub use values::{Alphabet, character};
