@@ -38,7 +38,7 @@ use Rattle.syntax.proofs.Escapes.{later}
 -- ---- the answer
 
 -- No fault has the number 0.
-kind_some : (k : FaultKind) → kind_number k ≡ 0 → ⊥
+pub kind_some : (k : FaultKind) → kind_number k ≡ 0 → ⊥
 unfolding kind_number
 kind_some ForbiddenCharacter e = omega arith
 kind_some BadStringKind e = omega arith

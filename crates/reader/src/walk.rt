@@ -18,8 +18,7 @@ ghost use Rattle.reader.specs.internal.Walk.{AnswersFrom, Finishes, JudgesList, 
 use super::tape::{END, TAPE_WORDS, enter, note};
 use super::value::value;
 use base::number;
-use characters::byte_class;
-use characters::class::ROUND_END;
+use characters::{ByteClass, byte_class};
 use inside::{may_end, step};
 use kind::Kind;
 use lexer::{A_LIST, THE_END, look};
@@ -111,7 +110,7 @@ pub fn closes(text: &[u8], i: usize) -> bool
     if text.len() <= i {
         return false;
     }
-    ROUND_END <= byte_class(text[i])
+    matches!(byte_class(text[i]), ByteClass::Closing(_))
 }
 
 // The next expression in an element of a kind at `at` with number `node`, read so far to this state.

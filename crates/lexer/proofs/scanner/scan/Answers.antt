@@ -7,7 +7,7 @@ use Prim.Native.Nat.{ℕ, ◌<◌}
 use native.Mathlib.Omega.{arith}
 use lib.ListN.{length, length-append}
 use denote.Enum.Bare.{sameb}
-use Rattle.std.specs.Result.{IsErrAnd}
+use Rattle.std.proofs.lemmas.Result.{err_from_is_err_and}
 use Rattle.characters.specs.declared.class.Bracket.{Bracket}
 use Rattle.characters.specs.declared.class.Bracket.TheVariants.{Round, Square}
 use Rattle.characters.specs.contracts.class.Bracket.{the_type}
@@ -32,10 +32,6 @@ fault_said : (text : List ℕ) (room : ℕ) (r : Result (Unit {0}) Fault) (f : F
     → (answer_number r ≡ scan_number (scan room text)) × (answer_place r ≡ scan_place (scan room text))
 unfolding answer_number answer_place
 fault_said text room r f g e = rw g (said text room (Err f) e)
-
-fault_of : (r : Result (Unit {0}) Fault) (P : Fault → Type 0) → IsErrAnd r P → (f : Fault) × (r ≡ Err f) × P f
-fault_of (Ok x) P h = absurd h
-fault_of (Err f) P h = (f, refl, h)
 
 -- The code's test of two brackets.
 tested_yes : (x y : Bracket) → sameb the_type x y ≡ true → x ≡ y
@@ -63,7 +59,7 @@ loop-i-preserved-in-Ordinary c = let inv = c.loop-i.invariant in (
 
 pub returns-in_err-i-in-Return : goal.returns-in_err-i-in-Return
 returns-in_err-i-in-Return c =
-    let (f, is, same) = fault_of c.from_residual.result _ c.from_residual.ensures.1 in
+    let (f, is, same) = err_from_is_err_and c.from_residual.result c.from_residual.ensures.1 in
     fault_said _ _ _ f is
     (sym c.loop-i.invariant.2
     ∙ return_fault _ _ c.args.text.now c.loop-i.i c.loop-i-test.true c.byte_class.result c.byte_class.ensures c.in-Return.is f (ap (λ (x : Fault). passed (Err x)) same ∙ c.in_err-i-in-Return.ensures))
@@ -79,7 +75,7 @@ loop-i-preserved-in-Return c = let inv = c.loop-i.invariant in
 pub returns-in_err-i-in-Quote : goal.returns-in_err-i-in-Quote
 unfolding kind_number
 returns-in_err-i-in-Quote c =
-    let (f, is, same) = fault_of c.from_residual-in_err-i-in-Quote.result _ c.from_residual-in_err-i-in-Quote.ensures.1 in
+    let (f, is, same) = err_from_is_err_and c.from_residual-in_err-i-in-Quote.result c.from_residual-in_err-i-in-Quote.ensures.1 in
     fault_said _ _ _ _ (is ∙ ap Err same)
     (sym c.loop-i.invariant.2
     ∙ string_fault _ _ c.args.text.now c.loop-i.i c.loop-i-test.true c.byte_class.result c.byte_class.ensures c.in-Quote.is _ c.in_err-i-in-Quote.ensures)
