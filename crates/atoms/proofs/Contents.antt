@@ -1,20 +1,26 @@
 -- What a string stands for, piece by piece.
 use mathlib.Core.Path.{◌≡◌, refl, ap, sym, ◌∙◌}
-use mathlib.Core.Bool.{Bool, true, false, cond}
+use mathlib.Core.Bool.{Bool, true, false, cond, true≢false}
 use mathlib.Core.List.{List, [], ◌∷◌, ◌++◌}
 use Prim.Native.Nat.{ℕ, zero, suc, ◌+◌, ◌-◌, ◌≤◌, ◌<◌}
 use native.Mathlib.Nat.{add-zero, add_assoc}
 use native.Mathlib.Omega.{arith}
 use lib.Dec.{eqb, leb}
-use borrow.Author.Tests.{eq-eqb, ne_eqb, leb-true, leb-false}
+use borrow.Author.Tests.{ne_eqb, eqb-true, eqb-false, leb-true, leb-false}
 use lib.ListN.{length, take, drop, get_or, length-append, drop_of_length-le}
 use lib.Seq.{sets, drop-cons, drop-drop}
+use Rattle.std.specs.Prelude.{Some, None, Ok, Err}
 use Rattle.base.proofs.Booleans.{bool_case, true_T}
+use Rattle.syntax.specs.rules.Byte.{is_raw}
 use Rattle.syntax.specs.rules.Syntax.{Piece, raw, is_piece, piece_before, piece_value, pieces_value}
 use Rattle.syntax.specs.reference.Scan.{Quoted, closed, unclosed, bad_escape, piece, escape_at, quoted_from, ordinary_run}
-use Rattle.atoms.specs.Atom.{string_end, string_at, content_of, piece_at, atom_value}
+use Rattle.atoms.specs.Atom.{StringEnd, ended, string_end, string_at, content_of, piece_at, atom_value}
+use Rattle.atoms.specs.declared.string.StringEnd as Ended
+use Rattle.atoms.specs.declared.string.BadString.{BadString}
 use Rattle.syntax.proofs.Escapes.{first_of}
-use Rattle.atoms.proofs.PieceAt.{piece_few, piece_short, Told, PieceStands, stands_told, raw_piece, read_on}
+use Rattle.atoms.specs.declared.pieces.PieceSeen.{PieceSeen}
+use Rattle.atoms.specs.internal.PieceSeen.{piece_stands, piece_seen}
+use Rattle.atoms.proofs.PieceAt.{piece_few, piece_short, piece_good, piece_none, piece_raw, raw_piece, read_on}
 use Rattle.atoms.specs.internal.Run.{plain_run}
 use Rattle.base.proofs.Stores.{sets_append}
 use Rattle.atoms.proofs.stores.PieceStores.{bytes_of}
@@ -156,6 +162,19 @@ fault_nothing text place found e h =
     content_anywhere (drop 1 (drop place text)) 1 (place + 1)
     ∙ number_nothing place (quoted_from 0 (place + 1) (drop 1 (drop place text))) (λ f. h (e ∙ f))
 
+-- What the code's answer says of both.
+pub good_ended : (a : StringEnd) (s : Ended.StringEnd) → ended (Ok s) ≡ a → (0 ≡ a.number) × (s.next ≡ a.next) × (s.length ≡ a.length)
+unfolding ended
+good_ended a s e = (ap (λ (x : StringEnd). x.number) e, ap (λ (x : StringEnd). x.next) e, ap (λ (x : StringEnd). x.length) e)
+
+pub good_number : (text : List ℕ) (place : ℕ) (s : Ended.StringEnd) → ended (Ok s) ≡ string_at place (drop place text) → 0 ≡ (string_at place (drop place text)).number
+good_number text place s e = (good_ended _ s e).0
+
+pub faulty_nothing : (text : List ℕ) (place : ℕ) (f : BadString) → ended (Err f) ≡ string_at place (drop place text)
+    → content_of (quoted_from 0 1 (drop 1 (drop place text))) ≡ []
+unfolding ended
+faulty_nothing text place f e = fault_nothing text place 4 (ap (λ (x : StringEnd). x.number) e) (λ z. omega arith)
+
 -- A string is written up to place i of the text, with k bytes: what is left of it, written on, gives what the whole gives.
 pub record ContentSoFar (text : List ℕ) (place : ℕ) (start : List ℕ) (at : ℕ) (out : List ℕ) (i k : ℕ) : Type 0 where
   pub fits : k ≤ i
@@ -186,14 +205,14 @@ module _ (text : List ℕ) (place found : ℕ) (e : found ≡ (string_at place (
       record { fits = omega arith; ends = closed_string; left = rw same (omega arith); written = rw (same, add-zero at) }
 
 -- From place i on a string goes on, up to its closing quote: what the code has of the piece that stands at i, and the next one, which is further on.
-pub record ContentTurned (text : List ℕ) (i next size a b d : ℕ) : Type 0 where
-  pub stands : PieceStands (piece_at (drop i text)) i next size a b d
-  pub further : i < next
-  pub less : i + size ≤ next
-  pub short : a ∷ take (size - 1) (b ∷ d ∷ []) ≡ piece_value (piece_at (drop i text))
-  pub inside : next < length text
-  pub ends : is_closed (quoted_from 0 next (drop next text)) ≡ true
-  pub more : content_of (quoted_from 0 i (drop i text)) ≡ piece_value (piece_at (drop i text)) ++ content_of (quoted_from 0 next (drop next text))
+pub record ContentTurned (text : List ℕ) (i : ℕ) (q : PieceSeen) : Type 0 where
+  pub size : q.size ≡ length (piece_value (piece_at (drop i text)))
+  pub further : i < q.next
+  pub less : i + q.size ≤ q.next
+  pub short : q.first ∷ take (q.size - 1) (q.second ∷ q.third ∷ []) ≡ piece_value (piece_at (drop i text))
+  pub inside : q.next < length text
+  pub ends : is_closed (quoted_from 0 q.next (drop q.next text)) ≡ true
+  pub more : content_of (quoted_from 0 i (drop i text)) ≡ piece_value (piece_at (drop i text)) ++ content_of (quoted_from 0 q.next (drop q.next text))
 
 module _ (text : List ℕ) (i : ℕ) (c : is_closed (quoted_from 0 i (drop i text)) ≡ true) where
   abbrev here : Piece
@@ -227,35 +246,50 @@ module _ (text : List ℕ) (i : ℕ) (c : is_closed (quoted_from 0 i (drop i tex
     quoted_ends : is_closed (quoted_from 0 (i + length (piece_before here [])) (drop (i + length (piece_before here [])) text)) ≡ true
     quoted_ends = sym (piece_closed here _) ∙ ap is_closed (sym quoted_next) ∙ c
 
-    pub quoted_turn : (next size a b d : ℕ) → (i < length text → Told here i next size a b d) → ContentTurned text i next size a b d
-    quoted_turn next size a b d told =
-        let t = stands_told here i next size a b d good_piece (told quoted_inside) in
-        let (e, s, x, y, z) = t in
+    pub quoted_turn : (q : PieceSeen) → Some q ≡ piece_seen i here → ContentTurned text i q
+    unfolding piece_stands
+    quoted_turn q seen =
         let (some, less, less-than-7) = piece_few here in
-        let ends : is_closed (quoted_from 0 next (drop next text)) ≡ true = rw e quoted_ends in
-        record {
-          stands = t;
+        let is : q ≡ piece_stands i here = (piece_good here i q seen).1 in
+        let ends : is_closed (quoted_from 0 (i + length (piece_before here [])) (drop (i + length (piece_before here [])) text)) ≡ true = quoted_ends in
+        rw is
+        (record {
+          size = refl;
           further = omega arith;
           less = omega arith;
-          short = rw (s, x, y, z, bytes_of (piece_value here) some (piece_short here (true_T good_piece)));
-          inside = inside_closed text next next ends;
+          short = bytes_of (piece_value here) some (piece_short here (true_T good_piece));
+          inside = inside_closed text (i + length (piece_before here [])) (i + length (piece_before here [])) ends;
           ends = ends;
-          more = rw (quoted_next, e) (piece_content here _ quoted_ends);
-        }
+          more = rw quoted_next (piece_content here _ quoted_ends);
+        })
+
+  -- Where the code has no piece, the closing quote stands.
+  pub quoted_quote : None ≡ piece_seen i here → get_or text i 0 ≡ 0x22
+  quoted_quote none =
+      bool_case (eqb (get_or text i 0) 0x22) (λ e. eqb-true (get_or text i 0) 0x22 e)
+      (λ e. absurd (true≢false (sym (good_piece (eqb-false (get_or text i 0) 0x22 e)) ∙ piece_none here i none)))
+
+  -- And where it has one, no quote does.
+  pub quoted_piece : (q : PieceSeen) → Some q ≡ piece_seen i here → get_or text i 0 ≡ 0x22 → ⊥
+  unfolding is_piece is_raw
+  quoted_piece q seen e =
+      let no : get_or text i 0 ≡ 0x5C → ⊥ = λ f. omega arith in
+      let none : is_piece here ≡ false = ap is_piece (piece_raw text i no) ∙ rw e in
+      true≢false (sym (piece_good here i q seen).0 ∙ none)
 
 module _ (text : List ℕ) (place : ℕ) (start : List ℕ) (at : ℕ) (out : List ℕ) (i k : ℕ) (c : ContentSoFar text place start at out i k) where
   abbrev value : List ℕ
   value = piece_value (piece_at (drop i text))
 
   -- With the piece that stands there written, the string is written up to the next one, which is further on.
-  pub content_turn : (get_or text i 0 ≡ 0x22 → ⊥) → (l : List ℕ) (next size a b d : ℕ) → (i < length text → Told (piece_at (drop i text)) i next size a b d)
-      → l ≡ sets out (at + k) (a ∷ take (size - 1) (b ∷ d ∷ []))
-      → (i < next) × (next < length text) × ContentSoFar text place start at l next (k + size)
-  content_turn h l next size a b d told f =
-      let t = quoted_turn text i c.ends h next size a b d told in
-      let s : size ≡ length value = t.stands.1 in
+  pub content_turn : (l : List ℕ) (q : PieceSeen) → Some q ≡ piece_seen i (piece_at (drop i text))
+      → l ≡ sets out (at + k) (q.first ∷ take (q.size - 1) (q.second ∷ q.third ∷ []))
+      → (i < q.next) × (q.next < length text) × ContentSoFar text place start at l q.next (k + q.size)
+  content_turn l q seen f =
+      let t = quoted_turn text i c.ends (quoted_piece text i c.ends q seen) q seen in
+      let s : q.size ≡ length value = t.size in
       let all : l ≡ sets out (at + k) value = f ∙ rw t.short in
-      let step : ContentSoFar text place start at l next (k + size) = record {
+      let step : ContentSoFar text place start at l q.next (k + q.size) = record {
         fits = omega (arith, c.fits, t.less);
         ends = t.ends;
         left = omega (arith, rw (t.more, length-append value) at c.left);
@@ -278,19 +312,19 @@ module _ (text : List ℕ) (place : ℕ) (start : List ℕ) (at : ℕ) (out : Li
         written = rw (all, size, ← add_assoc at k (length r), ← sets_append) (rw t.1 at c.written);
       }
 
-  pub content_done : get_or text i 0 ≡ 0x22
+  pub content_done : None ≡ piece_seen i (piece_at (drop i text))
       → (k ≡ length (content_of (quoted_from 0 1 (drop 1 (drop place text))))) × (out ≡ sets start at (content_of (quoted_from 0 1 (drop 1 (drop place text)))))
   content_done e =
-      let none = quoted_done text i c.ends e in
+      let none = quoted_done text i c.ends (quoted_quote text i c.ends e) in
       (omega (arith, rw none at c.left), rw none at c.written)
 
 -- ---- symbols and strings, by the first byte
 
-module _ (text : List ℕ) (place b : ℕ) (e : b ≡ get_or text place 0) where
-  pub atom_string : b ≡ 0x22 → atom_value (drop place text) ≡ content_of (quoted_from 0 1 (drop 1 (drop place text)))
+module _ (text : List ℕ) (place : ℕ) where
+  pub atom_string : get_or text place 0 ≡ 0x22 → atom_value (drop place text) ≡ content_of (quoted_from 0 1 (drop 1 (drop place text)))
   unfolding atom_value
-  atom_string f = rw (first_of text place, ← e, eq-eqb b 0x22 f)
+  atom_string f = rw (first_of text place, f)
 
-  pub atom_symbol : (b ≡ 0x22 → ⊥) → atom_value (drop place text) ≡ ordinary_run (drop place text)
+  pub atom_symbol : (get_or text place 0 ≡ 0x22 → ⊥) → atom_value (drop place text) ≡ ordinary_run (drop place text)
   unfolding atom_value
-  atom_symbol f = rw (first_of text place, ← e, ne_eqb b 0x22 f)
+  atom_symbol f = rw (first_of text place, ne_eqb (get_or text place 0) 0x22 f)

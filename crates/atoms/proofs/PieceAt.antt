@@ -3,19 +3,21 @@ use Prim.Native.Nat.{ℕ, suc, ◌+◌, ◌≤◌, ◌<◌}
 use mathlib.Core.Path.{◌≡◌, refl, ap, sym, ◌∙◌}
 use mathlib.Core.Bool.{Bool, true, false, cond}
 use mathlib.Core.List.{List, [], ◌∷◌}
-use native.Mathlib.Nat.{add-zero}
 use native.Mathlib.Omega.{arith}
 use lib.Dec.{T, eqb, leb}
-use lib.ListN.{length, drop, get_or}
+use lib.ListN.{length, drop, get_or, drop_of_length-le}
 use lib.Seq.{drop-cons, drop-drop, drop_at}
 use borrow.Author.Tests.{eqb-true, ne_eqb, le-leb}
-use Rattle.base.proofs.Booleans.{bool_case, cond_case, true_T}
+use Rattle.std.specs.Prelude.{Some, None}
+use Rattle.base.proofs.Booleans.{cond_case, true_T}
 use Rattle.utf8.specs.rules.Scalar.{encode}
 use Rattle.syntax.specs.rules.Byte.{is_raw}
 use Rattle.syntax.specs.rules.Syntax.{Piece, raw, letter, number, is_piece, piece_before, piece_value, letter_value, hex_value}
 use Rattle.syntax.specs.reference.Scan.{piece, escape_at, quoted_from}
 use Rattle.atoms.specs.Atom.{piece_at}
-use Rattle.atoms.specs.internal.StringStep.{piece_length, piece_bytes}
+use Rattle.atoms.specs.declared.pieces.PieceSeen.{PieceSeen}
+use Rattle.atoms.specs.internal.Escape.{escape_value}
+use Rattle.atoms.specs.internal.PieceSeen.{piece_stands, piece_seen}
 use Rattle.syntax.proofs.Strings.{EscapeDigits, digits_of, piece_append, quoted_piece, escape_spelled}
 use Rattle.syntax.proofs.Escapes.{hex_small, first_of}
 
@@ -61,42 +63,30 @@ piece_short (number d₁ d₂ d₃ d₄) t = number_short d₁ d₂ d₃ d₄ (d
 
 -- ---- what the code has of a piece
 
--- The place after it, how many bytes it stands for, and the first three.
-abbrev pub Told : Piece → ℕ → ℕ → ℕ → ℕ → ℕ → ℕ → Type 0
-Told p place next size a b c =
-    (next ≡ place + piece_length p) × (size ≡ length (piece_bytes p))
-    × (a ≡ get_or (piece_bytes p) 0 0) × (b ≡ get_or (piece_bytes p) 1 0) × (c ≡ get_or (piece_bytes p) 2 0)
+-- A piece that the code has stands there, and where it has none there is none.
+pub piece_good : (p : Piece) (place : ℕ) (q : PieceSeen) → Some q ≡ piece_seen place p → (is_piece p ≡ true) × (q ≡ piece_stands place p)
+unfolding piece_seen
+piece_good p place q e = go (is_piece p) e
+  where
+    go : (t : Bool) → Some q ≡ cond t (Some (piece_stands place p)) None → (t ≡ true) × (q ≡ piece_stands place p)
+    go true e = (refl, cc)
+    go false e = cc
 
--- The same of what is a piece.
-abbrev pub PieceStands : Piece → ℕ → ℕ → ℕ → ℕ → ℕ → ℕ → Type 0
-PieceStands p place next size a b c =
-    (next ≡ place + length (piece_before p [])) × (size ≡ length (piece_value p))
-    × (a ≡ get_or (piece_value p) 0 0) × (b ≡ get_or (piece_value p) 1 0) × (c ≡ get_or (piece_value p) 2 0)
+pub piece_none : (p : Piece) (place : ℕ) → None ≡ piece_seen place p → is_piece p ≡ false
+unfolding piece_seen
+piece_none p place e = go (is_piece p) e
+  where
+    go : (t : Bool) → None ≡ cond t (Some (piece_stands place p)) None → t ≡ false
+    go true e = cc
+    go false e = refl
 
-module _ (p : Piece) (place next size a b c : ℕ) where
-  pub told_stands : is_piece p ≡ true → PieceStands p place next size a b c → Told p place next size a b c
-  unfolding piece_length piece_bytes
-  told_stands e t = rw e t
+pub seen_good : (p : Piece) (place : ℕ) → is_piece p ≡ true → piece_seen place p ≡ Some (piece_stands place p)
+unfolding piece_seen
+seen_good p place e = rw e
 
-  pub stands_told : is_piece p ≡ true → Told p place next size a b c → PieceStands p place next size a b c
-  unfolding piece_length piece_bytes
-  stands_told e t = rw e at t
-
-  pub told_none : is_piece p ≡ false → (next ≡ place) × (size ≡ 0) × (a ≡ 0) × (b ≡ 0) × (c ≡ 0) → Told p place next size a b c
-  unfolding piece_length piece_bytes
-  told_none e t = rw (e, add-zero place) t
-
--- The place after it tells whether it is a piece.
-pub stays : (p : Piece) (place next : ℕ) → next ≡ place + piece_length p → next ≡ place → is_piece p ≡ false
-unfolding piece_length
-stays p place next e f =
-    bool_case (is_piece p)
-    (λ t. let z : next ≡ place + length (piece_before p []) = rw t at e in absurd (omega (arith, piece_few p)))
-    (λ g. g)
-
-pub moves : (p : Piece) (place next : ℕ) → next ≡ place + piece_length p → (next ≡ place → ⊥) → is_piece p ≡ true
-unfolding piece_length
-moves p place next e f = bool_case (is_piece p) (λ t. t) (λ g. let z : next ≡ place + 0 = rw g at e in absurd (f (z ∙ add-zero place)))
+pub seen_none : (p : Piece) (place : ℕ) → is_piece p ≡ false → piece_seen place p ≡ None
+unfolding piece_seen
+seen_none p place e = rw e
 
 -- ---- escapes
 
@@ -112,17 +102,40 @@ pub by_letter_lem : (s : List ℕ) (c : ℕ) → get_or s 0 0 ≡ c → (c ≡ 0
 unfolding escape_at
 by_letter_lem s c e h = rw (e, ne_eqb c 0x75 h)
 
-module _ (s : List ℕ) (place next size a b c : ℕ) where
-  pub told_number : (value : ℕ) → get_or s 0 0 ≡ 0x75 → is_piece (number_in s) ≡ true → value ≡ hex_value (get_or s 1 0) (get_or s 2 0) (get_or s 3 0) (get_or s 4 0)
-      → (next ≡ place + 6) × (size ≡ length (encode value)) × (a ≡ get_or (encode value) 0 0) × (b ≡ get_or (encode value) 1 0) × (c ≡ get_or (encode value) 2 0)
-      → Told (escape_at s) place next size a b c
-  unfolding piece_before piece_value
-  told_number value e g f t = rw (by_number s e) (told_stands (number_in s) place next size a b c g (rw f at t))
+module _ (s : List ℕ) (place : ℕ) where
+  pub seen_number : (value : ℕ) → get_or s 0 0 ≡ 0x75 → Some value ≡ escape_value (get_or s 1 0) (get_or s 2 0) (get_or s 3 0) (get_or s 4 0)
+      → piece_seen place (escape_at s)
+      ≡ Some (record { next = place + 6; size = length (encode value); first = get_or (encode value) 0 0; second = get_or (encode value) 1 0; third = get_or (encode value) 2 0 })
+  unfolding escape_value piece_stands piece_before piece_value
+  seen_number value e f =
+      let (good, is-value) = go (is_piece (number_in s)) f in
+      rw (by_number s e, seen_good (number_in s) place good, is-value)
+    where
+      go : (t : Bool) → Some value ≡ cond t (Some (hex_value (get_or s 1 0) (get_or s 2 0) (get_or s 3 0) (get_or s 4 0))) None
+          → (t ≡ true) × (value ≡ hex_value (get_or s 1 0) (get_or s 2 0) (get_or s 3 0) (get_or s 4 0))
+      go true e = (refl, cc)
+      go false e = cc
 
-  pub told_letter : (l value : ℕ) → get_or s 0 0 ≡ l → (l ≡ 0x75 → ⊥) → is_piece (letter l) ≡ true → value ≡ letter_value l
-      → (next ≡ place + 2) × (size ≡ 1) × (a ≡ value) × (b ≡ 0) × (c ≡ 0) → Told (escape_at s) place next size a b c
-  unfolding piece_before piece_value
-  told_letter l value e h g f t = rw (by_letter_lem s l e h) (told_stands (letter l) place next size a b c g (rw f at t))
+  pub no_number : get_or s 0 0 ≡ 0x75 → None ≡ escape_value (get_or s 1 0) (get_or s 2 0) (get_or s 3 0) (get_or s 4 0) → piece_seen place (escape_at s) ≡ None
+  unfolding escape_value
+  no_number e f = rw (by_number s e) (seen_none (number_in s) place (go (is_piece (number_in s)) f))
+    where
+      go : (t : Bool) → None ≡ cond t (Some (hex_value (get_or s 1 0) (get_or s 2 0) (get_or s 3 0) (get_or s 4 0))) None → t ≡ false
+      go true e = cc
+      go false e = refl
+
+  pub seen_letter : (l : ℕ) → get_or s 0 0 ≡ l → (l ≡ 0x75 → ⊥) → is_piece (letter l) ≡ true
+      → piece_seen place (escape_at s) ≡ Some (record { next = place + 2; size = 1; first = letter_value l; second = 0; third = 0 })
+  unfolding piece_stands piece_before piece_value
+  seen_letter l e h g = rw (by_letter_lem s l e h) (seen_good (letter l) place g)
+
+  pub no_letter : (l : ℕ) → get_or s 0 0 ≡ l → (l ≡ 0x75 → ⊥) → is_piece (letter l) ≡ false → piece_seen place (escape_at s) ≡ None
+  no_letter l e h g = rw (by_letter_lem s l e h) (seen_none (letter l) place g)
+
+-- Past the end of the text there is no escape.
+pub no_escape : (text : List ℕ) (i place : ℕ) → length text ≤ i → piece_seen place (escape_at (drop i text)) ≡ None
+unfolding is_piece
+no_escape text i place h = rw (drop_of_length-le text h) (no_letter [] place 0 refl (λ e. omega arith) refl)
 
 -- ---- the piece at a place
 

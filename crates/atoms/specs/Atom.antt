@@ -1,10 +1,12 @@
 -- Symbols and strings at a place of a text: where a string ends, and what a string or a symbol stands for. The text is given by its bytes from the place on.
-use Rattle.std.specs.Prelude.{ℕ, ◌+◌, Bool, true, cond, ◌&&◌, List, [], ◌∷◌, eqb}
+use Rattle.std.specs.Prelude.{ℕ, ◌+◌, Bool, true, cond, ◌&&◌, List, [], ◌∷◌, eqb, Result, Ok, Err}
 use lib.ListN.{length, get_or, drop}
 use Rattle.base.specs.rules.Numbers as Number
 use Rattle.elements.specs.rules.Characters.{character_of}
 use Rattle.syntax.specs.rules.Syntax.{Piece, raw, pieces_before, pieces_value}
 use Rattle.syntax.specs.reference.Scan.{Quoted, closed, unclosed, bad_escape, quoted_from, escape_at, ordinary_run}
+use Rattle.atoms.specs.declared.string.StringEnd as String
+use Rattle.atoms.specs.declared.string.BadString as Bad
 
 -- The string whose opening quote is at place n: number 0, the place after its closing quote and the length of what it stands for;
 -- or number 4 with the place of the fault.
@@ -13,6 +15,11 @@ pub record StringEnd : Type 0 where
   pub place : ℕ
   pub next : ℕ
   pub length : ℕ
+
+-- The code's answer (src/string.rt) as this record.
+unfoldable pub ended : Result String.StringEnd Bad.BadString → StringEnd
+ended (Ok s) = record { number = Number.ok; place = 0; next = s.next; length = s.length }
+ended (Err f) = record { number = Number.bad_string; place = f.place; next = 0; length = 0 }
 
 unfoldable pub string_end : ℕ → Quoted → StringEnd
 string_end n (closed []) = record { number = Number.bad_string; place = n; next = 0; length = 0 }

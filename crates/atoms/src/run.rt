@@ -13,26 +13,16 @@ fn plain(b: u8) -> bool
     (b != 0x22) & (b != 0x5C)
 }
 
-// Whether the eight bytes from a place on are plain.
-fn plain_8(text: &[u8], i: usize) -> bool
-    requires { i + 8 ≤ length text.now }
-    ensures { result ≡ leb 8 (length (plain_run (drop i text.now))) }
+// Whether the N bytes from a place on are plain.
+fn plain_block<const N: usize>(text: &[u8], i: usize) -> bool
+    requires { i + N ≤ length text.now }
+    ensures { result ≡ leb N (length (plain_run (drop i text.now))) }
 {
-    plain(text[i])
-        & plain(text[i + 1])
-        & plain(text[i + 2])
-        & plain(text[i + 3])
-        & plain(text[i + 4])
-        & plain(text[i + 5])
-        & plain(text[i + 6])
-        & plain(text[i + 7])
-}
-
-fn plain_16(text: &[u8], i: usize) -> bool
-    requires { i + 16 ≤ length text.now }
-    ensures { result ≡ leb 16 (length (plain_run (drop i text.now))) }
-{
-    plain_8(text, i) & plain_8(text, i + 8)
+    let mut all = true;
+    for k in 0..N {
+        all = all & plain(text[i + k]);
+    }
+    all
 }
 
 // The place after blocks of 16 plain bytes, from which on the run ends where it ends.
@@ -44,7 +34,7 @@ fn blocks_end(text: &[u8], from: usize) -> usize
         return i;
     }
     while 16 <= text.len() - i {
-        if !plain_16(text, i) {
+        if !plain_block::<16>(text, i) {
             return i;
         }
         i += 16;
@@ -62,7 +52,7 @@ fn block_end(text: &[u8], from: usize) -> usize
     if text.len() - from < 8 {
         return from;
     }
-    if plain_8(text, from) {
+    if plain_block::<8>(text, from) {
         return from + 8;
     }
     from

@@ -7,8 +7,7 @@ ghost use Rattle.atoms.specs.Atom.{atom_value, content_of, string_at};
 use super::pieces::{PieceSeen, piece};
 use super::run::{plain_end, put_run};
 use super::string::string_at;
-use base::number;
-use characters::{byte_at, symbol_end};
+use characters::symbol_end;
 
 // One byte, k bytes from an index on.
 fn store(out: &mut [u8], at: usize, k: usize, b: u8)
@@ -51,7 +50,8 @@ fn put_symbol(text: &[u8], place: usize, out: &mut [u8], at: usize) -> usize
     end - place
 }
 
-// The string whose opening quote is at a place, run by run with an escape after each but the last.
+// The string whose opening quote is at a place, run by run with an escape after each but the last, which the closing
+// quote ends.
 fn put_runs(text: &[u8], place: usize, out: &mut [u8], at: usize) -> usize
     requires { (string_at place (drop place text.now)).number ≡ 0 }
     ensures { (result ≡ length (content_of (quoted_from 0 1 (drop 1 (drop place text.now)))))
@@ -63,10 +63,9 @@ fn put_runs(text: &[u8], place: usize, out: &mut [u8], at: usize) -> usize
         let end = plain_end(text, i);
         put_run(out, at, k, &text[i..end]);
         k += end - i;
-        if byte_at(text, end) == 0x22 {
+        let Some(p) = piece(text, end) else {
             return k;
-        }
-        let p = piece(text, end);
+        };
         put_piece(out, at, k, p);
         k += p.size;
         i = p.next;
@@ -79,10 +78,9 @@ fn put_string(text: &[u8], place: usize, out: &mut [u8], at: usize) -> usize
     ensures { (result ≡ length (content_of (quoted_from 0 1 (drop 1 (drop place text.now)))))
         × (out.new ≡ sets out.old at (content_of (quoted_from 0 1 (drop 1 (drop place text.now))))) }
 {
-    let string = string_at(text, place);
-    if string.number != number::OK {
+    let Ok(string) = string_at(text, place) else {
         return 0;
-    }
+    };
     let from = place + 1;
     let end = string.next - 1;
     if string.length == end - from {
@@ -97,7 +95,7 @@ pub fn put_atom(text: &[u8], place: usize, out: &mut [u8], at: usize) -> usize
     ensures { (result ≡ length (atom_value (drop place text.now)))
         × (out.new ≡ sets out.old at (atom_value (drop place text.now))) }
 {
-    if byte_at(text, place) == 0x22 {
+    if text.get(place) == Some(&b'"') {
         return put_string(text, place, out, at);
     }
     put_symbol(text, place, out, at)

@@ -1,3 +1,3 @@
--- Laws that other crates cite: the numbers of the classes of bytes, and symbols byte by byte.
-pub mod ClassNumbers
+-- Laws that other crates cite: what the code's class of a byte tells, and symbols byte by byte.
+pub mod Classes
 pub mod Symbols

@@ -1,43 +1,29 @@
--- The classes of bytes as numbers, for code.
+-- The code's own types for those of the rules.
 use Rattle.std.specs.Prelude.{ℕ}
-use Rattle.syntax.specs.rules.Byte.{round, square, ByteClass, blank, return, quote, forbidden, ordinary, opening, closing}
+use Rattle.syntax.specs.rules.Byte as Byte
+use Rattle.characters.specs.declared.class.Bracket.{Bracket}
+use Rattle.characters.specs.declared.class.Bracket.TheVariants.{Round, Square}
+use Rattle.characters.specs.declared.class.ByteClass.{ByteClass}
+use Rattle.characters.specs.declared.class.ByteClass.TheVariants.{Blank, Return, Quote, Forbidden, Ordinary, Opening, Closing}
+use Rattle.characters.specs.declared.values.Alphabet.{Alphabet}
+use Rattle.characters.specs.declared.values.Alphabet.TheVariants.{«Type», Id, Uri}
 
--- The numbers of the classes of bytes, as the code has them (src/class.rt).
-abbrev pub blank_code : ℕ
-blank_code = 0
+-- Brackets and the classes of bytes (src/class.rt).
+unfoldable pub bracket_code : Byte.Bracket → Bracket
+bracket_code Byte.round = Round
+bracket_code Byte.square = Square
 
-abbrev pub return_code : ℕ
-return_code = 1
+unfoldable pub code_of : Byte.ByteClass → ByteClass
+code_of Byte.blank = Blank
+code_of Byte.return = Return
+code_of Byte.quote = Quote
+code_of Byte.forbidden = Forbidden
+code_of Byte.ordinary = Ordinary
+code_of (Byte.opening x) = Opening (bracket_code x)
+code_of (Byte.closing x) = Closing (bracket_code x)
 
-abbrev pub quote_code : ℕ
-quote_code = 2
-
-abbrev pub forbidden_code : ℕ
-forbidden_code = 3
-
-abbrev pub ordinary_code : ℕ
-ordinary_code = 4
-
-abbrev pub round_code : ℕ
-round_code = 5
-
-abbrev pub square_code : ℕ
-square_code = 6
-
-abbrev pub round_end_code : ℕ
-round_end_code = 7
-
-abbrev pub square_end_code : ℕ
-square_end_code = 8
-
--- A number for each class of bytes.
-unfoldable pub code_of : ByteClass → ℕ
-code_of blank = blank_code
-code_of return = return_code
-code_of quote = quote_code
-code_of forbidden = forbidden_code
-code_of ordinary = ordinary_code
-code_of (opening round) = round_code
-code_of (opening square) = square_code
-code_of (closing round) = round_end_code
-code_of (closing square) = square_end_code
+-- The sort of characters of an alphabet (src/values.rt).
+unfoldable pub alphabet_number : Alphabet → ℕ
+alphabet_number «Type» = 0
+alphabet_number Id = 1
+alphabet_number Uri = 2

@@ -1,52 +1,45 @@
 // The characters of ids, types and targets (document 01, "Elements" and its settlements).
 ghost use Rattle.std.specs.Prelude.{◌≡◌};
 ghost use Rattle.elements.specs.rules.Characters.{type_character, id_character, uri_character, character_of};
+ghost use Rattle.characters.specs.Codes.{alphabet_number};
 
+// Whose characters are asked for: those of a type, of an id or the target of a link, or of a URI.
+#[derive(Clone, Copy, Debug, PartialEq, Eq)]
+pub enum Alphabet {
+    Type,
+    Id,
+    Uri,
+}
+
+#[tactic(auto, unfolding(elements::specs::rules::Characters::type_character, elements::specs::rules::Characters::is_letter, elements::specs::rules::Characters::is_digit))]
 fn type_character(b: u8) -> bool
     ensures { result ≡ type_character b }
 {
-    if b <= b'9' {
-        return b'0' <= b;
-    }
-    if b <= b'Z' {
-        return b'A' <= b;
-    }
-    if b < b'a' {
-        return b == b'_';
-    }
-    b <= b'z'
+    matches!(b, b'0'..=b'9' | b'A'..=b'Z' | b'_' | b'a'..=b'z')
 }
 
+#[tactic(auto, unfolding(elements::specs::rules::Characters::id_character))]
 fn id_character(b: u8) -> bool
     ensures { result ≡ id_character b }
 {
-    if b == b'-' {
-        return true;
-    }
-    if b == b'.' {
-        return true;
-    }
-    type_character(b)
+    b == b'-' || b == b'.' || type_character(b)
 }
 
+#[tactic(auto, unfolding(elements::specs::rules::Characters::uri_character))]
 fn uri_character(b: u8) -> bool
     ensures { result ≡ uri_character b }
 {
-    if b < 0x21 {
-        return false;
-    }
-    b <= 0x7E
+    matches!(b, 0x21..=0x7E)
 }
 
-// Whether a byte is a character of a value: of a type (0), of an id or the target of a link (1), else of a URI.
-pub fn character(sort: u8, b: u8) -> bool
-    ensures { result ≡ character_of sort b }
+// Whether a byte is a character of a value.
+#[tactic(auto, unfolding(elements::specs::rules::Characters::character_of, crate::specs::Codes::alphabet_number))]
+pub fn character(alphabet: Alphabet, b: u8) -> bool
+    ensures { result ≡ character_of (alphabet_number alphabet) b }
 {
-    if sort == 0 {
-        return type_character(b);
+    match alphabet {
+        Alphabet::Type => type_character(b),
+        Alphabet::Id => id_character(b),
+        Alphabet::Uri => uri_character(b),
     }
-    if sort == 1 {
-        return id_character(b);
-    }
-    uri_character(b)
 }

@@ -1,6 +1,5 @@
 -- What is seen at a place, by the class of its byte and the names that lead lists.
-use mathlib.Core.Path.{◌≡◌, refl, sym, ◌∙◌}
-use mathlib.Core.Logic.{◌⊎◌, inr, ⊎_elim}
+use mathlib.Core.Path.{◌≡◌, refl, ◌∙◌}
 use mathlib.Core.List.{List, ◌∷◌}
 use Prim.Native.Nat.{ℕ, ◌+◌, ◌-◌, ◌≤◌, ◌<◌}
 use native.Mathlib.Omega.{arith}
@@ -9,14 +8,17 @@ use lib.ListN.{length, take, drop, get_or, length-drop, drop_of_length-le}
 use lib.Seq.{drop-cons, drop-drop}
 use Rattle.elements.specs.rules.Bytes.{same, codes}
 use Rattle.elements.specs.rules.Class.{class_of, class_in, names, as_name}
-use Rattle.syntax.specs.rules.Byte.{round, square, ByteClass, blank, return, quote, forbidden, ordinary, opening, closing, byte_class}
+use Rattle.syntax.specs.rules.Byte.{byte_class}
 use Rattle.syntax.specs.reference.Scan.{ordinary_run}
+use Rattle.characters.specs.declared.class.Bracket.{Bracket}
+use Rattle.characters.specs.declared.class.ByteClass.{ByteClass}
+use Rattle.characters.specs.declared.class.ByteClass.TheVariants.{Blank, Return, Quote, Forbidden, Ordinary, Opening, Closing}
 use Rattle.characters.specs.Codes.{code_of}
 use Rattle.atoms.specs.Atom.{string_at}
 use Rattle.lexer.specs.Token.{blanks, lead_class_at, lead_length, Seen, seen_end, seen_by, seen_first, seen}
 use Rattle.characters.proofs.Symbols.{run_fits, run_part}
 use Rattle.lexer.proofs.Blanks.{blank_stop, blanks_fit}
-use Rattle.characters.proofs.ClassNumbers.{class_by, code_class}
+use Rattle.characters.proofs.Classes.{class_by, code_class, blank_no}
 
 -- What is seen has these fields.
 abbrev pub Fields : ℕ → ℕ → ℕ → ℕ → ℕ → Seen → Type 0
@@ -31,56 +33,44 @@ pub seen_past : (text : List ℕ) (n : ℕ) → length text ≤ n → Fields 0 n
 unfolding seen_first seen_end
 seen_past text n h = rw (drop_of_length-le text h) (refl, refl, refl, refl, refl)
 
--- A byte that is no part of a symbol and opens nothing ends the run.
-end_by : (c : ByteClass) (n b : ℕ) (s : List ℕ) → (code_of c ≡ 4 → ⊥) → (code_of c ≡ 2 → ⊥) → (code_of c < 5) ⊎ (6 < code_of c) → seen_by n b s c ≡ seen_end n
-unfolding seen_by code_of
-end_by blank n b s p q r = refl
-end_by return n b s p q r = refl
-end_by quote n b s p q r = absurd (q refl)
-end_by forbidden n b s p q r = refl
-end_by ordinary n b s p q r = absurd (p refl)
-end_by (opening round) n b s p q r = absurd (⊎_elim (λ h. omega arith) (λ h. omega arith) r)
-end_by (opening square) n b s p q r = absurd (⊎_elim (λ h. omega arith) (λ h. omega arith) r)
-end_by (closing x) n b s p q r = refl
-
-list_by : (c : ByteClass) (n b : ℕ) (s : List ℕ) → 5 ≤ code_of c → code_of c ≤ 6 → Fields 3 n (lead_class_at s) (n + 1 + lead_length s) 0 (seen_by n b s c)
-unfolding seen_by code_of
-list_by blank n b s p q = absurd (omega arith)
-list_by return n b s p q = absurd (omega arith)
-list_by quote n b s p q = absurd (omega arith)
-list_by forbidden n b s p q = absurd (omega arith)
-list_by ordinary n b s p q = absurd (omega arith)
-list_by (opening x) n b s p q = (refl, refl, refl, refl, refl)
-list_by (closing round) n b s p q = absurd (omega arith)
-list_by (closing square) n b s p q = absurd (omega arith)
-
--- The byte at place n of a text has the class of this number.
-module _ (text : List ℕ) (n class : ℕ) (h : n < length text) (e : class ≡ code_of (byte_class (get_or text n 0))) where
-  first_by : seen_first n (drop n text) ≡ seen_by n (get_or text n 0) (drop (n + 1) text) (byte_class (get_or text n 0))
+-- The code has this class of the byte at place n of a text.
+module _ (text : List ℕ) (n : ℕ) (k : ByteClass) (h : n < length text) (e : k ≡ code_of (byte_class (get_or text n 0))) where
+  first_by : seen_first n (drop n text) ≡ seen_by n (get_or text n 0) (drop (n + 1) text) (class_by k)
   unfolding seen_first
-  first_by = rw (drop-cons text n 0 h, add-one n)
+  first_by = rw (drop-cons text n 0 h, add-one n, code_class (byte_class (get_or text n 0)) k e)
 
   whole : get_or text n 0 ∷ drop (n + 1) text ≡ drop n text
   whole = rw (drop-cons text n 0 h, add-one n)
 
-  pub seen_symbol : class ≡ 4
+  pub seen_symbol : k ≡ Ordinary
       → Fields 1 n 9 (n + length (ordinary_run (drop n text))) (length (ordinary_run (drop n text))) (seen_first n (drop n text))
   unfolding seen_by class_by
-  seen_symbol f = rw (first_by, code_class _ 4 (sym e ∙ f), whole) (refl, refl, refl, refl, refl)
+  seen_symbol f = rw (first_by, f, whole) (refl, refl, refl, refl, refl)
 
-  pub seen_string : class ≡ 2
+  pub seen_string : k ≡ Quote
       → Fields 2 n 9 (string_at n (drop n text)).next (string_at n (drop n text)).length (seen_first n (drop n text))
   unfolding seen_by class_by
-  seen_string f = rw (first_by, code_class _ 2 (sym e ∙ f), whole) (refl, refl, refl, refl, refl)
+  seen_string f = rw (first_by, f, whole) (refl, refl, refl, refl, refl)
 
-  pub seen_other : (class ≡ 4 → ⊥) → (class ≡ 2 → ⊥) → (class < 5) ⊎ (6 < class) → Fields 0 n 0 n 0 (seen_first n (drop n text))
-  unfolding seen_end
-  seen_other p q r =
-      rw (first_by, end_by _ n (get_or text n 0) (drop (n + 1) text) (λ f. p (e ∙ f)) (λ f. q (e ∙ f)) (rw e at r)) (refl, refl, refl, refl, refl)
-
-  pub seen_list : 5 ≤ class → class ≤ 6
+  pub seen_list : (x : Bracket) → k ≡ Opening x
       → Fields 3 n (lead_class_at (drop (n + 1) text)) (n + 1 + lead_length (drop (n + 1) text)) 0 (seen_first n (drop n text))
-  seen_list p q = rw first_by (list_by (byte_class (get_or text n 0)) n (get_or text n 0) (drop (n + 1) text) (rw e at p) (rw e at q))
+  unfolding seen_by class_by
+  seen_list x f = rw (first_by, f) (refl, refl, refl, refl, refl)
+
+  -- A byte that is no part of a symbol and opens nothing ends the run.
+  pub seen_other : (k ≡ Ordinary → ⊥) → (k ≡ Quote → ⊥) → ((x : Bracket) → k ≡ Opening x → ⊥) → Fields 0 n 0 n 0 (seen_first n (drop n text))
+  unfolding seen_by seen_end class_by
+  seen_other p q r = rw first_by (go k p q r)
+    where
+      go : (c : ByteClass) → (c ≡ Ordinary → ⊥) → (c ≡ Quote → ⊥) → ((x : Bracket) → c ≡ Opening x → ⊥)
+          → Fields 0 n 0 n 0 (seen_by n (get_or text n 0) (drop (n + 1) text) (class_by c))
+      go Blank p q r = (refl, refl, refl, refl, refl)
+      go Return p q r = (refl, refl, refl, refl, refl)
+      go Quote p q r = absurd (q refl)
+      go Forbidden p q r = (refl, refl, refl, refl, refl)
+      go Ordinary p q r = absurd (p refl)
+      go (Opening x) p q r = absurd (r x refl)
+      go (Closing x) p q r = (refl, refl, refl, refl, refl)
 
 -- White space is passed first.
 pub seen_after : (text : List ℕ) (n at : ℕ) → at ≡ n + blanks (drop n text) → seen_first at (drop at text) ≡ seen n (drop n text)
@@ -88,13 +78,13 @@ unfolding seen
 seen_after text n at e = rw (e, drop-drop (blanks (drop n text)) n text)
 
 -- No white space stands at a closing bracket, where the run ends.
-pub seen_closing : (text : List ℕ) (n class : ℕ) → n < length text → class ≡ code_of (byte_class (get_or text n 0)) → 7 ≤ class
+pub seen_closing : (text : List ℕ) (n : ℕ) (k : ByteClass) (x : Bracket) → n < length text → k ≡ code_of (byte_class (get_or text n 0)) → k ≡ Closing x
     → Fields 0 n 0 n 0 (seen n (drop n text))
 unfolding byte_class code_of
-seen_closing text n class h e k =
-    let not-return : get_or text n 0 ≡ 0x0D → ⊥ = λ g. let one : class ≡ 1 = rw g at e in omega arith in
-    let none : blanks (drop n text) ≡ 0 = blank_stop text n class h e (λ f. omega arith) not-return in
-    rw (seen_after text n n (omega arith)) at (seen_other text n class h e (λ f. omega arith) (λ f. omega arith) (inr k))
+seen_closing text n k x h e f =
+    let not-return : get_or text n 0 ≡ 0x0D → ⊥ = λ g. let one : k ≡ Return = rw g at e in cc in
+    let none : blanks (drop n text) ≡ 0 = blank_stop text n h (blank_no (get_or text n 0) k e (λ g. cc)) not-return in
+    rw (seen_after text n n (omega arith)) at (seen_other text n k h e (λ g. cc) (λ g. cc) (λ y g. cc))
 
 -- The name that leads a list, whose bracket stands before place n.
 module _ (text : List ℕ) (n from next : ℕ) (e : from ≡ n + blanks (drop n text)) (f : next ≡ from + length (ordinary_run (drop from text))) where

@@ -1,30 +1,49 @@
 -- The scan byte by byte: what is left to scan gives the same answer at each step. For the code the open brackets stand in two arrays.
 use Prim.Native.Nat.{ℕ, zero, suc, ◌+◌, ◌-◌, ◌≤◌, ◌<◌}
 use mathlib.Core.Path.{◌≡◌, refl, ap, sym, ◌∙◌}
-use mathlib.Core.Bool.{Bool, true, false, cond}
-use mathlib.Core.List.{List, [], ◌∷◌}
+use mathlib.Core.Bool.{true, false}
+use mathlib.Core.List.{List, [], ◌∷◌, ◌++◌}
 use native.Mathlib.Nat.{add-zero}
 use native.Mathlib.Numerals.{add-one}
 use native.Mathlib.Omega.{arith}
 use lib.Dec.{eqb}
-use lib.ListN.{length, drop, get_or, set, drop_of_length-le}
-use lib.Seq.{drop-cons, drop-drop, get_or-set_same, get_or-set_other}
+use lib.ListN.{length, drop, get_or, length-append, drop_of_length-le}
+use lib.Seq.{drop-cons, drop-drop}
 use borrow.Author.Tests.{eqb-true}
 use Rattle.base.proofs.Booleans.{bool_case, cond_case, true_T}
-use Rattle.syntax.specs.rules.Byte.{Bracket, round, square, ByteClass, blank, return, quote, forbidden, ordinary, opening, closing, byte_class, is_ordinary, same_bracket}
+use Rattle.syntax.specs.rules.Byte.{Bracket, ByteClass, blank, return, quote, forbidden, ordinary, opening, closing, byte_class, is_ordinary, same_bracket}
 use Rattle.syntax.specs.rules.Syntax.{Leaf, space, line_end, word, string, pieces_before}
 use Rattle.syntax.specs.reference.Scan.{Quoted, closed, unclosed, bad_escape, quoted_from, quoted_item, ordinary_run, Items, a_leaf, item_at, items_from}
 use Rattle.syntax.specs.reference.Scan.{Open, Levels, fault, level, add_leaf, wrap, end_level, at_end, one_more, one_less, build, outermost}
 use Rattle.characters.specs.Codes.{code_of}
-use Rattle.atoms.specs.Atom.{string_end, string_at}
-use Rattle.lexer.specs.Token.{scan_number, scan_place}
-use Rattle.lexer.specs.internal.Step.{Passed, step_goes_on, stops, past_string, passed_at, bracket_of, closes_it}
-use Rattle.characters.proofs.ClassNumbers.{class_by, code_class}
+use Rattle.atoms.specs.Atom.{ended, string_end, string_at}
+use Rattle.std.specs.Prelude.{Ok, Err}
+use Rattle.characters.specs.declared.class.Bracket.{Bracket as CodeBracket}
+use Rattle.characters.specs.declared.class.Bracket.TheVariants.{Round, Square}
+use Rattle.characters.specs.declared.class.ByteClass.{ByteClass as CodeClass}
+use Rattle.characters.specs.declared.class.ByteClass.TheVariants.{Blank, Return, Quote, Forbidden, Ordinary, Opening, Closing}
+use Rattle.atoms.specs.declared.string.StringEnd.{StringEnd}
+use Rattle.atoms.specs.declared.string.BadString.{BadString}
+use Rattle.lexer.specs.declared.scanner.Fault.{Fault}
+use Rattle.lexer.specs.declared.scanner.FaultKind.{FaultKind}
+use Rattle.lexer.specs.declared.scanner.FaultKind.TheVariants.{ForbiddenCharacter, BadString as BadStringKind, UnpairedBracket, TooDeep}
+use Rattle.lexer.specs.declared.open.Open.{Open as CodeOpen}
+use Rattle.lexer.specs.Token.{scan_number, scan_place, kind_number}
+use Rattle.lexer.specs.internal.Step.{Passed, passed, step_goes_on, stops, past_string, return_at}
+use Rattle.characters.proofs.Classes.{bracket_by, class_by, code_class}
 use Rattle.syntax.proofs.ByteClasses.{ordinary_class_lem}
 use Rattle.syntax.proofs.Items.{item_of}
 use Rattle.syntax.proofs.Escapes.{later}
 
 -- ---- the answer
+
+-- No fault has the number 0.
+pub kind_some : (k : FaultKind) → kind_number k ≡ 0 → ⊥
+unfolding kind_number
+kind_some ForbiddenCharacter e = omega arith
+kind_some BadStringKind e = omega arith
+kind_some UnpairedBracket e = omega arith
+kind_some TooDeep e = omega arith
 
 pub record ScanAnswer : Type 0 where
   pub number : ℕ
@@ -111,15 +130,6 @@ module _ (os : List Open) (left : ℕ) (text : List ℕ) (i : ℕ) (inside : i <
       let s : List ℕ = drop (i + 1) text in
       here ordinary e ∙ leaf_on os left (word (get_or text i 0) (ordinary_run s)) (items_from (length (ordinary_run s)) (i + 1) s) ∙ run_on os left (i + 1) s
 
-  -- The same by the class's number.
-  pub blank_passed : (class : ℕ) → class ≡ code_of (byte_class (get_or text i 0)) → class ≡ 0 → scan_answer_at os left text (i + 1) ≡ scan_answer_at os left text i
-  unfolding class_by
-  blank_passed class e f = sym (blank_on (code_class (byte_class (get_or text i 0)) 0 (sym e ∙ f)))
-
-  pub ordinary_passed : (class : ℕ) → class ≡ code_of (byte_class (get_or text i 0)) → class ≡ 4 → scan_answer_at os left text (i + 1) ≡ scan_answer_at os left text i
-  unfolding class_by
-  ordinary_passed class e f = sym (ordinary_on (code_class (byte_class (get_or text i 0)) 4 (sym e ∙ f)))
-
   pub return_on : byte_class (get_or text i 0) ≡ return → get_or (drop (i + 1) text) 0 0 ≡ 0x0A → scan_answer_at os left text i ≡ scan_answer_at os left text (i + 1)
   unfolding item_at scan_answer_at
   return_on e f =
@@ -134,7 +144,7 @@ module _ (os : List Open) (left : ℕ) (text : List ℕ) (i : ℕ) (inside : i <
   unfolding item_at build
   forbidden_stops e = here forbidden e ∙ answer_fault 3 i
 
-  -- What the code's step tells: it goes on further right with the same answer, or has the answer.
+  -- What a step tells: it goes on further right with the same answer, or has the answer.
   Keeps : Passed → Type 0
   Keeps p =
       (p.number ≡ 0 → (i < p.next) × (scan_answer_at os left text p.next ≡ scan_answer_at os left text i))
@@ -171,33 +181,54 @@ module _ (os : List Open) (left : ℕ) (text : List ℕ) (i : ℕ) (inside : i <
   unfolding Keeps past_string
   string_on e z = sym ((quoted_by e).0 z).1
 
-  passed_by : (c : ByteClass) → byte_class (get_or text i 0) ≡ c → code_of c < 5 → Keeps (passed_at (code_of c) i (drop i text))
-  unfolding passed_at code_of
-  passed_by blank e h = goes (blank_on e)
-  passed_by return e h =
+  returned_by : byte_class (get_or text i 0) ≡ return → Keeps (return_at i (drop i text))
+  unfolding return_at
+  returned_by e =
       rw (later text i 0)
       (cond_case Keeps (eqb (get_or (drop (i + 1) text) 0 0) 0x0A) (λ f. goes (return_on e (eqb-true (get_or (drop (i + 1) text) 0 0) 0x0A f))) (λ f. halts (return_stops e f)))
-  passed_by quote e h = quoted_by e
-  passed_by forbidden e h = halts (forbidden_stops e)
-  passed_by ordinary e h = goes (ordinary_on e)
-  passed_by (opening round) e h = absurd (omega arith)
-  passed_by (opening square) e h = absurd (omega arith)
-  passed_by (closing round) e h = absurd (omega arith)
-  passed_by (closing square) e h = absurd (omega arith)
 
-  -- A step of the code keeps the answer, or has it.
-  module _ (class : ℕ) (class_of : class ≡ code_of (byte_class (get_or text i 0))) (small : class < 5) (number place next : ℕ)
-      (is_number : number ≡ (passed_at class i (drop i text)).number) (is-place : place ≡ (passed_at class i (drop i text)).place) (is-next : next ≡ (passed_at class i (drop i text)).next) where
-    kept : Keeps (passed_at class i (drop i text))
-    kept = rw class_of (passed_by (byte_class (get_or text i 0)) refl (omega arith))
+  -- The byte has a class in the code, by which a step keeps the answer or has it.
+  module _ (k : CodeClass) (class_of : k ≡ code_of (byte_class (get_or text i 0))) where
+    class_is : byte_class (get_or text i 0) ≡ class_by k
+    class_is = code_class (byte_class (get_or text i 0)) k class_of
 
-    pub passed_on : number ≡ 0 → (i < next) × (scan_answer_at os left text next ≡ scan_answer_at os left text i)
-    unfolding Keeps
-    passed_on z = rw is-next (kept.0 (sym is_number ∙ z))
+    pub blank_passed : k ≡ Blank → scan_answer_at os left text (i + 1) ≡ scan_answer_at os left text i
+    unfolding class_by
+    blank_passed f = sym (blank_on (class_is ∙ ap class_by f))
 
-    pub passed_fault : (number ≡ 0 → ⊥) → scan_answer_at os left text i ≡ record { number = number; place = place }
-    unfolding Keeps
-    passed_fault z = rw (is_number, is-place) (kept.1 (λ e. z (is_number ∙ e)))
+    pub ordinary_passed : k ≡ Ordinary → scan_answer_at os left text (i + 1) ≡ scan_answer_at os left text i
+    unfolding class_by
+    ordinary_passed f = sym (ordinary_on (class_is ∙ ap class_by f))
+
+    pub forbidden_found : k ≡ Forbidden → scan_answer_at os left text i ≡ record { number = 3; place = i }
+    unfolding class_by
+    forbidden_found f = forbidden_stops (class_is ∙ ap class_by f)
+
+    module _ (f : k ≡ Return) where
+      returned : Keeps (return_at i (drop i text))
+      unfolding class_by
+      returned = returned_by (class_is ∙ ap class_by f)
+
+      pub return_passed : (next : ℕ) → passed (Ok next) ≡ return_at i (drop i text) → (i < next) × (scan_answer_at os left text next ≡ scan_answer_at os left text i)
+      unfolding Keeps passed
+      return_passed next g = let kept = rw (← g) at returned in kept.0 refl
+
+      pub return_fault : (x : Fault) → passed (Err x) ≡ return_at i (drop i text) → scan_answer_at os left text i ≡ record { number = kind_number x.kind; place = x.place }
+      unfolding Keeps passed
+      return_fault x g = let kept = rw (← g) at returned in kept.1 (kind_some x.kind)
+
+    module _ (f : k ≡ Quote) where
+      quoted : Keeps (past_string (string_at i (drop i text)))
+      unfolding class_by
+      quoted = quoted_by (class_is ∙ ap class_by f)
+
+      pub string_passed : (s : StringEnd) → ended (Ok s) ≡ string_at i (drop i text) → (i < s.next) × (scan_answer_at os left text s.next ≡ scan_answer_at os left text i)
+      unfolding Keeps past_string ended
+      string_passed s g = let kept = rw (← g) at quoted in kept.0 refl
+
+      pub string_fault : (b : BadString) → ended (Err b) ≡ string_at i (drop i text) → scan_answer_at os left text i ≡ record { number = 4; place = b.place }
+      unfolding Keeps past_string ended
+      string_fault b g = let kept = rw (← g) at quoted in kept.1 (λ z. omega arith)
 
   opens_here : (x : Bracket) → byte_class (get_or text i 0) ≡ opening x
       → scan_answer_at os left text i ≡ scan_answer (one_more i x (λ r. build (record { bracket = x; place = i } ∷ os) r (items_from 0 (i + 1) (drop (i + 1) text))) left)
@@ -225,131 +256,84 @@ module _ (o : Open) (os : List Open) (left : ℕ) (text : List ℕ) (i : ℕ) (i
   closed_on x e same =
       closes_here (o ∷ os) left text i inside x e ∙ rw same (answer_end (build os (suc left) (items_from 0 (i + 1) (drop (i + 1) text))))
 
--- The classes of brackets, by their numbers.
-opening_of : (c : ByteClass) → 5 ≤ code_of c → code_of c < 7 → c ≡ opening (bracket_of (code_of c))
-unfolding code_of bracket_of
-opening_of blank h k = absurd (omega arith)
-opening_of return h k = absurd (omega arith)
-opening_of quote h k = absurd (omega arith)
-opening_of forbidden h k = absurd (omega arith)
-opening_of ordinary h k = absurd (omega arith)
-opening_of (opening round) h k = refl
-opening_of (opening square) h k = refl
-opening_of (closing round) h k = absurd (omega arith)
-opening_of (closing square) h k = absurd (omega arith)
+-- The code's brackets that are open, as the scan has them: the innermost first.
+abbrev pub open_of : CodeOpen → Open
+open_of o = record { bracket = bracket_by o.bracket; place = o.place }
 
--- A closing bracket, and that the code's test is right for it.
-record Closes (c : ByteClass) : Type 0 where
-  bracket : Bracket
-  is_closing : c ≡ closing bracket
-  tested : (o : ℕ) → closes_it o (code_of c) ≡ same_bracket bracket (bracket_of o)
+unfoldable pub opened : List CodeOpen → List Open → List Open
+opened [] os = os
+opened (o ∷ s) os = opened s (open_of o ∷ os)
 
-round_test : (t : Bool) → cond t true false ≡ same_bracket round (cond t round square)
-unfolding same_bracket
-round_test true = refl
-round_test false = refl
+opened_push : (s : List CodeOpen) (o : CodeOpen) (os : List Open) → opened (s ++ o ∷ []) os ≡ open_of o ∷ opened s os
+unfolding opened
+opened_push [] o os = refl
+opened_push (p ∷ s) o os = opened_push s o (open_of p ∷ os)
 
-square_test : (t : Bool) → cond t false true ≡ same_bracket square (cond t round square)
-unfolding same_bracket
-square_test true = refl
-square_test false = refl
+same_yes : (x y : CodeBracket) → x ≡ y → same_bracket (bracket_by y) (bracket_by x) ≡ true
+unfolding same_bracket bracket_by
+same_yes Round y e = rw (← e)
+same_yes Square y e = rw (← e)
 
-closing_of : (c : ByteClass) → 7 ≤ code_of c → Closes c
-unfolding code_of closes_it bracket_of
-closing_of blank h = absurd (omega arith)
-closing_of return h = absurd (omega arith)
-closing_of quote h = absurd (omega arith)
-closing_of forbidden h = absurd (omega arith)
-closing_of ordinary h = absurd (omega arith)
-closing_of (opening round) h = absurd (omega arith)
-closing_of (opening square) h = absurd (omega arith)
-closing_of (closing round) h = record { bracket = round; is_closing = refl; tested = λ o. round_test (eqb o 5) }
-closing_of (closing square) h = record { bracket = square; is_closing = refl; tested = λ o. square_test (eqb o 5) }
+same_no : (x y : CodeBracket) → (x ≡ y → ⊥) → same_bracket (bracket_by y) (bracket_by x) ≡ false
+unfolding same_bracket bracket_by
+same_no Round Round h = absurd (h refl)
+same_no Round Square h = refl
+same_no Square Round h = refl
+same_no Square Square h = absurd (h refl)
 
--- The open brackets that stand in the arrays below a depth, the innermost first: their classes and their places.
-unfoldable pub stacked : ℕ → List ℕ → List ℕ → List Open
-stacked zero bs ps = []
-stacked (suc d) bs ps = record { bracket = bracket_of (get_or bs d 0); place = get_or ps d 0 } ∷ stacked d bs ps
+-- The answer with the code's brackets open.
+abbrev pub answer_of : ℕ → List CodeOpen → List ℕ → ℕ → ScanAnswer
+answer_of limit s text i = scan_answer_at (opened s []) (limit - length s) text i
 
--- A store at the depth or above is not seen.
-stacked_set : (d k v w : ℕ) (bs ps : List ℕ) → d ≤ k → stacked d (set bs k v) (set ps k w) ≡ stacked d bs ps
-unfolding stacked
-stacked_set zero k v w bs ps h = refl
-stacked_set (suc d) k v w bs ps h =
-    let other : d ≡ k → ⊥ = λ e. omega arith in
-    rw (get_or-set_other bs k d v 0 other, get_or-set_other ps k d w 0 other, stacked_set d k v w bs ps (omega arith))
+module _ (limit : ℕ) (s : List CodeOpen) (text : List ℕ) (i : ℕ) (inside : i < length text) (k : CodeClass) (class_of : k ≡ code_of (byte_class (get_or text i 0))) (x : CodeBracket) where
+  module _ (f : k ≡ Opening x) where
+    opening_here : byte_class (get_or text i 0) ≡ opening (bracket_by x)
+    unfolding class_by
+    opening_here = code_class (byte_class (get_or text i 0)) k class_of ∙ ap class_by f
 
-pushed : (d v w : ℕ) (bs ps : List ℕ) → d < length bs → d < length ps
-    → stacked (suc d) (set bs d v) (set ps d w) ≡ record { bracket = bracket_of v; place = w } ∷ stacked d bs ps
-unfolding stacked
-pushed d v w bs ps h k = rw (get_or-set_same bs d v 0 h, get_or-set_same ps d w 0 k, stacked_set d d v w bs ps (omega arith))
+    -- An opening bracket where no room is left, and one that goes on the stack.
+    pub no_room_lem : limit ≤ length s → answer_of limit s text i ≡ record { number = 6; place = i }
+    unfolding one_more
+    no_room_lem full =
+        let none : limit - length s ≡ 0 = omega arith in
+        rw none (opens_here (opened s []) 0 text i inside (bracket_by x) opening_here ∙ answer_fault 6 i)
 
--- The answer with the stack in the arrays.
-abbrev pub answer_of : ℕ → ℕ → List ℕ → List ℕ → List ℕ → ℕ → ScanAnswer
-answer_of limit d bs ps text i = scan_answer_at (stacked d bs ps) (limit - d) text i
+    pub push : length s < limit → answer_of limit (s ++ record { bracket = x; place = i } ∷ []) text (i + 1) ≡ answer_of limit s text i
+    push room =
+        let size : limit - length (s ++ record { bracket = x; place = i } ∷ []) ≡ limit - (length s + 1) = rw (length-append s (record { bracket = x; place = i } ∷ [])) in
+        let left : limit - length s ≡ suc (limit - (length s + 1)) = omega arith in
+        rw (size, opened_push s (record { bracket = x; place = i }) [])
+        (sym (opened_on (opened s []) (limit - length s) text i inside (bracket_by x) (limit - (length s + 1)) opening_here left))
 
-module _ (limit d : ℕ) (bs ps text : List ℕ) (i : ℕ) (inside : i < length text) (class : ℕ) (class_of : class ≡ code_of (byte_class (get_or text i 0))) where
-  open_class : 5 ≤ class → class < 7 → byte_class (get_or text i 0) ≡ opening (bracket_of class)
-  open_class h k = rw class_of (opening_of (byte_class (get_or text i 0)) (omega arith) (omega arith))
+  module _ (f : k ≡ Closing x) where
+    closing_here : byte_class (get_or text i 0) ≡ closing (bracket_by x)
+    unfolding class_by
+    closing_here = code_class (byte_class (get_or text i 0)) k class_of ∙ ap class_by f
 
-  -- An opening bracket where no room is left, and one that goes on the stack.
-  pub no_room_lem : 5 ≤ class → class < 7 → limit ≤ d → answer_of limit d bs ps text i ≡ record { number = 6; place = i }
-  unfolding one_more
-  no_room_lem h k full =
-      let none : limit - d ≡ 0 = omega arith in
-      rw none (opens_here (stacked d bs ps) 0 text i inside (bracket_of class) (open_class h k) ∙ answer_fault 6 i)
+    -- A closing bracket with nothing open, one that is not the partner of the innermost open bracket, and one that is.
+    pub unopened : s ≡ [] → answer_of limit s text i ≡ record { number = 5; place = i }
+    unfolding one_less opened
+    unopened z = rw z (closes_here [] (limit - 0) text i inside (bracket_by x) closing_here ∙ answer_fault 5 i)
 
-  pub push : 5 ≤ class → class < 7 → d < limit → d < length bs → d < length ps
-      → answer_of limit (d + 1) (set bs d class) (set ps d i) text (i + 1) ≡ answer_of limit d bs ps text i
-  push h k room fits fits' =
-      let left : limit - d ≡ suc (limit - (d + 1)) = omega arith in
-      let top : List Open = record { bracket = bracket_of class; place = i } ∷ stacked d bs ps in
-      let stack : stacked (d + 1) (set bs d class) (set ps d i) ≡ top = rw (add-one d) (pushed d class i bs ps fits fits') in
-      rw stack (sym (opened_on (stacked d bs ps) (limit - d) text i inside (bracket_of class) (limit - (d + 1)) (open_class h k) left))
+    module _ (r : List CodeOpen) (o : CodeOpen) (top : s ≡ r ++ o ∷ []) where
+      pub other_bracket : (o.bracket ≡ x → ⊥) → answer_of limit s text i ≡ record { number = 5; place = i }
+      unfolding one_less
+      other_bracket h =
+          rw (top, opened_push r o [])
+          (closes_here (open_of o ∷ opened r []) (limit - length (r ++ o ∷ [])) text i inside (bracket_by x) closing_here ∙ rw (same_no o.bracket x h) (answer_fault 5 i))
 
-  closed_by : 7 ≤ class → Closes (byte_class (get_or text i 0))
-  closed_by h = closing_of (byte_class (get_or text i 0)) (omega arith)
-
-  -- A closing bracket with nothing open, one that is not the partner of the innermost open bracket, and one that is.
-  pub unopened : 7 ≤ class → d ≡ 0 → answer_of limit d bs ps text i ≡ record { number = 5; place = i }
-  unfolding one_less stacked
-  unopened h z =
-      let r = closed_by h in
-      rw z (closes_here [] (limit - 0) text i inside r.bracket r.is_closing ∙ answer_fault 5 i)
-
-  -- The stack has a top.
-  topped : (d ≡ 0 → ⊥) → stacked d bs ps ≡ record { bracket = bracket_of (get_or bs (d - 1) 0); place = get_or ps (d - 1) 0 } ∷ stacked (d - 1) bs ps
-  unfolding stacked
-  topped z = let e : d ≡ suc (d - 1) = omega arith in ap (λ (n : ℕ). stacked n bs ps) e
-
-  test_is : (h : 7 ≤ class) → closes_it (get_or bs (d - 1) 0) class ≡ same_bracket (closed_by h).bracket (bracket_of (get_or bs (d - 1) 0))
-  test_is h = ap (closes_it (get_or bs (d - 1) 0)) class_of ∙ (closed_by h).tested (get_or bs (d - 1) 0)
-
-  pub other_bracket : 7 ≤ class → (d ≡ 0 → ⊥) → closes_it (get_or bs (d - 1) 0) class ≡ false → answer_of limit d bs ps text i ≡ record { number = 5; place = i }
-  unfolding one_less
-  other_bracket h z t =
-      let r = closed_by h in
-      let top : Open = record { bracket = bracket_of (get_or bs (d - 1) 0); place = get_or ps (d - 1) 0 } in
-      rw (topped z)
-      (closes_here (top ∷ stacked (d - 1) bs ps) (limit - d) text i inside r.bracket r.is_closing ∙ rw (sym (test_is h) ∙ t) (answer_fault 5 i))
-
-  pub pop : 7 ≤ class → (d ≡ 0 → ⊥) → d ≤ limit → closes_it (get_or bs (d - 1) 0) class ≡ true
-      → answer_of limit (d - 1) bs ps text (i + 1) ≡ answer_of limit d bs ps text i
-  pop h z room t =
-      let r = closed_by h in
-      let top : Open = record { bracket = bracket_of (get_or bs (d - 1) 0); place = get_or ps (d - 1) 0 } in
-      let left : limit - (d - 1) ≡ suc (limit - d) = omega arith in
-      rw (topped z, left)
-      (sym (closed_on top (stacked (d - 1) bs ps) (limit - d) text i inside r.bracket r.is_closing (sym (test_is h) ∙ t)))
+      pub pop : length s ≤ limit → o.bracket ≡ x → (length r ≤ limit) × (answer_of limit r text (i + 1) ≡ answer_of limit s text i)
+      pop room h =
+          let size : length s ≡ length r + 1 = ap length top ∙ length-append r (o ∷ []) in
+          let left : limit - length r ≡ suc (limit - length s) = omega arith in
+          (omega arith, rw (left, ap (λ (l : List CodeOpen). opened l []) top, opened_push r o []) (sym (closed_on (open_of o) (opened r []) (limit - length s) text i inside (bracket_by x) closing_here (same_yes o.bracket x h))))
 
 -- The end of the text: nothing is open, or the innermost bracket is the fault.
-pub none_open : (limit d : ℕ) (bs ps text : List ℕ) (i : ℕ) → length text ≤ i → d ≡ 0 → answer_of limit d bs ps text i ≡ record { number = 0; place = 0 }
-unfolding scan_answer_at stacked items_from build at_end scan_answer outermost scan_number scan_place
-none_open limit d bs ps text i h z = rw (z, drop_of_length-le text h)
+module _ (limit : ℕ) (s : List CodeOpen) (text : List ℕ) (i : ℕ) (past : length text ≤ i) where
+  pub none_open : s ≡ [] → answer_of limit s text i ≡ record { number = 0; place = 0 }
+  unfolding scan_answer_at opened items_from build at_end scan_answer outermost scan_number scan_place
+  none_open z = rw (z, drop_of_length-le text past)
 
-pub left_open : (limit d : ℕ) (bs ps text : List ℕ) (i : ℕ) → length text ≤ i → (d ≡ 0 → ⊥) → answer_of limit d bs ps text i ≡ record { number = 5; place = get_or ps (d - 1) 0 }
-unfolding scan_answer_at stacked items_from build at_end scan_answer outermost scan_number scan_place
-left_open limit d bs ps text i h z =
-    let e : d ≡ suc (d - 1) = omega arith in
-    let stack : stacked d bs ps ≡ stacked (suc (d - 1)) bs ps = ap (λ (n : ℕ). stacked n bs ps) e in
-    rw (stack, drop_of_length-le text h)
+  pub left_open : (r : List CodeOpen) (o : CodeOpen) → s ≡ r ++ o ∷ [] → answer_of limit s text i ≡ record { number = 5; place = o.place }
+  unfolding scan_answer_at items_from build at_end scan_answer outermost scan_number scan_place
+  left_open r o top = rw (top, opened_push r o [], drop_of_length-le text past)

@@ -1,12 +1,15 @@
 -- What stands at a place of a text, for code that goes through it from left to right: white space, symbols, strings and the names that lead lists.
 -- The text is given by its bytes from the place on.
-use Rattle.std.specs.Prelude.{ℕ, suc, ◌+◌, cond, ◌&&◌, ◌||◌, List, [], ◌∷◌, eqb}
+use Rattle.std.specs.Prelude.{ℕ, suc, ◌+◌, cond, ◌&&◌, ◌||◌, List, [], ◌∷◌, eqb, Result, Ok, Err}
 use lib.ListN.{length, get_or, drop}
 use Rattle.base.specs.rules.Numbers as Number
 use Rattle.elements.specs.rules.Class as Class
 use Rattle.syntax.specs.rules.Byte.{ByteClass, blank, return, quote, forbidden, ordinary, opening, closing, byte_class, is_blank}
 use Rattle.syntax.specs.reference.Scan.{ordinary_run, Scanned, refused, scanned}
 use Rattle.atoms.specs.Atom.{string_at}
+use Rattle.lexer.specs.declared.scanner.Fault.{Fault}
+use Rattle.lexer.specs.declared.scanner.FaultKind.{FaultKind}
+use Rattle.lexer.specs.declared.scanner.FaultKind.TheVariants.{ForbiddenCharacter, BadString, UnpairedBracket, TooDeep}
 
 -- How many bytes of white space stand at the front. U+000D counts where U+000A follows, which counts itself.
 unfoldable pub blanks : List ℕ → ℕ
@@ -79,3 +82,18 @@ scan_number (scanned f) = Number.ok
 unfoldable pub scan_place : Scanned → ℕ
 scan_place (refused n p) = p
 scan_place (scanned f) = 0
+
+-- The same of the code's answer (src/scanner.rt).
+unfoldable pub kind_number : FaultKind → ℕ
+kind_number ForbiddenCharacter = Number.forbidden_character
+kind_number BadString = Number.bad_string
+kind_number UnpairedBracket = Number.unpaired_bracket
+kind_number TooDeep = Number.too_deep
+
+unfoldable pub answer_number : Result (Unit {0}) Fault → ℕ
+answer_number (Ok x) = Number.ok
+answer_number (Err f) = kind_number f.kind
+
+unfoldable pub answer_place : Result (Unit {0}) Fault → ℕ
+answer_place (Ok x) = 0
+answer_place (Err f) = f.place

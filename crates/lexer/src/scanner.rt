@@ -1,150 +1,109 @@
 // The scan (document 01, numbers 3 to 6).
 ghost use Rattle.std.specs.Prelude.{◌≡◌, ◌<◌, min, length, drop};
 ghost use Rattle.base.specs.rules.Limits.{nested_levels};
-ghost use Rattle.base.specs.rules.Numbers as Number;
 ghost use Rattle.syntax.specs.reference.Scan.{scan};
-ghost use Rattle.lexer.specs.Token.{scan_number, scan_place};
-ghost use Rattle.lexer.specs.internal.Step.{passed_at, closes_it};
+ghost use Rattle.lexer.specs.Token.{answer_number, answer_place, kind_number, scan_number, scan_place};
+ghost use Rattle.lexer.specs.internal.Step.{passed, return_at};
 
-use atoms::string_at;
+use super::open::OpenBrackets;
+use atoms::{BadString, string_at};
 use base::limit::NESTED_LEVELS;
-use base::{lesser, number};
-use characters::class::{BLANK, FORBIDDEN, ORDINARY, QUOTE, RETURN, ROUND, ROUND_END, SQUARE_END};
-use characters::{byte_at, byte_class};
+use base::number;
+use characters::{ByteClass, byte_class};
 
-// The scan's answer: number 0, or a fault 3 to 6 and its place.
-#[derive(Clone, Copy)]
-pub struct Scanned {
-    pub number: u32,
+// What a fault of the scan is.
+#[derive(Clone, Copy, Debug, PartialEq, Eq)]
+pub enum FaultKind {
+    ForbiddenCharacter,
+    BadString,
+    UnpairedBracket,
+    TooDeep,
+}
+
+impl FaultKind {
+    #[tactic(auto, unfolding(crate::specs::Token::kind_number))]
+    pub fn number(self) -> u32
+        ensures { result ≡ kind_number self }
+    {
+        match self {
+            FaultKind::ForbiddenCharacter => number::FORBIDDEN_CHARACTER,
+            FaultKind::BadString => number::BAD_STRING,
+            FaultKind::UnpairedBracket => number::UNPAIRED_BRACKET,
+            FaultKind::TooDeep => number::TOO_DEEP,
+        }
+    }
+}
+
+// A fault of the scan and its place.
+#[derive(Clone, Copy, Debug, PartialEq, Eq)]
+pub struct Fault {
+    pub kind: FaultKind,
     pub place: usize,
 }
 
-// Number 0 and the place where the scan goes on; or the number of a fault and its place.
-#[derive(Clone, Copy)]
-struct Passed {
-    number: u32,
-    place: usize,
-    next: usize,
-}
+impl From<BadString> for Fault {
+    ghost use Rattle.std.specs.Prelude.{◌≡◌};
+    ghost use Rattle.lexer.specs.declared.scanner.FaultKind.TheVariants.{BadString};
 
-// The scan goes on at a place.
-fn on(next: usize) -> Passed
-    ensures { (result.number ≡ Number.ok) × (result.place ≡ 0) × (result.next ≡ next) }
-{
-    Passed {
-        number: number::OK,
-        place: 0,
-        next,
-    }
-}
+    ghost from_gives = { λ bad fault. fault ≡ record { kind = BadString; place = bad.place } };
 
-// Number 3 at a place.
-fn bad_byte(place: usize) -> Passed
-    ensures { (result.number ≡ Number.forbidden_character) × (result.place ≡ place) × (result.next ≡ 0) }
-{
-    Passed {
-        number: number::FORBIDDEN_CHARACTER,
-        place,
-        next: 0,
-    }
-}
-
-// Past the byte at a place, or past the string that begins there; the class is that byte's, and no
-// bracket's.
-fn pass(text: &[u8], place: usize, class: u8) -> Passed
-    requires { place < length text.now }
-    ensures { (result.number ≡ (passed_at class place (drop place text.now)).number)
-        × (result.place ≡ (passed_at class place (drop place text.now)).place)
-        × (result.next ≡ (passed_at class place (drop place text.now)).next) }
-{
-    if class == RETURN {
-        if byte_at(text, place + 1) == 0x0A {
-            return on(place + 1);
+    fn from(bad: BadString) -> Fault {
+        Fault {
+            kind: FaultKind::BadString,
+            place: bad.place,
         }
-        return bad_byte(place);
     }
-    if class == QUOTE {
-        let end = string_at(text, place);
-        return Passed {
-            number: end.number,
-            place: end.place,
-            next: end.next,
-        };
-    }
-    if class == FORBIDDEN {
-        return bad_byte(place);
-    }
-    on(place + 1)
 }
 
-// Whether a closing byte's class is the partner of an opening byte's class.
-fn closes(opened: u8, class: u8) -> bool
-    ensures { result ≡ closes_it opened class }
+// A fault at a place.
+fn refuse<T>(kind: FaultKind, place: usize) -> Result<T, Fault>
+    ensures { result ≡ Err (record { kind = kind; place = place }) }
 {
-    if opened == ROUND {
-        return class == ROUND_END;
+    Err(Fault { kind, place })
+}
+
+// Past a carriage return, which a line feed follows.
+#[tactic(auto, unfolding(crate::specs::internal::Step::passed, crate::specs::internal::Step::return_at, crate::specs::internal::Step::step_goes_on, crate::specs::internal::Step::stops, crate::specs::Token::kind_number))]
+fn past_return(text: &[u8], place: usize) -> Result<usize, Fault>
+    requires { place < length text.now }
+    ensures { passed result ≡ return_at place (drop place text.now) }
+{
+    if text.get(place + 1) == Some(&b'\n') {
+        return Ok(place + 1);
     }
-    class == SQUARE_END
+    refuse(FaultKind::ForbiddenCharacter, place)
 }
 
-// A number with its place, as the scan answers it.
-fn answered(number: u32, place: usize) -> Scanned
-    ensures { (result.number ≡ number) × (result.place ≡ place) }
+// One scan from left to right: brackets nest at most as deep as there is room, and never more than 64 deep.
+pub fn scan(text: &[u8], room: usize) -> Result<(), Fault>
+    ensures { (answer_number result ≡ scan_number (scan (min room nested_levels) text.now))
+        × (answer_place result ≡ scan_place (scan (min room nested_levels) text.now)) }
 {
-    Scanned { number, place }
-}
-
-// One scan from left to right, with the open brackets on a stack: brackets nest at most as deep as
-// there is room, and never more than 64 deep.
-pub fn scan(text: &[u8], room: usize) -> Scanned
-    ensures { (result.number ≡ scan_number (scan (min room nested_levels) text.now))
-        × (result.place ≡ scan_place (scan (min room nested_levels) text.now)) }
-{
-    let limit = lesser(room, NESTED_LEVELS);
-    let mut brackets = [0u8; NESTED_LEVELS];
-    let mut places = [0usize; NESTED_LEVELS];
-    let mut depth: usize = 0;
+    let limit = room.min(NESTED_LEVELS);
+    let mut open = OpenBrackets::new();
     let mut i: usize = 0;
     while i < text.len() {
-        let class = byte_class(text[i]);
-        // nearly every byte is of one of these two classes
-        if class == ORDINARY {
-            i += 1;
-            continue;
-        }
-        if class == BLANK {
-            i += 1;
-            continue;
-        }
-        if class < ROUND {
-            let passed = pass(text, i, class);
-            if passed.number != number::OK {
-                return answered(passed.number, passed.place);
+        match byte_class(text[i]) {
+            // nearly every byte is of one of these two classes
+            ByteClass::Ordinary | ByteClass::Blank => i += 1,
+            ByteClass::Return => i = past_return(text, i)?,
+            ByteClass::Quote => i = string_at(text, i)?.next,
+            ByteClass::Forbidden => return refuse(FaultKind::ForbiddenCharacter, i),
+            ByteClass::Opening(bracket) => {
+                if limit <= open.depth() {
+                    return refuse(FaultKind::TooDeep, i);
+                }
+                open.push(bracket, i);
+                i += 1;
             }
-            i = passed.next;
-            continue;
+            ByteClass::Closing(bracket) => match open.pop() {
+                Some(o) if o.bracket == bracket => i += 1,
+                _ => return refuse(FaultKind::UnpairedBracket, i),
+            },
         }
-        if class < ROUND_END {
-            if limit <= depth {
-                return answered(number::TOO_DEEP, i);
-            }
-            brackets[depth] = class;
-            places[depth] = i;
-            depth += 1;
-            i += 1;
-            continue;
-        }
-        if depth == 0 {
-            return answered(number::UNPAIRED_BRACKET, i);
-        }
-        if !closes(brackets[depth - 1], class) {
-            return answered(number::UNPAIRED_BRACKET, i);
-        }
-        depth -= 1;
-        i += 1;
     }
-    if depth == 0 {
-        return answered(number::OK, 0);
+    match open.pop() {
+        None => Ok(()),
+        Some(o) => refuse(FaultKind::UnpairedBracket, o.place),
     }
-    answered(number::UNPAIRED_BRACKET, places[depth - 1])
 }

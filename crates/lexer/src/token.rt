@@ -6,8 +6,8 @@ ghost use Rattle.atoms.specs.Atom.{string_at};
 ghost use Rattle.lexer.specs.Token.{a_list, a_string, a_symbol, blanks, lead_class_at, lead_length, seen, seen_first, the_end};
 
 use super::name::name_at;
-use atoms::string_at;
-use characters::{byte_at, class, symbol_end};
+use atoms::{StringEnd, string_at};
+use characters::{ByteClass, byte_class, is_blank, symbol_end};
 
 // The sorts of what is seen at a place, under the names of specs/Token.antt: the end of the run, a symbol, a string, a list.
 pub const THE_END: u8 = 0;
@@ -46,10 +46,11 @@ pub fn past_blanks(text: &[u8], place: usize) -> usize
     if 0x20 < b {
         return place;
     }
-    if b == 0x20 {
-        if 0x20 < byte_at(text, place + 1) {
-            return place + 1;
-        }
+    if b == 0x20
+        && let Some(&next) = text.get(place + 1)
+        && 0x20 < next
+    {
+        return place + 1;
     }
     skip_blanks(text, place)
 }
@@ -59,23 +60,21 @@ pub fn past_blanks(text: &[u8], place: usize) -> usize
 pub fn skip_blanks(text: &[u8], place: usize) -> usize
     ensures { result ≡ place + blanks (drop place text.now) }
 {
-    let mut at = place;
-    while at < text.len() {
+    for at in place..text.len() {
         let b = text[at];
         if 0x20 < b {
             return at;
         }
-        if class::byte_class(b) != class::BLANK {
-            if b != 0x0D {
+        if !is_blank(b) {
+            if b != b'\r' {
                 return at;
             }
-            if byte_at(text, at + 1) != 0x0A {
+            if text.get(at + 1) != Some(&b'\n') {
                 return at;
             }
         }
-        at += 1;
     }
-    at
+    place.max(text.len())
 }
 
 // The end of the run at a place.
@@ -109,7 +108,7 @@ fn symbol_seen(text: &[u8], place: usize) -> Seen
     }
 }
 
-// The string whose opening quote is at a place.
+// The string whose opening quote is at a place; one that has a fault, which no text has that was scanned, ends nowhere.
 fn string_seen(text: &[u8], place: usize) -> Seen
     ensures { (result.sort ≡ a_string)
         × (result.place ≡ place)
@@ -117,7 +116,8 @@ fn string_seen(text: &[u8], place: usize) -> Seen
         × (result.next ≡ (string_at place (drop place text.now)).next)
         × (result.length ≡ (string_at place (drop place text.now)).length) }
 {
-    let string = string_at(text, place);
+    let none = StringEnd { next: 0, length: 0 };
+    let string = string_at(text, place).unwrap_or(none);
     Seen {
         sort: A_STRING,
         place,
@@ -180,20 +180,12 @@ fn first_seen(text: &[u8], place: usize) -> Seen
     if text.len() <= place {
         return nothing_seen(place);
     }
-    let class = class::byte_class(text[place]);
-    if class == class::ORDINARY {
-        return symbol_seen(text, place);
+    match byte_class(text[place]) {
+        ByteClass::Ordinary => symbol_seen(text, place),
+        ByteClass::Quote => string_seen(text, place),
+        ByteClass::Opening(_) => list_seen(text, place),
+        _ => nothing_seen(place),
     }
-    if class == class::QUOTE {
-        return string_seen(text, place);
-    }
-    if class < class::ROUND {
-        return nothing_seen(place);
-    }
-    if class::SQUARE < class {
-        return nothing_seen(place);
-    }
-    list_seen(text, place)
 }
 
 // What is seen from a place on.

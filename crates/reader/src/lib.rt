@@ -13,7 +13,7 @@ ghost use Rattle.std.specs.Prelude.{◌≡◌, ◌≤◌, length};
 ghost use Rattle.base.specs.rules.Limits.{most_bytes};
 ghost use Rattle.document.specs.rules.Spelling.{nested, imperative, most_levels};
 ghost use Rattle.document.specs.rules.Memory.{answer_at};
-ghost use Rattle.reader.specs.internal.FirstGroups.{group_number, group_place, room_number, room_told};
+ghost use Rattle.reader.specs.internal.FirstGroups.{fault_number, fault_place, group_number, group_place, room_number, room_told, told_number, told_place};
 ghost use Rattle.reader.specs.internal.JudgedText.{spelled, JudgesText, TapeOfText};
 ghost use Rattle.reader.specs.internal.WalkAnswer.{judged};
 ghost use Rattle.reader.specs.Read.{SameAnswer, Reads};
@@ -21,7 +21,7 @@ ghost use Rattle.reader.specs.Read.{SameAnswer, Reads};
 use base::{Refusal, limit, number};
 use commands::judge_imperative;
 use fill::fill;
-use lexer::scan;
+use lexer::{Fault, scan};
 use nested::judge_nested;
 use root::{Counts, Judged};
 use tape::{NOT_MET, Tape};
@@ -43,10 +43,47 @@ enum Spelling {
     Imperative,
 }
 
-#[derive(Clone, Copy)]
-struct Group {
-    number: u32,
-    place: usize,
+// A fault of the groups 1 to 6.
+#[derive(Clone, Copy, Debug, PartialEq, Eq)]
+enum GroupFault {
+    TooLong,
+    NotUtf8(usize),
+    Scan(Fault),
+}
+
+impl GroupFault {
+    #[tactic(auto, unfolding(crate::specs::internal::FirstGroups::fault_number))]
+    fn number(self) -> u32
+        ensures { result ≡ fault_number self }
+    {
+        match self {
+            GroupFault::TooLong => number::TEXT_TOO_LONG,
+            GroupFault::NotUtf8(_) => number::NOT_UTF8,
+            GroupFault::Scan(fault) => fault.kind.number(),
+        }
+    }
+
+    #[tactic(auto, unfolding(crate::specs::internal::FirstGroups::fault_place))]
+    fn place(self) -> usize
+        ensures { result ≡ fault_place self }
+    {
+        match self {
+            GroupFault::TooLong => limit::MOST_BYTES,
+            GroupFault::NotUtf8(place) => place,
+            GroupFault::Scan(fault) => fault.place,
+        }
+    }
+}
+
+impl From<Fault> for GroupFault {
+    ghost use Rattle.std.specs.Prelude.{◌≡◌};
+    ghost use Rattle.reader.specs.declared.GroupFault.TheVariants.{Scan};
+
+    ghost from_gives = { λ fault group. group ≡ Scan fault };
+
+    fn from(fault: Fault) -> GroupFault {
+        GroupFault::Scan(fault)
+    }
 }
 
 // How deep the brackets of a spelling nest.
@@ -61,29 +98,20 @@ fn levels(spelling: Spelling) -> usize
 }
 
 // The groups 1 to 6: too long, no UTF-8, and the faults of the scan.
-fn first_groups(spelling: Spelling, text: &[u8]) -> Group
-    ensures { (result.number ≡ group_number (most_levels (spelled spelling)) text.now)
-        × (result.place ≡ group_place (most_levels (spelled spelling)) text.now) }
+fn first_groups(spelling: Spelling, text: &[u8]) -> Result<(), GroupFault>
+    ensures { (told_number result ≡ group_number (most_levels (spelled spelling)) text.now)
+        × (told_place result ≡ group_place (most_levels (spelled spelling)) text.now) }
 {
     let n = text.len();
     if limit::MOST_BYTES < n {
-        return Group {
-            number: number::TEXT_TOO_LONG,
-            place: limit::MOST_BYTES,
-        };
+        return Err(GroupFault::TooLong);
     }
     let valid = utf8::valid_up_to(text);
     if valid < n {
-        return Group {
-            number: number::NOT_UTF8,
-            place: valid,
-        };
+        return Err(GroupFault::NotUtf8(valid));
     }
-    let s = scan(text, levels(spelling));
-    Group {
-        number: s.number,
-        place: s.place,
-    }
+    scan(text, levels(spelling))?;
+    Ok(())
 }
 
 // Judges a text that passed the first groups, in its spelling.
@@ -142,9 +170,8 @@ fn read(
         (record { nodes = nodes.entry.now; places = places.old; pool = pool.old }) result
         (record { nodes = nodes.exit.now; places = places.new; pool = pool.new }) }
 {
-    let g = first_groups(spelling, text);
-    if g.number != number::OK {
-        return answer_at(text, g.number, g.place, 0, 0);
+    if let Err(fault) = first_groups(spelling, text) {
+        return answer_at(text, fault.number(), fault.place(), 0, 0);
     }
     let mut tape = [NOT_MET; limit::MOST_NODES];
     let counts = match judge(spelling, text, &mut tape) {

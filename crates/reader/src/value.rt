@@ -3,6 +3,7 @@ ghost use Rattle.std.specs.Prelude.{◌≡◌, cond, ◌&&◌, ℕ, ◌+◌, ◌
 ghost use lib.ListN.{length, take, drop};
 ghost use Rattle.elements.specs.rules.Class as Class;
 ghost use Rattle.syntax.specs.rules.Expression.{Exprs, Expr};
+ghost use Rattle.characters.specs.Codes.{alphabet_number};
 ghost use Rattle.atoms.specs.Atom.{atom_value};
 ghost use Rattle.document.specs.rules.Value.{non_empty, is_value, names_block};
 ghost use Rattle.document.specs.reference.Meaning.{judge_value, value_tree, size_tree, number_of};
@@ -16,6 +17,7 @@ use super::tape::{Tape, note_key, note_size, note_type};
 use super::walk::{Element, Opening, Reached, Refused, Walked, closes};
 use atoms::atom_fits;
 use base::Refusal;
+use characters::Alphabet;
 use kind::{Keyword, Kind};
 use lexer::{A_STRING, A_SYMBOL, THE_END, look};
 
@@ -32,13 +34,6 @@ const SIZE: u8 = Keyword::SIZE.number;
 const LINK: u8 = Kind::LINK.number;
 
 const FOOTNOTE_REF: u8 = Kind::FOOTNOTE_REF.number;
-
-// The sorts of characters that `atom_fits` knows: of a type, of an id, of a URI.
-const TYPE_CHARACTERS: u8 = 0;
-
-const ID_CHARACTERS: u8 = 1;
-
-const URI_CHARACTERS: u8 = 2;
 
 // The largest width or height, and how many digits one has at most.
 const MOST_NUMBER: usize = 65535;
@@ -110,24 +105,22 @@ fn is_value(text: &[u8], place: usize, kind: u8, class: u8) -> bool
     ensures { non_empty (atom_value (drop place text.now)) && result ≡ is_value kind class (atom_value (drop place text.now)) }
 {
     match class {
-        ID => atom_fits(text, place, ID_CHARACTERS),
-        TYPE_NAME => atom_fits(text, place, TYPE_CHARACTERS),
+        ID => atom_fits(text, place, Alphabet::Id),
+        TYPE_NAME => atom_fits(text, place, Alphabet::Type),
         TARGET => atom_fits(text, place, target_sort(kind)),
         _ => false,
     }
 }
 
 // The characters of a target: those of an id where it names a block, else those of a URI.
-fn target_sort(kind: u8) -> u8
-    ensures { result ≡ cond (names_block kind) 1 2 }
+#[tactic(auto, unfolding(document::specs::rules::Value::names_block, characters::specs::Codes::alphabet_number))]
+fn target_sort(kind: u8) -> Alphabet
+    ensures { alphabet_number result ≡ cond (names_block kind) 1 2 }
 {
-    if kind == LINK {
-        return ID_CHARACTERS;
+    match kind {
+        LINK | FOOTNOTE_REF => Alphabet::Id,
+        _ => Alphabet::Uri,
     }
-    if kind == FOOTNOTE_REF {
-        return ID_CHARACTERS;
-    }
-    URI_CHARACTERS
 }
 
 // The number that `length` bytes from `place` on write, where they are one to five decimal digits.

@@ -20,8 +20,7 @@ ghost use Rattle.reader.specs.internal.Walks.{WalkStarts, ListStarts, Within, An
 use super::tape::{Tape, enter, leave};
 use super::value::value;
 use base::Refusal;
-use characters::byte_class;
-use characters::class::ROUND_END;
+use characters::{ByteClass, byte_class};
 use inside::{may_end, step};
 use kind::Kind;
 use lexer::{A_LIST, Seen, THE_END, look};
@@ -112,7 +111,7 @@ pub fn at_end(element: Element, state: u8, end: Reached) -> Walked
 pub fn closes(text: &[u8], i: usize) -> bool
     ensures { result ≡ true → ((seen i (drop i text.now)).sort ≡ the_end) × ((seen i (drop i text.now)).place ≡ i) }
 {
-    i < text.len() && ROUND_END <= byte_class(text[i])
+    i < text.len() && matches!(byte_class(text[i]), ByteClass::Closing(_))
 }
 
 // What is seen from a place on, counted as an expression of this class in an element that is read so far to this state.

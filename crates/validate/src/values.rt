@@ -3,13 +3,14 @@ ghost use Rattle.std.specs.Prelude.{◌≡◌, ◌&&◌, List, ℕ, ◌+◌, ◌
 ghost use Rattle.document.specs.rules.Record.{record_length};
 ghost use Rattle.elements.specs.rules.Class as Class;
 ghost use Rattle.elements.specs.rules.Characters.{character_of};
+ghost use Rattle.characters.specs.Codes.{alphabet_number};
 ghost use Rattle.document.specs.rules.Value.{is_value, non_empty, every};
 ghost use Rattle.document.specs.rules.Canonical.{value_before, size_before};
 ghost use Rattle.validate.specs.internal.DraftWalk.{TakesValues, node_values};
 
 use super::OK;
 use super::record::words;
-use characters::character;
+use characters::{Alphabet, character};
 use inside::step;
 use kind::{Keyword, Kind};
 use table::{HEIGHT, KEY, KEY_LENGTH, MISSING, TYPE, TYPE_LENGTH, WIDTH, key_class, part};
@@ -24,38 +25,31 @@ pub struct Taken {
     pub state: u8,
 }
 
-// Whether all bytes are characters of that sort: 0 of a type, 1 of an id, any other of a URI.
-fn fits(bytes: &[u8], sort: u8) -> bool
-    ensures { result ≡ every (character_of sort) bytes.now }
+// Whether all bytes are characters of an alphabet.
+fn fits(bytes: &[u8], alphabet: Alphabet) -> bool
+    ensures { result ≡ every (character_of (alphabet_number alphabet)) bytes.now }
 {
-    let mut i = 0;
-    while i < bytes.len() {
-        if !character(sort, bytes[i]) {
-            return false;
-        }
-        i += 1;
-    }
-    true
+    bytes.iter().all(|&b| character(alphabet, b))
 }
 
-// The sort of the characters of a value of a class in an element of a kind.
-fn sort(kind: u8, class: u8) -> u8
+// The alphabet of a value of a class in an element of a kind.
+fn sort(kind: u8, class: u8) -> Alphabet
     requires { (Class.id ≤ class) × (class ≤ Class.target) }
-    ensures { (s : List ℕ) → is_value kind class s ≡ non_empty s && every (character_of result) s }
+    ensures { (s : List ℕ) → is_value kind class s ≡ non_empty s && every (character_of (alphabet_number result)) s }
 {
     if class == Keyword::TYPE.number {
-        return 0;
+        return Alphabet::Type;
     }
     if class == Keyword::ID.number {
-        return 1;
+        return Alphabet::Id;
     }
     if kind == Kind::LINK.number {
-        return 1;
+        return Alphabet::Id;
     }
     if kind == Kind::FOOTNOTE_REF.number {
-        return 1;
+        return Alphabet::Id;
     }
-    2
+    Alphabet::Uri
 }
 
 // A value, where it is there.

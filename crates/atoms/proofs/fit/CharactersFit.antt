@@ -6,23 +6,27 @@ use mathlib.Core.List.{List, [], ◌∷◌, ◌++◌}
 use Prim.Native.Nat.{ℕ, ◌+◌, ◌/◌, ◌≤◌, ◌<◌}
 use native.Mathlib.Nat.{eq-or-lt_of_le}
 use native.Mathlib.Omega.{arith}
-use lib.Dec.{T, eqb, leb, eqb→eq}
+use lib.Dec.{T, leb}
 use lib.ListN.{length, drop, get_or, drop_of_length-le}
-use borrow.Author.Tests.{eqb-true, eqb-false, leb-true, leb-false}
-use Rattle.base.proofs.Booleans.{bool_case, both, cond_case, and_true}
+use borrow.Author.Tests.{leb-true, leb-false}
+use Rattle.base.proofs.Booleans.{bool_case, both, cond_case, and_true, T_true}
 use Rattle.base.proofs.Tables.{each_below}
 use Rattle.utf8.specs.rules.Scalar.{encode}
 use Rattle.elements.specs.rules.Characters.{is_letter, is_digit, type_character, id_character, uri_character, character_of}
 use Rattle.syntax.specs.rules.Syntax.{Piece, raw, letter, number, hex_value, is_piece, piece_value, pieces_value}
 use Rattle.syntax.specs.reference.Scan.{Quoted, closed, unclosed, bad_escape, piece, ordinary_run, quoted_from}
-use Rattle.syntax.specs.rules.Byte.{byte_class}
-use Rattle.characters.specs.Codes.{code_of}
-use Rattle.atoms.specs.Atom.{string_at, content_of, piece_at, fits}
+use Rattle.syntax.specs.rules.Byte.{byte_class, is_ordinary, ordinary_class}
+use Rattle.std.specs.Prelude.{Some, None, Result, Ok, Err}
+use Rattle.std.specs.Result.{is_err}
+use Rattle.atoms.specs.declared.pieces.PieceSeen.{PieceSeen}
+use Rattle.atoms.specs.declared.string.StringEnd.{StringEnd}
+use Rattle.atoms.specs.declared.string.BadString.{BadString}
+use Rattle.atoms.specs.Atom.{ended, string_at, content_of, piece_at, fits}
+use Rattle.atoms.specs.internal.PieceSeen.{piece_stands, piece_seen}
 use Rattle.elements.proofs.Characters.{none_high}
 use Rattle.characters.proofs.Symbols.{run_turn, run_stop}
-use Rattle.characters.proofs.ClassNumbers.{ordinary_yes, ordinary_no}
-use Rattle.atoms.proofs.PieceAt.{piece_few, Told, PieceStands, stands_told, stays, moves, read_on}
-use Rattle.atoms.proofs.Contents.{is_closed, piece_closed, no_piece, closed_string, content_inner, fault_nothing}
+use Rattle.atoms.proofs.PieceAt.{piece_few, piece_good, piece_none, read_on}
+use Rattle.atoms.proofs.Contents.{is_closed, piece_closed, no_piece, closed_string, content_inner, good_number, faulty_nothing}
 
 -- Bytes one after another fit where both do.
 pub fits_append : (n : ℕ) (v w : List ℕ) → fits n (v ++ w) ≡ fits n v && fits n w
@@ -54,45 +58,44 @@ piece_fits n (number d₁ d₂ d₃ d₄) = encode_fits n (hex_value d₁ d₂ d
 
 -- ---- a symbol
 
--- The byte at place i of a text has the class of this number.
-module _ (text : List ℕ) (sort i class : ℕ) (h : i < length text) (e : class ≡ code_of (byte_class (get_or text i 0))) where
-  pub symbol_done : (class ≡ 4 → ⊥) → fits sort (ordinary_run (drop i text)) ≡ true
+module _ (text : List ℕ) (sort i : ℕ) (h : i < length text) where
+  pub symbol_done : is_ordinary (get_or text i 0) ≡ false → fits sort (ordinary_run (drop i text)) ≡ true
   unfolding fits
-  symbol_done f = rw (run_stop text i h (ordinary_no _ _ e f))
+  symbol_done f = rw (run_stop text i h f)
 
-  symbol_first : class ≡ 4
+  symbol_first : is_ordinary (get_or text i 0) ≡ true
       → fits sort (ordinary_run (drop i text)) ≡ character_of sort (get_or text i 0) && fits sort (ordinary_run (drop (i + 1) text))
   unfolding fits
-  symbol_first f = rw (run_turn text i h (ordinary_yes _ _ e f))
+  symbol_first f = rw (run_turn text i h f)
 
-  pub symbol_turn : class ≡ 4 → character_of sort (get_or text i 0) ≡ true
+  pub symbol_turn : is_ordinary (get_or text i 0) ≡ true → character_of sort (get_or text i 0) ≡ true
       → fits sort (ordinary_run (drop (i + 1) text)) ≡ fits sort (ordinary_run (drop i text))
   symbol_turn f t = rw t at (sym (symbol_first f))
 
   -- At a byte that is no such character the symbol does not fit, if it goes on there.
-  pub symbol_refused : character_of sort (get_or text i 0) ≡ false → not (eqb class 4) ≡ fits sort (ordinary_run (drop i text))
+  pub symbol_refused : character_of sort (get_or text i 0) ≡ false → not (is_ordinary (get_or text i 0)) ≡ fits sort (ordinary_run (drop i text))
   symbol_refused t =
-      bool_case (eqb class 4)
-      (λ y. rw y (rw t at (sym (symbol_first (eqb-true class 4 y)))))
-      (λ n. rw n (sym (symbol_done (eqb-false class 4 n))))
+      bool_case (is_ordinary (get_or text i 0))
+      (λ y. rw y (rw t at (sym (symbol_first y))))
+      (λ n. rw n (sym (symbol_done n)))
 
 -- Characters of types and ids are ordinary bytes, by a test of each byte below 0x80.
 abbrev sort_ordinary : ℕ → ℕ → Bool
-sort_ordinary n b = not (character_of n b) || eqb (code_of (byte_class b)) 4
+sort_ordinary n b = not (character_of n b) || is_ordinary b
 
 abbrev both_ordinary : ℕ → Bool
 both_ordinary b = sort_ordinary 0 b && sort_ordinary 1 b
 
-pub named_ordinary : (n b : ℕ) → n ≤ 1 → character_of n b ≡ true → code_of (byte_class b) ≡ 4
-unfolding character_of type_character id_character uri_character is_letter is_digit byte_class code_of
+pub named_ordinary : (n b : ℕ) → n ≤ 1 → character_of n b ≡ true → is_ordinary b ≡ true
+unfolding character_of type_character id_character uri_character is_letter is_digit byte_class is_ordinary ordinary_class
 named_ordinary n b h e =
     bool_case (leb 0x80 b)
     (λ high. absurd (true≢false (sym e ∙ none_high b n (leb-true 0x80 b high))))
     (λ low. let (zero, one) = both (sort_ordinary 0 b) (sort_ordinary 1 b) (each_below both_ordinary 0x80 b (leb-false 0x80 b low) tt) in
     ⊎_elim (λ (f : n ≡ 1). known 1 one (rw f at e)) (λ (f : n < 1). known 0 zero (let z : n ≡ 0 = omega arith in rw z at e)) (eq-or-lt_of_le h))
   where
-    known : (m : ℕ) → T (sort_ordinary m b) → character_of m b ≡ true → code_of (byte_class b) ≡ 4
-    known m t f = eqb→eq _ 4 (rw f at t)
+    known : (m : ℕ) → T (sort_ordinary m b) → character_of m b ≡ true → is_ordinary b ≡ true
+    known m t f = T_true (is_ordinary b) (rw f at t)
 
 -- ---- a string
 
@@ -134,46 +137,48 @@ module _ (text : List ℕ) (place sort i : ℕ) (c : StringLeft text place sort 
   unfolding fits content_of quoted_from
   string_past h = rw (drop_of_length-le text h) at c.same
 
-  module _ (inside : i < length text) (next size first second third : ℕ) (told : Told (piece_at (drop i text)) i next size first second third) where
-    pub string_stopped : next ≡ i → true ≡ fits sort (whole text place)
+  module _ (inside : i < length text) where
+    abbrev here : Piece
+    here = piece_at (drop i text)
+
+    pub string_stopped : None ≡ piece_seen i here → true ≡ fits sort (whole text place)
     unfolding fits
-    string_stopped e = rw (no_piece text i inside (stays (piece_at (drop i text)) i next told.0 e)) at c.same
+    string_stopped e = rw (no_piece text i inside (piece_none here i e)) at c.same
 
-    module _ (h : next ≡ i → ⊥) where
-      abbrev here : Piece
-      here = piece_at (drop i text)
-
+    module _ (q : PieceSeen) (seen : Some q ≡ piece_seen i here) where
       good : is_piece here ≡ true
-      good = moves here i next told.0 h
+      good = (piece_good here i q seen).0
 
-      stands : PieceStands here i next size first second third
-      stands = stands_told here i next size first second third good told
+      stands : q ≡ piece_stands i here
+      stands = (piece_good here i q seen).1
 
-      reads : left text i ≡ piece here (left text next)
-      reads = rw stands.0 (read_on text i inside good)
+      reads : left text i ≡ piece here (left text q.next)
+      unfolding piece_stands
+      reads = rw stands (read_on text i inside good)
 
-      decides : (t : Bool) → t ≡ character_of sort first → fits sort (piece_value here) ≡ t
-      decides t e = piece_fits sort here ∙ ap (character_of sort) (sym stands.2) ∙ sym e
+      decides : (t : Bool) → t ≡ character_of sort q.first → fits sort (piece_value here) ≡ t
+      unfolding piece_stands
+      decides t e = piece_fits sort here ∙ ap (λ (r : PieceSeen). character_of sort r.first) (sym stands) ∙ sym e
 
-      ends_next : is_closed (left text next) ≡ is_closed (left text (place + 1))
-      ends_next = sym (piece_closed here (left text next)) ∙ ap is_closed (sym reads) ∙ c.ends
+      ends_next : is_closed (left text q.next) ≡ is_closed (left text (place + 1))
+      ends_next = sym (piece_closed here (left text q.next)) ∙ ap is_closed (sym reads) ∙ c.ends
 
-      pub string_further : i < next
-      string_further = omega (arith, stands, piece_few here)
+      pub string_further : i < q.next
+      unfolding piece_stands
+      string_further = rw stands (omega (arith, piece_few here))
 
-      pub string_turn : (t : Bool) → t ≡ character_of sort first → t ≡ true → StringLeft text place sort next
+      pub string_turn : (t : Bool) → t ≡ character_of sort q.first → t ≡ true → StringLeft text place sort q.next
       string_turn t e u =
           record {
             ends = ends_next;
-            same = sym (piece_passed sort here (left text next) (decides t e ∙ u)) ∙ ap (λ (q : Quoted). fits sort (content_of q)) (sym reads) ∙ c.same;
+            same = sym (piece_passed sort here (left text q.next) (decides t e ∙ u)) ∙ ap (λ (r : Quoted). fits sort (content_of r)) (sym reads) ∙ c.same;
           }
 
       -- A piece that does not fit refuses the string if it has no fault.
-      pub string_refused : (t : Bool) → t ≡ character_of sort first → t ≡ false
-          → (found : ℕ) → found ≡ (string_at place (drop place text)).number → not (eqb found 0) ≡ fits sort (whole text place)
+      pub string_refused : (t : Bool) → t ≡ character_of sort q.first → t ≡ false
+          → (r : Result StringEnd BadString) → ended r ≡ string_at place (drop place text) → is_err r ≡ fits sort (whole text place)
       unfolding fits
-      string_refused t e u found f =
-          bool_case (eqb found 0)
-          (λ z. let closes = closed_string text place found f (eqb-true found 0 z) in
-          rw z (sym (piece_refused sort here (left text next) (decides t e ∙ u) (ends_next ∙ closes)) ∙ ap (λ (q : Quoted). fits sort (content_of q)) (sym reads) ∙ c.same))
-          (λ z. rw (z, fault_nothing text place found f (eqb-false found 0 z)))
+      string_refused t e u (Ok s) f =
+          let closes = closed_string text place 0 (good_number text place s f) refl in
+          sym (piece_refused sort here (left text q.next) (decides t e ∙ u) (ends_next ∙ closes)) ∙ ap (λ (r : Quoted). fits sort (content_of r)) (sym reads) ∙ c.same
+      string_refused t e u (Err b) f = rw (faulty_nothing text place b f)

@@ -69,24 +69,8 @@ pub plain_stop : (text : List ℕ) (i : ℕ) → i < length text → is_raw (get
 unfolding plain_run
 plain_stop text i h e = rw (drop-cons text i 0 h, e)
 
-plain_more : (text : List ℕ) (i n : ℕ) → i + n < length text → leb n (plains text i) && is_raw (get_or text (i + n) 0) ≡ leb (n + 1) (plains text i)
+pub plain_more : (text : List ℕ) (i n : ℕ) → i + n < length text → leb n (plains text i) && is_raw (get_or text (i + n) 0) ≡ leb (n + 1) (plains text i)
 plain_more text i n h = rw (plain_one text (i + n) h) (plain_blocks text i n 1)
-
-pub plain_eight : (text : List ℕ) (i : ℕ) → i + 8 ≤ length text
-    → is_raw (get_or text i 0) && is_raw (get_or text (i + 1) 0) && is_raw (get_or text (i + 2) 0) && is_raw (get_or text (i + 3) 0)
-    && is_raw (get_or text (i + 4) 0) && is_raw (get_or text (i + 5) 0) && is_raw (get_or text (i + 6) 0) && is_raw (get_or text (i + 7) 0)
-    ≡ leb 8 (plains text i)
-plain_eight text i h =
-    rw (
-      plain_one text i (omega arith),
-      plain_more text i 1 (omega arith),
-      plain_more text i 2 (omega arith),
-      plain_more text i 3 (omega arith),
-      plain_more text i 4 (omega arith),
-      plain_more text i 5 (omega arith),
-      plain_more text i 6 (omega arith),
-      plain_more text i 7 (omega arith),
-    )
 
 -- A run is the text's bytes from its place on.
 pub plain_part : (s : List ℕ) → take (length (plain_run s)) s ≡ plain_run s

@@ -13,13 +13,15 @@ use Rattle.syntax.specs.rules.Byte.{is_raw}
 use Rattle.syntax.specs.rules.Syntax.{Piece, number, is_piece, piece_before, pieces_before, piece_value, pieces_value}
 use Rattle.syntax.specs.reference.Scan.{Quoted, closed, unclosed, bad_escape, escape_at, quoted_from}
 use Rattle.syntax.proofs.Strings.{piece_append}
-use Rattle.atoms.specs.Atom.{StringEnd, string_at, content_of, piece_at}
+use Rattle.std.specs.Prelude.{Ok}
+use Rattle.atoms.specs.Atom.{StringEnd, ended, string_at, content_of, piece_at}
+use Rattle.atoms.specs.declared.string.StringEnd as Ended
 use Rattle.atoms.specs.internal.StringStep.{bad_string_end}
 use Rattle.atoms.specs.internal.Run.{plain_run}
 use Rattle.atoms.proofs.PieceAt.{piece_few, piece_short, piece_escape}
-use Rattle.atoms.proofs.run.PlainRuns.{plains, plain_part}
+use Rattle.atoms.proofs.run.PlainRuns.{plains, plain_part, plain_ended}
 use Rattle.atoms.proofs.string.StringSteps.{string_finish, turn, at_start, RunEnd, run_end}
-use Rattle.atoms.proofs.Contents.{is_closed, closed_string, content_inner, quoted_inside, quoted_over, quoted_done, good_piece}
+use Rattle.atoms.proofs.Contents.{is_closed, good_ended, closed_string, content_inner, quoted_inside, quoted_over, quoted_done, good_piece}
 
 -- ---- pieces stand for no more bytes than they have
 
@@ -69,15 +71,23 @@ not_raw b e f = bool_case (eqb b 0x5C) (eqb-true b 0x5C) (λ g. let z : true ≡
 
 -- ---- a string of a text that has no fault
 
-module _ (text : List ℕ) (place found next size : ℕ) (e : found ≡ (string_at place (drop place text)).number) (z : found ≡ 0)
-    (f : next ≡ (string_at place (drop place text)).next) (g : size ≡ (string_at place (drop place text)).length) where
+module _ (text : List ℕ) (place : ℕ) (s : Ended.StringEnd) (e : ended (Ok s) ≡ string_at place (drop place text)) where
   abbrev answer : StringEnd
   answer = string_at place (drop place text)
 
-  pub string_span : place + 2 + size ≤ next
+  found : 0 ≡ answer.number
+  found = (good_ended answer s e).0
+
+  is_next : s.next ≡ answer.next
+  is_next = (good_ended answer s e).1
+
+  is_size : s.length ≡ answer.length
+  is_size = (good_ended answer s e).2
+
+  pub string_span : place + 2 + s.length ≤ s.next
   string_span =
       let start : string_finish place (place + 1) 0 (quoted_from 0 (place + 1) (drop (place + 1) text)) ≡ answer = at_start text place in
-      omega (arith, rw start at (finish_fits place (place + 1) 0 (quoted_from 0 (place + 1) (drop (place + 1) text)) (ap (λ (a : StringEnd). a.number) start ∙ sym e ∙ z)))
+      omega (arith, is_next, is_size, rw start at (finish_fits place (place + 1) 0 (quoted_from 0 (place + 1) (drop (place + 1) text)) (ap (λ (a : StringEnd). a.number) start ∙ sym found)))
 
   -- The run at its front ends at `end`.
   abbrev end : ℕ
@@ -88,24 +98,24 @@ module _ (text : List ℕ) (place found next size : ℕ) (e : found ≡ (string_
 
   over : (is_closed (quoted_from 0 end (drop end text)) ≡ true)
       × (content_of (quoted_from 0 (place + 1) (drop (place + 1) text)) ≡ plain_run (drop (place + 1) text) ++ content_of (quoted_from 0 end (drop end text)))
-  over = quoted_over text (place + 1) (closed_string text place found e z) end refl
+  over = quoted_over text (place + 1) (closed_string text place 0 found refl) end refl
 
   inside : end < length text
   inside = quoted_inside text end over.0
 
   pub record Between : Type 0 where
-    pub within : next - 1 ≤ length text
-    pub same : content_of (quoted_from 0 1 (drop 1 (drop place text))) ≡ take (next - 1 - (place + 1)) (drop (place + 1) text)
+    pub within : s.next - 1 ≤ length text
+    pub same : content_of (quoted_from 0 1 (drop 1 (drop place text))) ≡ take (s.next - 1 - (place + 1)) (drop (place + 1) text)
 
   -- What stands there is the closing quote,
   at_quote : get_or text end 0 ≡ 0x22 → Between
   unfolding quoted_from
   at_quote h =
       let none : quoted_from 0 end (drop end text) ≡ closed [] = rw (drop-cons text end 0 inside, h) in
-      let last : string_finish place end (0 + (end - (place + 1))) (closed []) ≡ answer = rw none at run.same in
-      let after : next ≡ end + 1
-      = f ∙ ap (λ (a : StringEnd). a.next) (sym last) ∙ finish_none place end (0 + (end - (place + 1))) (ap (λ (a : StringEnd). a.number) last ∙ sym e ∙ z) in
-      let size : next - 1 - (place + 1) ≡ plains text (place + 1) = omega arith in
+      let last : string_finish place end (0 + (end - (place + 1))) (closed []) ≡ answer = rw none at run in
+      let after : s.next ≡ end + 1
+      = is_next ∙ ap (λ (a : StringEnd). a.next) (sym last) ∙ finish_none place end (0 + (end - (place + 1))) (ap (λ (a : StringEnd). a.number) last ∙ sym found) in
+      let size : s.next - 1 - (place + 1) ≡ plains text (place + 1) = omega arith in
       let content : content_of (quoted_from 0 1 (drop 1 (drop place text))) ≡ plain_run (drop (place + 1) text) ++ content_of (quoted_from 0 end (drop end text))
       = sym (content_inner text place) ∙ over.1 in
       record {
@@ -114,7 +124,7 @@ module _ (text : List ℕ) (place found next size : ℕ) (e : found ≡ (string_
       }
 
   -- or an escape, and then the string stands for fewer bytes.
-  at_escape : (get_or text end 0 ≡ 0x22 → ⊥) → get_or text end 0 ≡ 0x5C → size < next - 1 - (place + 1)
+  at_escape : (get_or text end 0 ≡ 0x22 → ⊥) → get_or text end 0 ≡ 0x5C → s.length < s.next - 1 - (place + 1)
   at_escape k h =
       let p : Piece = piece_at (drop end text) in
       let good : is_piece p ≡ true = good_piece text end over.0 k in
@@ -123,10 +133,10 @@ module _ (text : List ℕ) (place found next size : ℕ) (e : found ≡ (string_
       = rw escape (escape_longer (drop (end + 1) text) (true_T (rw escape at good))) in
       let j : ℕ = end + length (piece_before p []) in
       let d : ℕ = 0 + (end - (place + 1)) + length (piece_value p) in
-      let rest : string_finish place j d (quoted_from 0 j (drop j text)) ≡ answer = turn text place end (0 + (end - (place + 1))) inside good ∙ run.same in
-      omega (arith, rw rest at (finish_fits place j d (quoted_from 0 j (drop j text)) (ap (λ (a : StringEnd). a.number) rest ∙ sym e ∙ z)))
+      let rest : string_finish place j d (quoted_from 0 j (drop j text)) ≡ answer = turn text place end (0 + (end - (place + 1))) inside good ∙ run in
+      omega (arith, is_next, is_size, rw rest at (finish_fits place j d (quoted_from 0 j (drop j text)) (ap (λ (a : StringEnd). a.number) rest ∙ sym found)))
 
-  pub unescaped : size ≡ next - 1 - (place + 1) → Between
+  pub unescaped : s.length ≡ s.next - 1 - (place + 1) → Between
   unescaped h =
       bool_case (eqb (get_or text end 0) 0x22) (λ t. at_quote (eqb-true (get_or text end 0) 0x22 t))
-      (λ t. absurd (omega (arith, at_escape (eqb-false (get_or text end 0) 0x22 t) (not_raw (get_or text end 0) t (run.after inside)))))
+      (λ t. absurd (omega (arith, at_escape (eqb-false (get_or text end 0) 0x22 t) (not_raw (get_or text end 0) t (plain_ended text (place + 1) end refl inside)))))

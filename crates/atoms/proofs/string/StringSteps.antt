@@ -6,19 +6,21 @@ use mathlib.Core.List.{List, [], ◌∷◌}
 use native.Mathlib.Nat.{add-zero, add_assoc}
 use native.Mathlib.Omega.{arith}
 use lib.Dec.{eqb, leb}
-use lib.ListN.{length, drop, get_or, length-append, drop_of_length-le, get_or-eq_default}
+use lib.ListN.{length, drop, get_or, length-append, drop_of_length-le}
 use lib.Seq.{drop-cons, drop-drop}
 use borrow.Author.Tests.{ne_eqb, leb-true, leb-false}
+use Rattle.std.specs.Prelude.{Some, None}
 use Rattle.base.proofs.Booleans.{bool_case}
-use Rattle.syntax.specs.rules.Byte.{is_raw}
 use Rattle.syntax.specs.rules.Syntax.{Piece, raw, is_piece, piece_before, pieces_before, piece_value, pieces_value}
 use Rattle.syntax.specs.reference.Scan.{Quoted, closed, unclosed, bad_escape, piece, escape_at, quoted_from}
 use Rattle.atoms.specs.Atom.{StringEnd, string_end, string_at, piece_at}
-use Rattle.atoms.specs.internal.StringStep.{bad_string_end, stopped_at, piece_length}
+use Rattle.atoms.specs.internal.StringStep.{bad_string_end, stopped_at}
+use Rattle.atoms.specs.declared.pieces.PieceSeen.{PieceSeen}
+use Rattle.atoms.specs.internal.PieceSeen.{piece_stands, piece_seen}
 use Rattle.atoms.specs.internal.Run.{plain_run}
 use Rattle.syntax.proofs.Strings.{piece_append}
-use Rattle.atoms.proofs.PieceAt.{piece_few, Told, moves, stays, stands_told, read_on, piece_raw, raw_piece}
-use Rattle.atoms.proofs.run.PlainRuns.{plains, raws, quoted_passed, plain_ended}
+use Rattle.atoms.proofs.PieceAt.{piece_few, piece_good, piece_none, read_on, raw_piece}
+use Rattle.atoms.proofs.run.PlainRuns.{plains, raws, quoted_passed}
 
 -- ---- the answer from a piece on
 
@@ -63,19 +65,18 @@ turn text n i d h e =
     sym (ap (string_finish n i d) (read_on text i h e) ∙ finish_piece n i d p (quoted_from 0 j (drop j text)))
 
 -- The same of what the code has: a piece is small, and its turn keeps the answer.
-abbrev pub PieceTurned : List ℕ → ℕ → ℕ → ℕ → ℕ → ℕ → Type 0
-PieceTurned text n i d next size =
-    (i < next) × (i + size ≤ next) × (next ≤ i + 6)
-    × (string_finish n next (d + size) (quoted_from 0 next (drop next text)) ≡ string_finish n i d (quoted_from 0 i (drop i text)))
+abbrev pub PieceTurned : List ℕ → ℕ → ℕ → ℕ → PieceSeen → Type 0
+PieceTurned text n i d q =
+    (i < q.next) × (i + q.size ≤ q.next) × (q.next ≤ i + 6)
+    × (string_finish n q.next (d + q.size) (quoted_from 0 q.next (drop q.next text)) ≡ string_finish n i d (quoted_from 0 i (drop i text)))
 
-pub walk : (text : List ℕ) (n i d next size a b c : ℕ) → i < length text → Told (piece_at (drop i text)) i next size a b c
-    → (next ≡ i → ⊥) → PieceTurned text n i d next size
-walk text n i d next size a b c h t k =
+pub walk : (text : List ℕ) (n i d : ℕ) (q : PieceSeen) → i < length text → Some q ≡ piece_seen i (piece_at (drop i text)) → PieceTurned text n i d q
+unfolding piece_stands
+walk text n i d q h t =
     let p : Piece = piece_at (drop i text) in
-    let good : is_piece p ≡ true = moves p i next t.0 k in
-    let (e, f, x, y, z) = stands_told p i next size a b c good t in
+    let (good, is) = piece_good p i q t in
     let (u, v, w) = piece_few p in
-    (omega arith, omega arith, omega arith, rw (e, f) (turn text n i d h good))
+    rw is (omega arith, omega arith, omega arith, turn text n i d h good)
 
 -- ---- where no piece stands
 
@@ -122,10 +123,9 @@ finish_raws (b ∷ r) n i d q =
     let next : (m : ℕ) → m + 1 + length r ≡ m + suc (length r) = λ m. omega arith in
     finish_piece n i d (raw b) (raws r q) ∙ finish_raws r n (i + 1) (d + 1) q ∙ rw (next i, next d)
 
--- After a run up to place `end`, whose bytes are counted in d: what follows finishes the string with the answer, and no plain byte stands there.
-pub record RunEnd (text : List ℕ) (n end d : ℕ) (answer : StringEnd) : Type 0 where
-  pub same : string_finish n end d (quoted_from 0 end (drop end text)) ≡ answer
-  pub after : end < length text → is_raw (get_or text end 0) ≡ false
+-- After a run up to place `end`, whose bytes are counted in d, what follows finishes the string with the answer.
+abbrev pub RunEnd : List ℕ → ℕ → ℕ → ℕ → StringEnd → Type 0
+RunEnd text n end d answer = string_finish n end d (quoted_from 0 end (drop end text)) ≡ answer
 
 pub run_end : (text : List ℕ) (n i d end : ℕ) (answer : StringEnd) → end ≡ i + plains text i
     → string_finish n i d (quoted_from 0 i (drop i text)) ≡ answer → RunEnd text n end (d + (end - i)) answer
@@ -133,30 +133,19 @@ run_end text n i d end answer e f =
     let size : end - i ≡ plains text i = omega arith in
     let passed : string_finish n i d (quoted_from 0 i (drop i text)) ≡ string_finish n (i + plains text i) (d + plains text i) (quoted_from 0 end (drop end text))
     = ap (string_finish n i d) (quoted_passed text i end e) ∙ finish_raws (plain_run (drop i text)) n i d (quoted_from 0 end (drop end text)) in
-    record { same = rw (size) (rw (← e) at (sym passed) ∙ f); after = plain_ended text i end e }
+    rw (size) (rw (← e) at (sym passed) ∙ f)
 
-pub escape_inside : (text : List ℕ) (i : ℕ) → get_or text i 0 ≡ 0x5C → i < length text
-escape_inside text i e =
-    bool_case (leb (length text) i)
-    (λ h. absurd (omega (arith, get_or-eq_default text 0 (leb-true (length text) i h))))
-    (leb-false (length text) i)
-
--- What stands there is no escape, or no good one.
-pub run_stopped : {text : List ℕ} {n end d : ℕ} {answer : StringEnd} → RunEnd text n end d answer → (get_or text end 0 ≡ 0x5C → ⊥)
-    → stopped_at n end d (drop end text) ≡ answer
-unfolding stopped_at is_piece
-run_stopped {text} {n} {end} {d} r h =
+-- Where no piece stands.
+pub run_stopped : (text : List ℕ) (n end d : ℕ) (answer : StringEnd) → RunEnd text n end d answer
+    → (end < length text → None ≡ piece_seen end (piece_at (drop end text))) → stopped_at n end d (drop end text) ≡ answer
+unfolding stopped_at
+run_stopped text n end d answer r h =
     bool_case (leb (length text) end)
     (λ e. let past : length text ≤ end = leb-true (length text) end e in
-    rw (drop_of_length-le text past) (sym (at_end text n end d past) ∙ r.same))
+    rw (drop_of_length-le text past) (sym (at_end text n end d past) ∙ r))
     (λ e. let inside : end < length text = leb-false (length text) end e in
-    let none : is_piece (piece_at (drop end text)) ≡ false = ap is_piece (piece_raw text end h) ∙ r.after inside in
-    sym (stop text n end d inside none) ∙ r.same)
+    sym (stop text n end d inside (piece_none _ end (h inside))) ∙ r)
 
-pub run_bad : {text : List ℕ} {n end d : ℕ} {answer : StringEnd} → RunEnd text n end d answer → (next : ℕ) → get_or text end 0 ≡ 0x5C
-    → next ≡ end + piece_length (piece_at (drop end text)) → next ≡ end → bad_string_end end ≡ answer
-unfolding stopped_at
-run_bad {text} {n} {end} {d} r next e f g =
-    let inside : end < length text = escape_inside text end e in
-    let at : stopped_at n end d (drop end text) ≡ bad_string_end end = rw (drop-cons text end 0 inside, e) in
-    sym at ∙ sym (stop text n end d inside (stays _ end next f g)) ∙ r.same
+-- A piece that the code has stands inside the text.
+pub piece_inside : (text : List ℕ) (i : ℕ) (q : PieceSeen) → (length text ≤ i → Some q ≡ None) → i < length text
+piece_inside text i q h = bool_case (leb (length text) i) (λ e. let no = h (leb-true (length text) i e) in cc) (leb-false (length text) i)

@@ -1,15 +1,7 @@
 -- What the functions of the loop through a string answer, one step of it each.
-use Rattle.std.specs.Prelude.{ℕ, ◌+◌, cond, List, [], ◌∷◌, eqb, length}
+use Rattle.std.specs.Prelude.{ℕ, ◌+◌, cond, List, [], ◌∷◌, eqb}
 use Rattle.base.specs.rules.Numbers as Number
-use Rattle.syntax.specs.rules.Syntax.{Piece, is_piece, piece_before, piece_value}
 use Rattle.atoms.specs.Atom.{StringEnd}
-
--- How many bytes a piece takes, and those that it stands for; nothing for what is no piece.
-unfoldable pub piece_length : Piece → ℕ
-piece_length p = cond (is_piece p) (length (piece_before p [])) 0
-
-unfoldable pub piece_bytes : Piece → List ℕ
-piece_bytes p = cond (is_piece p) (piece_value p) []
 
 unfoldable pub bad_string_end : ℕ → StringEnd
 bad_string_end n = record { number = Number.bad_string; place = n; next = 0; length = 0 }

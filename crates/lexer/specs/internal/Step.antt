@@ -1,15 +1,20 @@
 -- What the functions of the scan's loop answer, one step of it each.
-use Rattle.std.specs.Prelude.{ℕ, ◌+◌, Bool, cond, List, eqb, get_or}
+use Rattle.std.specs.Prelude.{ℕ, ◌+◌, cond, List, eqb, get_or, Result, Ok, Err}
 use Rattle.base.specs.rules.Numbers as Number
-use Rattle.syntax.specs.rules.Byte.{Bracket, round, square}
-use Rattle.characters.specs.Codes.{return_code, quote_code, forbidden_code, round_code, round_end_code, square_end_code}
-use Rattle.atoms.specs.Atom.{StringEnd, string_at}
+use Rattle.atoms.specs.Atom.{StringEnd}
+use Rattle.lexer.specs.declared.scanner.Fault.{Fault}
+use Rattle.lexer.specs.Token.{kind_number}
 
 -- What the scan does at a byte that is no bracket: number 0 and the place where it goes on; or the fault and its place.
 pub record Passed : Type 0 where
   pub number : ℕ
   pub place : ℕ
   pub next : ℕ
+
+-- The code's answer so.
+unfoldable pub passed : Result ℕ Fault → Passed
+passed (Ok n) = record { number = Number.ok; place = 0; next = n }
+passed (Err f) = record { number = kind_number f.kind; place = f.place; next = 0 }
 
 unfoldable pub step_goes_on : ℕ → Passed
 step_goes_on n = record { number = Number.ok; place = 0; next = n + 1 }
@@ -20,15 +25,6 @@ stops n = record { number = Number.forbidden_character; place = n; next = 0 }
 unfoldable pub past_string : StringEnd → Passed
 past_string e = record { number = e.number; place = e.place; next = e.next }
 
--- By the class of the byte at place n, with which the bytes s begin. A symbol is gone through byte by byte, and so is the end of a line.
-unfoldable pub passed_at : ℕ → ℕ → List ℕ → Passed
-passed_at class n s =
-    cond (eqb class return_code) (cond (eqb (get_or s 1 0) 0x0A) (step_goes_on n) (stops n))
-    (cond (eqb class quote_code) (past_string (string_at n s)) (cond (eqb class forbidden_code) (stops n) (step_goes_on n)))
-
--- The bracket of an opening byte's class, and whether a closing byte of a class is its partner.
-unfoldable pub bracket_of : ℕ → Bracket
-bracket_of class = cond (eqb class round_code) round square
-
-unfoldable pub closes_it : ℕ → ℕ → Bool
-closes_it opened class = cond (eqb opened round_code) (eqb class round_end_code) (eqb class square_end_code)
+-- At a carriage return at place n, with which the bytes s begin.
+unfoldable pub return_at : ℕ → List ℕ → Passed
+return_at n s = cond (eqb (get_or s 1 0) 0x0A) (step_goes_on n) (stops n)

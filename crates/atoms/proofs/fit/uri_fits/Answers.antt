@@ -1,26 +1,26 @@
--- `fit::uri_fits` meets its contract. The loop's invariant: what is left of the symbol from `i` on fits if the whole does.
-use mathlib.Core.Path.{refl, sym, ◌∙◌}
+-- `fit::uri_fits` meets its contract.
+use mathlib.Core.Path.{sym, ap, ◌∙◌}
+use mathlib.Core.Bool.{not}
 use lib.ListN.{drop_of_length-le}
 use Rattle.syntax.specs.reference.Scan.{ordinary_run}
+use Rattle.characters.specs.Codes.{alphabet_number}
 use Rattle.atoms.specs.Atom.{fits}
 use Rattle.atoms.proofs.fit.CharactersFit.{symbol_done, symbol_turn, symbol_refused}
 use Rattle.atoms.proofs.fit.uri_fits.Goals as goal
 
-pub loop-i-init : goal.loop-i-init
-loop-i-init c = refl
-
 pub returns-then-not-character : goal.returns-then-not-character
-returns-then-not-character c = symbol_refused _ _ c.loop-i.i _ c.loop-i-test.true
-    c.byte_class-class.ensures (sym c.character.ensures ∙ c.if-not-character.true)
-    ∙ c.loop-i.invariant
+unfolding alphabet_number
+returns-then-not-character c =
+    ap not c.is_ordinary-ordinary.ensures ∙ symbol_refused _ _ c.loop-i.i c.loop-i-test.true (sym c.character.ensures ∙ c.if-not-character.true) ∙ c.loop-i.invariant
 
-pub returns-then-class-ne-ORDINARY : goal.returns-then-class-ne-ORDINARY
-returns-then-class-ne-ORDINARY c = sym (symbol_done _ _ c.loop-i.i _ c.loop-i-test.true
-    c.byte_class-class.ensures c.if-class-ne-ORDINARY.true) ∙ c.loop-i.invariant
+pub returns-then-not-ordinary : goal.returns-then-not-ordinary
+returns-then-not-ordinary c =
+    sym (symbol_done _ _ c.loop-i.i c.loop-i-test.true (sym c.is_ordinary-ordinary.ensures ∙ c.if-not-ordinary.true)) ∙ c.loop-i.invariant
 
 pub loop-i-preserved : goal.loop-i-preserved
-loop-i-preserved c = symbol_turn _ _ c.loop-i.i _ c.loop-i-test.true
-    c.byte_class-class.ensures c.if-class-ne-ORDINARY.false (sym c.character.ensures ∙ c.if-not-character.false)
+unfolding alphabet_number
+loop-i-preserved c =
+    symbol_turn _ _ c.loop-i.i c.loop-i-test.true (sym c.is_ordinary-ordinary.ensures ∙ c.if-not-ordinary.false) (sym c.character.ensures ∙ c.if-not-character.false)
     ∙ c.loop-i.invariant
 
 pub returns : goal.returns

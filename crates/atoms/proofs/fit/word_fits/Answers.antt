@@ -1,26 +1,22 @@
--- `fit::word_fits` meets its contract. The loop's invariant: what is left of the symbol from `i` on fits if the whole does.
-use mathlib.Core.Path.{refl, sym, ◌∙◌}
+-- `fit::word_fits` meets its contract.
+use mathlib.Core.Path.{sym, ap, ◌∙◌}
+use mathlib.Core.Bool.{not}
 use lib.ListN.{get_or, drop_of_length-le}
 use Rattle.syntax.specs.reference.Scan.{ordinary_run}
+use Rattle.characters.specs.Codes.{alphabet_number}
 use Rattle.atoms.specs.Atom.{fits}
 use Rattle.atoms.proofs.fit.CharactersFit.{symbol_turn, symbol_refused, named_ordinary}
 use Rattle.atoms.proofs.fit.word_fits.Goals as goal
 
-pub loop-i-init : goal.loop-i-init
-loop-i-init c = refl
-
 pub returns-then-not-character : goal.returns-then-not-character
-returns-then-not-character c = symbol_refused _ _ c.loop-i.i _ c.loop-i-test.true
-    c.byte_class.ensures (sym c.character.ensures ∙ c.if-not-character.true)
-    ∙ c.loop-i.invariant
+returns-then-not-character c =
+    ap not c.is_ordinary.ensures ∙ symbol_refused _ _ c.loop-i.i c.loop-i-test.true (sym c.character.ensures ∙ c.if-not-character.true) ∙ c.loop-i.invariant
 
 pub loop-i-preserved : goal.loop-i-preserved
 loop-i-preserved c = let text = c.args.text.now in
     let loop = c.loop-i in
     let stands = sym c.character.ensures ∙ c.if-not-character.false in
-    symbol_turn text c.args.sort loop.i _ c.loop-i-test.true refl
-    (named_ordinary c.args.sort (get_or text loop.i 0) c.requires stands) stands
-    ∙ loop.invariant
+    symbol_turn text _ loop.i c.loop-i-test.true (named_ordinary (alphabet_number c.args.alphabet) (get_or text loop.i 0) c.requires stands) stands ∙ loop.invariant
 
 pub returns : goal.returns
 unfolding fits ordinary_run

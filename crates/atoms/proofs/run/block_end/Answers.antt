@@ -3,5 +3,5 @@ use mathlib.Core.Path.{sym, ◌∙◌}
 use Rattle.atoms.proofs.run.PlainRuns.{plain_passed}
 use Rattle.atoms.proofs.run.block_end.Goals as goal
 
-pub returns-then-plain_8 : goal.returns-then-plain_8
-returns-then-plain_8 c = plain_passed c.args.text.now c.args.from 8 (sym c.plain_8.ensures ∙ c.if-plain_8.true)
+pub returns-then-plain_block : goal.returns-then-plain_block
+returns-then-plain_block c = plain_passed c.args.text.now c.args.from 8 (sym c.plain_block.ensures ∙ c.if-plain_block.true)

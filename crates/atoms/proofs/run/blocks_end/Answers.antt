@@ -11,5 +11,5 @@ pub loop-i-preserved : goal.loop-i-preserved
 loop-i-preserved c = (
   search rules,
   plain_passed c.args.text.now c.loop-i.i 16
-      (sym c.plain_16.ensures ∙ c.if-not-plain_16.false) ∙ c.loop-i.invariant.1,
+      (sym c.plain_block.ensures ∙ c.if-not-plain_block.false) ∙ c.loop-i.invariant.1,
 )

@@ -1,13 +1,15 @@
 -- `stores::put_atom` meets its contract.
+use mathlib.Core.Path.{◌≡◌}
+use native.Mathlib.Omega.{arith}
+use lib.ListN.{get_or}
+use Rattle.std.proofs.lemmas.Grind.{common_steps}
 use Rattle.atoms.proofs.Contents.{atom_string, atom_symbol}
 use Rattle.atoms.proofs.stores.put_atom.Goals as goal
 
-pub returns-then-byte_at-eq34 : goal.returns-then-byte_at-eq34
-returns-then-byte_at-eq34 c = rw (atom_string c.args.text.now
-    c.args.place c.byte_at.result
-    c.byte_at.ensures c.if-byte_at-eq34.true) c.put_string.ensures
+pub returns-then-eq : goal.returns-then-eq
+returns-then-eq c = let quote : get_or c.args.text.now c.args.place 0 ≡ 0x22 = grind (arith, common_steps) in
+    rw (atom_string c.args.text.now c.args.place quote) c.put_string.ensures
 
 pub returns : goal.returns
-returns c = rw (atom_symbol c.args.text.now
-    c.args.place c.byte_at.result
-    c.byte_at.ensures c.if-byte_at-eq34.false) c.put_symbol.ensures
+returns c = let other : get_or c.args.text.now c.args.place 0 ≡ 0x22 → ⊥ = λ e. grind (arith, common_steps) in
+    rw (atom_symbol c.args.text.now c.args.place other) c.put_symbol.ensures

@@ -1,4 +1,4 @@
--- `scanner::scan` meets its contract. The loop's invariant: what follows `i`, with the open brackets that stand in the arrays, has the whole text's answer.
+-- `scanner::scan` meets its contract. The loop's invariant: what follows `i`, with the brackets that are open, has the whole text's answer.
 use mathlib.Core.Path.{◌≡◌}
 use mathlib.Core.List.{[]}
 use Prim.Native.Nat.{◌-◌, ◌≤◌, min}
@@ -7,8 +7,7 @@ use Rattle.lexer.proofs.ScanSteps.{scan_answer_at, answer_of}
 use Rattle.lexer.proofs.scanner.scan.Given as goal
 
 abbrev pub invariant-loop-i : goal.invariant-loop-i
-invariant-loop-i l = (l.limit ≤ 64) × (l.depth ≤ l.limit) × (length l.brackets ≡ 64) × (length l.places ≡ 64)
-    × (answer_of l.limit l.depth l.brackets l.places l.text l.i ≡ scan_answer_at [] (min l.room 64) l.text 0)
+invariant-loop-i l = (l.limit ≤ 64) × (length l.open ≤ l.limit) × (answer_of l.limit l.open l.text l.i ≡ scan_answer_at [] (min l.room 64) l.text 0)
 
 abbrev pub decreases-loop-i : goal.decreases-loop-i
 decreases-loop-i l = length l.text - l.i

@@ -1,5 +1,8 @@
 -- `token::past_blanks` meets its contract: the ways that are tried first are those of no white space and of one space.
+use Prim.Native.Nat.{◌+◌, ◌<◌}
 use native.Mathlib.Omega.{arith}
+use lib.ListN.{get_or}
+use Rattle.std.proofs.lemmas.Grind.{common_steps}
 use Rattle.lexer.proofs.Blanks.{blanks_end, above_stop, one_space}
 use Rattle.lexer.proofs.token.past_blanks.Goals as goal
 
@@ -9,5 +12,7 @@ returns-then-text-place c = omega (arith, blanks_end c.args.text.now c.args.plac
 pub returns-then-b-gt32 : goal.returns-then-b-gt32
 returns-then-b-gt32 c = omega (arith, above_stop c.args.text.now c.args.place c.if-b-gt32.true)
 
-pub returns-then-byte_at-gt32 : goal.returns-then-byte_at-gt32
-returns-then-byte_at-gt32 c = one_space c.args.text.now c.args.place c.if-text-place.false c.if-b-eq32.true (omega (arith, c.if-byte_at-gt32.true, c.byte_at.ensures))
+pub returns : goal.returns
+returns c =
+    let next : 0x20 < get_or c.args.text.now (c.args.place + 1) 0 = grind (arith, common_steps) in
+    one_space c.args.text.now c.args.place c.if-text-place.false c.if-b-eq32.true next

@@ -1,59 +1,41 @@
--- `token::skip_blanks` meets its contract. The loop's invariant: what is left of the white space from `at` on ends where the whole does.
-use mathlib.Core.Path.{refl, ◌∙◌}
+-- `token::skip_blanks` meets its contract.
+use mathlib.Core.Path.{◌≡◌, sym, ◌∙◌}
 use native.Mathlib.Omega.{arith}
-use Rattle.lexer.proofs.Blanks.{blanks_end, blank_on, blank_stop, return_on, return_stop}
-use Rattle.characters.proofs.ClassNumbers.{above_space}
+use Prim.Native.Nat.{◌+◌}
+use lib.ListN.{get_or}
+use Rattle.std.proofs.lemmas.Grind.{common_steps}
+use Rattle.lexer.proofs.Blanks.{blanks_end, blank_on, blank_stop, return_on, return_stop, above_stop}
 use Rattle.lexer.proofs.token.skip_blanks.Goals as goal
-use Rattle.lexer.proofs.token.skip_blanks.Goals.{then-byte_class-ne-BLANK+else-b-ne13+else-byte_at-ne10, else-byte_class-ne-BLANK}
-
-pub loop-at-init : goal.loop-at-init
-loop-at-init c = refl
+use Rattle.lexer.proofs.token.skip_blanks.Goals.{then-not-is_blank+else-b-ne13+else-ne, else-not-is_blank}
 
 pub returns-then-b-gt32 : goal.returns-then-b-gt32
-returns-then-b-gt32 c = let args = c.args in
-    let loop = c.loop-at in
-    let not-blank = above_space _ c.if-b-gt32.true in
-    omega (arith, blank_stop args.text.now loop.at _ c.loop-at-test.true refl (λ f. omega arith) (λ f. omega arith), loop.invariant)
+returns-then-b-gt32 c = omega (arith, (above_stop c.args.text.now c.loop-at.at c.if-b-gt32.true).1, c.loop-at.invariant)
 
 pub returns-then-b-ne13 : goal.returns-then-b-ne13
-returns-then-b-ne13 c = let args = c.args in
-    let loop = c.loop-at in
-    let class = c.byte_class in
-    omega (
-      arith,
-      blank_stop args.text.now loop.at class.result c.loop-at-test.true class.ensures
-          c.if-byte_class-ne-BLANK.true c.if-b-ne13.true,
-      loop.invariant,
-    )
+returns-then-b-ne13 c =
+    omega (arith, blank_stop c.args.text.now c.loop-at.at c.loop-at-test.true (sym c.is_blank.ensures ∙ c.if-not-is_blank.true) c.if-b-ne13.true, c.loop-at.invariant)
 
-pub returns-then-byte_at-ne10 : goal.returns-then-byte_at-ne10
-returns-then-byte_at-ne10 c = let args = c.args in
-    let loop = c.loop-at in
-    let loop-test = c.loop-at-test in
-    let class = c.byte_class in
-    let if2 = c.if-byte_class-ne-BLANK in
-    let next = c.byte_at in
+pub returns-then-ne : goal.returns-then-ne
+returns-then-ne c =
+    let other : get_or c.args.text.now (c.loop-at.at + 1) 0 ≡ 0x0A → ⊥ = λ e. grind (arith, common_steps) in
     omega (
       arith,
-      return_stop args.text.now loop.at class.result loop-test.true class.ensures next.result if2.true
-          c.if-b-ne13.false next.ensures c.if-byte_at-ne10.true,
-      loop.invariant,
+      return_stop c.args.text.now c.loop-at.at c.loop-at-test.true (sym c.is_blank.ensures ∙ c.if-not-is_blank.true) c.if-b-ne13.false other,
+      c.loop-at.invariant,
     )
 
 pub loop-at-preserved : goal.loop-at-preserved
 loop-at-preserved c =
-    let args = c.args in
-    let loop = c.loop-at in
-    let loop-test = c.loop-at-test in
-    let class = c.byte_class in
-    elim c.if-byte_class-ne-BLANK.branch [
-      | then-byte_class-ne-BLANK+else-b-ne13+else-byte_at-ne10 w ↦
-          return_on args.text.now loop.at class.result loop-test.true class.ensures w.byte_at.result w.if-byte_class-ne-BLANK.true
-          w.if-b-ne13.false w.byte_at.ensures w.if-byte_at-ne10.false
-          ∙ loop.invariant
-      | else-byte_class-ne-BLANK w ↦
-          blank_on args.text.now loop.at class.result loop-test.true class.ensures w.if-byte_class-ne-BLANK.false ∙ loop.invariant
-    ]
+    let text = c.args.text.now in
+    let at = c.loop-at.at in (
+      omega arith,
+      elim c.if-not-is_blank.branch [
+        | then-not-is_blank+else-b-ne13+else-ne w ↦
+            let feed : get_or text (at + 1) 0 ≡ 0x0A = grind (arith, common_steps) in
+            return_on text at c.loop-at-test.true (sym c.is_blank.ensures ∙ w.if-not-is_blank.true) w.if-b-ne13.false feed ∙ c.loop-at.invariant.1
+        | else-not-is_blank w ↦ blank_on text at c.loop-at-test.true (sym c.is_blank.ensures ∙ w.if-not-is_blank.false) ∙ c.loop-at.invariant.1
+      ],
+    )
 
 pub returns : goal.returns
 returns c = omega (arith, blanks_end c.args.text.now c.loop-at.at c.loop-at-test.false, c.loop-at.invariant)

@@ -34,7 +34,10 @@ use Rattle.document.proofs.RefusalNumbers.{refused_number}
 use Rattle.reader.specs.internal.WalkAnswer.{Walked}
 use Rattle.reader.specs.internal.WalkAnswer.{read_walked}
 use Rattle.reader.specs.internal.RunStands.{RunStands}
-use Rattle.reader.specs.internal.FirstGroups.{group_number, group_place}
+use Rattle.reader.specs.declared.GroupFault.{GroupFault}
+use Rattle.reader.specs.declared.GroupFault.TheVariants.{TooLong, NotUtf8, Scan}
+use Rattle.reader.specs.internal.FirstGroups.{fault_number, group_number, group_place}
+use Rattle.lexer.proofs.ScanSteps.{kind_some}
 use Rattle.reader.proofs.lemmas.read.ExpressionPlaces.{forest_stands}
 use Rattle.reader.proofs.lemmas.walk.Counts.{nodes_places, bytes_pool}
 
@@ -159,6 +162,13 @@ module _ (s : Spelling) (text : List ℕ) (m : Memory) where
               bytes_are = ap (λ (v : Walked). v.pool) e ∙ sym (bytes_pool e' (root_node e' ok));
               goes_on = x.goes_on ∙ rw o;
             }
+
+-- No fault of the first groups has the number 0.
+pub fault_some : (f : GroupFault) → fault_number f ≡ 0 → ⊥
+unfolding fault_number
+fault_some TooLong e = omega arith
+fault_some (NotUtf8 p) e = omega arith
+fault_some (Scan f) e = kind_some f.kind e
 
 -- The ways through the first groups.
 pub groups_long : (levels : ℕ) (text : List ℕ) → 65536 < length text → (1 ≡ group_number levels text) × (65536 ≡ group_place levels text)

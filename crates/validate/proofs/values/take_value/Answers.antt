@@ -1,5 +1,6 @@
 -- `values::take_value` meets its contract: each way out is one law of `ValueSteps`.
 use Rattle.elements.specs.rules.Characters.{character_of}
+use Rattle.characters.specs.Codes.{alphabet_number}
 use Rattle.validate.proofs.lemmas.values.ValueSteps.{value_missing, value_fault, value_taken}
 use Rattle.validate.proofs.values.take_value.Goals as goal
 
@@ -14,4 +15,4 @@ returns c = let if1 = c.if-bytes-eq0 in
     let step = c.step-taken in
     let if2 = c.if-taken-ne-OK in
     let sort = c.sort in
-    value_taken _ _ _ _ _ step.ensures.stands (character_of sort.result) _ if1.false if2.false (sort.ensures _) c.fits.ensures
+    value_taken _ _ _ _ _ step.ensures.stands (character_of (alphabet_number sort.result)) _ if1.false if2.false (sort.ensures _) c.fits.ensures
