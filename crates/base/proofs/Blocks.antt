@@ -3,33 +3,9 @@ use Prim.Native.Nat.{ℕ, zero, suc, ◌+◌, ◌-◌, ◌<◌, ◌≤◌}
 use mathlib.Core.Path.{◌≡◌, refl, sym, ap, ◌∙◌}
 use mathlib.Core.List.{List, [], ◌∷◌, ◌++◌}
 use native.Mathlib.Omega.{arith}
-use lib.ListN.{length, get_or, take, drop, set, length-drop, drop_of_length-le}
-use lib.Seq.{sets, set-set, set_comm, drop-cons, drop-drop, take-add, take_all, length-take-le}
+use lib.ListN.{length, take, drop, set, length-drop, drop_of_length-le}
+use lib.Seq.{sets, set-set, set_comm, drop-drop, take-add, take_all, length-take-le}
 use Rattle.base.proofs.Stores.{sets_append}
-
--- k bytes loaded and stored one after the other, from the i-th on.
-abbrev pub stores_of : List ℕ → ℕ → List ℕ → ℕ → ℕ → ℕ → List ℕ
-stores_of out at s from i zero = out
-stores_of out at s from i (suc k) = stores_of (set out (at + i) (get_or s (from + i) 0)) at s from (i + 1) k
-
-stores_of_lem : (out : List ℕ) (at : ℕ) (s : List ℕ) (from i k : ℕ) → from + i + k ≤ length s
-    → stores_of out at s from i k ≡ sets out (at + i) (take k (drop (from + i) s))
-stores_of_lem out at s from i zero h = refl
-stores_of_lem out at s from i (suc k) h =
-    let b : ℕ = get_or s (from + i) 0 in
-    let e : at + (i + 1) ≡ suc (at + i) = omega arith in
-    let f : from + (i + 1) ≡ suc (from + i) = omega arith in
-    let inside : from + i < length s = omega arith in
-    stores_of_lem (set out (at + i) b) at s from (i + 1) k (omega arith) ∙ rw (e, f, drop-cons s (from + i) 0 inside)
-
--- So a block is copied.
-pub block_copied : (out : List ℕ) (at : ℕ) (s : List ℕ) (from k : ℕ) → from + suc k ≤ length s
-    → stores_of (set out at (get_or s from 0)) at s from 1 k ≡ sets out at (take (suc k) (drop from s))
-block_copied out at s from k h =
-    let e : at + 1 ≡ suc at = omega arith in
-    let f : from + 1 ≡ suc from = omega arith in
-    let inside : from < length s = omega arith in
-    stores_of_lem (set out at (get_or s from 0)) at s from 1 k (omega arith) ∙ rw (e, f, drop-cons s from 0 inside)
 
 -- A store before a run of stores may come before it.
 set_before : (l : List ℕ) (i j x : ℕ) (vs : List ℕ) → i < j → set (sets l j vs) i x ≡ sets (set l i x) j vs

@@ -7,19 +7,16 @@ ghost use Rattle.base.specs.Adds.{word_sum};
 use super::store::{store_all, store_byte};
 
 // The greatest number of a word of 32 bits.
-const GREATEST_WORD: usize = 4294967295;
+const GREATEST_WORD: usize = u32::MAX as usize;
 
 // The sum of two numbers where it fits a word of 32 bits, and else 0.
 pub fn word_sum(a: usize, n: usize) -> usize
     ensures { result ≡ word_sum a n }
 {
-    if GREATEST_WORD < n {
-        return 0;
+    match a.checked_add(n) {
+        Some(sum) if sum <= GREATEST_WORD => sum,
+        _ => 0,
     }
-    if GREATEST_WORD - n < a {
-        return 0;
-    }
-    a + n
 }
 
 // One byte.

@@ -6,22 +6,7 @@ ghost use Rattle.std.proofs.lemmas.List.Edits.{sets};
 pub fn lesser(a: usize, b: usize) -> usize
     ensures { result ≡ min a b }
 {
-    if a < b {
-        return a;
-    }
-    b
-}
-
-// Bytes into a slice of their length; the loop is compiled into one copy of memory.
-fn copy(out: &mut [u8], bytes: &[u8])
-    requires { length out.old ≡ length bytes.now }
-    ensures { out.new ≡ bytes.now }
-{
-    let mut i = 0;
-    while i < bytes.len() {
-        out[i] = bytes[i];
-        i += 1;
-    }
+    a.min(b)
 }
 
 // One byte, where there is such a place.
@@ -40,7 +25,7 @@ pub fn store_all(out: &mut [u8], at: usize, bytes: &[u8])
     if out.len() <= at {
         return;
     }
-    let count = lesser(bytes.len(), out.len() - at);
+    let count = bytes.len().min(out.len() - at);
     let end = at + count;
-    copy(&mut out[at..end], &bytes[..count]);
+    out[at..end].copy_from_slice(&bytes[..count]);
 }

@@ -4,16 +4,12 @@ ghost use Rattle.elements.specs.rules.Bytes.{same};
 ghost use Rattle.elements.specs.rules.Class.{class_of};
 
 use super::{Keyword, Kind};
-use base::equal;
 
 // The class where the name is the word, else 0.
 pub fn if_is(name: &[u8], word: &[u8], class: u8) -> u8
     ensures { result ≡ cond (same name.now word.now) class 0 }
 {
-    if equal(name, word) {
-        return class;
-    }
-    0
+    if name == word { class } else { 0 }
 }
 
 pub fn of_4(name: &[u8]) -> u8

@@ -1,34 +1,33 @@
--- The part of a list from a place on and of a length, where it ends and where the list ends before it.
-use Prim.Native.Nat.{ℕ, ◌+◌, ◌*◌, ◌-◌, ◌<◌, ◌≤◌}
-use mathlib.Core.Path.{◌≡◌, ◌∙◌, sym}
+-- The part of a list from a place on and of a length, and the words of a record, where the list ends before them.
+use Prim.Native.Nat.{ℕ, ◌+◌, ◌*◌, ◌-◌, ◌<◌, ◌≤◌, min}
+use mathlib.Core.Path.{◌≡◌, ◌∙◌, sym, ap}
 use mathlib.Core.List.{List}
 use native.Mathlib.Omega.{arith}
-use lib.ListN.{length, take, drop, length-drop, drop_of_length-le, get_or-eq_default}
-use lib.Seq.{take-nil, take_all}
+use lib.Dec.{leb}
+use lib.ListN.{length, take, drop, length-drop, get_or-eq_default}
+use lib.Seq.{take_all}
+use borrow.Author.Tests.{leb-true, leb-false}
+use Rattle.std.proofs.lemmas.List.{take_min, drop_min}
+use Rattle.base.proofs.Booleans.{bool_case}
 use Rattle.document.specs.rules.Record.{record_length}
 use Rattle.document.specs.reference.Printing.{part}
-use Rattle.table.specs.Stored.{word_at, string_at}
+use Rattle.table.specs.Stored.{word_at}
 
-module _ (s : List ℕ) (at size : ℕ) where
-  pub part_past : length s ≤ at → take (length s - length s) (drop (length s) s) ≡ take size (drop at s)
-  part_past l =
-      let h : length s ≤ length s = omega arith in
-      rw (drop_of_length-le s l, drop_of_length-le s h, take-nil size, take-nil (length s - length s))
+-- As far as the list has it.
+pub part_is : (s : List ℕ) (at size m k : ℕ) → m ≡ min at (length s) → k ≡ min size (length (take (length s - m) (drop m s)))
+    → take k (take (length s - m) (drop m s)) ≡ part s at size
+unfolding part
+part_is s at size m k e f =
+    rw (f, take_min)
+    (ap (take size) (take_all (length s - m) (drop m s) (omega (arith, length-drop m s)) ∙ rw (e, drop_min)))
 
-  pub part_short : length s - at < size → take (length s - at) (drop at s) ≡ take size (drop at s)
-  part_short l =
-      take_all (length s - at) (drop at s) (omega (arith, length-drop at s))
-      ∙ sym (take_all size (drop at s) (omega (arith, length-drop at s)))
-
-  pub part_whole : take (at + size - at) (drop at s) ≡ take size (drop at s)
-  part_whole =
-      let e : at + size - at ≡ size = omega arith in
-      rw e
-
--- A string of words past the table's end is empty.
-pub no_string : (words bytes : List ℕ) (i j : ℕ) → length words ≤ j → take (length bytes - length bytes) (drop (length bytes) bytes) ≡ string_at words bytes i j
-unfolding string_at word_at part
-no_string words bytes i j h =
-    let past : length words ≤ record_length * i + (j + 1) = omega arith in
-    let none : length bytes ≤ length bytes = omega arith in
-    rw (get_or-eq_default words 0 past, drop_of_length-le bytes none, take-nil (length bytes - length bytes))
+-- Where a place saturates, it is past the end as the one meant is.
+pub word_saturated : (words : List ℕ) (i j k most : ℕ) → k ≡ min (j + 1) most → length words ≤ most → word_at words i k ≡ word_at words i (j + 1)
+unfolding word_at
+word_saturated words i j k most e h =
+    bool_case (leb (j + 1) most)
+    (λ b. let fits : j + 1 ≤ most = leb-true (j + 1) most b in let same : k ≡ j + 1 = omega arith in rw same)
+    (λ b. let past : most < j + 1 = leb-false (j + 1) most b in
+    let here : length words ≤ record_length * i + k = omega arith in
+    let there : length words ≤ record_length * i + (j + 1) = omega arith in
+    get_or-eq_default words 0 here ∙ sym (get_or-eq_default words 0 there))

@@ -2,7 +2,6 @@
 use Prim.Native.Nat.{ℕ, suc, ◌+◌}
 use mathlib.Core.Path.{◌≡◌, refl, ap, ◌∙◌}
 use mathlib.Core.List.{List, [], ◌∷◌}
-use native.Mathlib.Nat.{add-zero}
 use native.Mathlib.Omega.{arith}
 use lib.ListN.{set}
 use lib.Seq.{sets}
@@ -17,6 +16,3 @@ stores_from_lem l i k [] = refl
 stores_from_lem l i k (x ∷ xs) =
     let e : i + (k + 1) ≡ suc (i + k) = omega arith in
     stores_from_lem (set l (i + k) x) i (k + 1) xs ∙ ap (λ (n : ℕ). sets (set l (i + k) x) n xs) e
-
-pub stores_run : (l : List ℕ) (i : ℕ) (xs : List ℕ) → stores_from l i 0 xs ≡ sets l i xs
-stores_run l i xs = stores_from_lem l i 0 xs ∙ ap (λ (n : ℕ). sets l n xs) (add-zero i)

@@ -44,69 +44,56 @@ pub const MISSING: usize = 4294967295;
 pub fn word(nodes: &[u32], i: usize, j: usize) -> usize
     ensures { result ≡ word_at nodes.now i j }
 {
-    if nodes.len() / RECORD < i {
-        return 0;
+    // An index that saturates is past every slice's end.
+    let at = RECORD.saturating_mul(i);
+    match nodes.get(at.saturating_add(j)) {
+        Some(&word) => word as usize,
+        None => 0,
     }
-    let at = RECORD * i;
-    if nodes.len() - at <= j {
-        return 0;
-    }
-    nodes[at + j] as usize
 }
 
 // The bytes of the pool from `at` on, `size` of them, as far as the pool has them.
 pub fn part<'a>(pool: &'a [u8], at: usize, size: usize) -> &'a [u8]
     ensures { result.now ≡ part pool.now at size }
 {
-    let length = pool.len();
-    if length <= at {
-        return &pool[length..length];
-    }
-    if length - at < size {
-        return &pool[at..length];
-    }
-    let end = at + size;
-    &pool[at..end]
+    let rest = &pool[at.min(pool.len())..];
+    &rest[..size.min(rest.len())]
 }
 
 // The string that words `j` and `j + 1` of the record of node `i` name, as far as the pool has it.
 pub fn string<'a>(nodes: &[u32], i: usize, j: usize, pool: &'a [u8]) -> &'a [u8]
     ensures { result.now ≡ string_at nodes.now pool.now i j }
 {
-    let length = pool.len();
-    if nodes.len() <= j {
-        return &pool[length..length];
-    }
     let at = word(nodes, i, j);
-    let size = word(nodes, i, j + 1);
+    let size = word(nodes, i, j.saturating_add(1));
     part(pool, at, size)
 }
 
+const DOCUMENT: usize = Kind::DOCUMENT.number as usize;
+
+const SUBSECTION: usize = Kind::SUBSECTION.number as usize;
+
+const FORMAL_ITEM: usize = Kind::FORMAL_ITEM.number as usize;
+
+const FOOTNOTE: usize = Kind::FOOTNOTE.number as usize;
+
+const TABLE: usize = Kind::TABLE.number as usize;
+
 // The class of the key of a kind: a block has an id, any other element a target.
+#[tactic(auto, using(std::proofs::lemmas::Bool::Decides::nat_tests), unfolding(document::specs::rules::Canonical::key_class, elements::specs::rules::Class::is_block))]
 pub fn key_class(kind: usize) -> u8
     ensures { result ≡ key_class kind }
 {
-    if kind == 0 {
-        return Keyword::TARGET.number;
+    match kind {
+        DOCUMENT..=FOOTNOTE => Keyword::ID.number,
+        _ => Keyword::TARGET.number,
     }
-    if kind <= Kind::FOOTNOTE.number as usize {
-        return Keyword::ID.number;
-    }
-    Keyword::TARGET.number
 }
 
 // Whether the first parameter of a kind is a title or a summary, which is a node.
+#[tactic(auto, using(std::proofs::lemmas::Bool::Decides::nat_tests, crate::proofs::Titled::titled_is))]
 pub fn is_titled(kind: usize) -> bool
     ensures { result ≡ node_first (rule_of kind).parameters }
 {
-    if kind == 0 {
-        return false;
-    }
-    if kind <= Kind::SUBSECTION.number as usize {
-        return true;
-    }
-    if kind == Kind::FORMAL_ITEM.number as usize {
-        return true;
-    }
-    kind == Kind::TABLE.number as usize
+    matches!(kind, DOCUMENT..=SUBSECTION | FORMAL_ITEM | TABLE)
 }

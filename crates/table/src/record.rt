@@ -4,12 +4,10 @@ ghost use Rattle.std.proofs.lemmas.List.Edits.{sets};
 ghost use Rattle.document.specs.rules.Record.{record_length};
 ghost use Rattle.table.specs.Stored.{words_of};
 
-use super::{
-    END, HEIGHT, KEY, KEY_LENGTH, KIND, PARENT, RECORD, TEXT, TEXT_LENGTH, TYPE, TYPE_LENGTH, WIDTH,
-};
+use super::RECORD;
 
 // "kind; parent; end; offset and length in the pool of id or target; of type; of text; image width; height"
-#[derive(Clone, Copy)]
+#[derive(Clone, Copy, Debug, PartialEq, Eq)]
 pub struct Record {
     pub kind: u32,
     pub parent: u32,
@@ -30,15 +28,17 @@ pub fn put_record(nodes: &mut [u32], i: usize, r: Record)
     ensures { nodes.new ≡ sets nodes.old (record_length * i) (words_of r) }
 {
     let at = RECORD * i;
-    nodes[at + KIND] = r.kind;
-    nodes[at + PARENT] = r.parent;
-    nodes[at + END] = r.end;
-    nodes[at + KEY] = r.key;
-    nodes[at + KEY_LENGTH] = r.key_length;
-    nodes[at + TYPE] = r.typename;
-    nodes[at + TYPE_LENGTH] = r.type_length;
-    nodes[at + TEXT] = r.text;
-    nodes[at + TEXT_LENGTH] = r.text_length;
-    nodes[at + WIDTH] = r.width;
-    nodes[at + HEIGHT] = r.height;
+    nodes[at..at + RECORD].copy_from_slice(&[
+        r.kind,
+        r.parent,
+        r.end,
+        r.key,
+        r.key_length,
+        r.typename,
+        r.type_length,
+        r.text,
+        r.text_length,
+        r.width,
+        r.height,
+    ]);
 }

@@ -2,11 +2,12 @@
 // column of a place (document 01, "Characters and brackets").
 #![tactic(auto)]
 
-ghost use Rattle.std.specs.Prelude.{◌≡◌, cond, true, [], ◌∷◌, ◌+◌, ◌-◌, ◌≤◌, min, eqb, drop, length};
+ghost use Rattle.std.specs.Prelude.{◌≡◌, cond, true, [], ◌∷◌, ◌+◌, ◌-◌, ◌<◌, ◌≤◌, eqb, drop, length};
+ghost use Rattle.std.specs.Option.{SomeIff};
 ghost use Rattle.utf8.specs.reference.Sequence.{begins, begins_ascii, leading_ones, sequence_length, to, valid_up_to};
 ghost use Rattle.utf8.specs.rules.Position.{column_of, is_continuation, line_of};
 
-#[derive(Clone, Copy)]
+#[derive(Clone, Copy, Debug, PartialEq, Eq)]
 pub struct LineColumn {
     pub line: usize,
     pub column: usize,
@@ -14,10 +15,11 @@ pub struct LineColumn {
 
 // The leading one bits of a byte: two to four in the first byte of a multi-byte sequence, as many as
 // the sequence has bytes.
+#[tactic(auto, unfolding(crate::specs::reference::Sequence::leading_ones))]
 fn leading_ones(b: u8) -> u32
     ensures { result ≡ leading_ones b }
 {
-    u8::leading_zeros(!b)
+    b.leading_ones()
 }
 
 // The lowest second byte after a first byte: what is lower would make an overlong form.
@@ -47,88 +49,61 @@ fn second_high(first: u8) -> u8
 fn byte_within(text: &[u8], place: usize, low: u8, high: u8) -> bool
     ensures { result ≡ begins (to low high ∷ []) (drop place text.now) }
 {
-    if text.len() <= place {
-        return false;
+    match text.get(place) {
+        Some(&b) => low <= b && b <= high,
+        None => false,
     }
-    let b = text[place];
-    if b < low {
-        return false;
-    }
-    b <= high
 }
 
-// The length of the well-formed sequence at a place, and 0 where none stands there.
-fn sequence_length(text: &[u8], place: usize) -> usize
-    ensures { result ≡ sequence_length (drop place text.now) }
+// The length of the well-formed sequence at a place, where one stands there.
+fn sequence_length(text: &[u8], place: usize) -> Option<usize>
+    ensures { SomeIff result (0 < sequence_length (drop place text.now)) (sequence_length (drop place text.now)) }
 {
-    if text.len() <= place {
-        return 0;
-    }
-    let first = text[place];
+    let first = *text.get(place)?;
     let ones = leading_ones(first);
     if ones == 0 {
-        return 1;
+        return Some(1);
     }
     // 0x80 to 0xBF begin nothing, 0xC0 and 0xC1 only overlong forms, and 0xF5 and above pass U+10FFFF
-    if first < 0xC2 {
-        return 0;
-    }
-    if 0xF4 < first {
-        return 0;
+    if first < 0xC2 || 0xF4 < first {
+        return None;
     }
     if !byte_within(text, place + 1, second_low(first), second_high(first)) {
-        return 0;
+        return None;
     }
     if ones == 2 {
-        return 2;
+        return Some(2);
     }
     if !byte_within(text, place + 2, 0x80, 0xBF) {
-        return 0;
+        return None;
     }
     if ones == 3 {
-        return 3;
+        return Some(3);
     }
     if !byte_within(text, place + 3, 0x80, 0xBF) {
-        return 0;
+        return None;
     }
-    4
+    Some(4)
 }
 
-// Whether the eight bytes from a place on are ASCII; `&`, which reads them all, has them compared at once.
-fn ascii_8(text: &[u8], place: usize) -> bool
-    requires { place + 8 ≤ length text.now }
-    ensures { result ≡ begins_ascii 8 (drop place text.now) }
+// Whether the N bytes from a place on are ASCII; `&`, which reads them all, has them compared at once.
+fn ascii_run<const N: usize>(text: &[u8], place: usize) -> bool
+    requires { place + N ≤ length text.now }
+    ensures { result ≡ begins_ascii N (drop place text.now) }
 {
-    (text[place] < 0x80)
-        & (text[place + 1] < 0x80)
-        & (text[place + 2] < 0x80)
-        & (text[place + 3] < 0x80)
-        & (text[place + 4] < 0x80)
-        & (text[place + 5] < 0x80)
-        & (text[place + 6] < 0x80)
-        & (text[place + 7] < 0x80)
+    let mut all = true;
+    for b in &text[place..place + N] {
+        all &= *b < 0x80;
+    }
+    all
 }
 
-// Whether sixteen ASCII bytes stand from a place on.
-fn ascii_16(text: &[u8], place: usize) -> bool
+// Whether N ASCII bytes stand from a place on.
+fn ascii_at<const N: usize>(text: &[u8], place: usize) -> bool
     requires { place ≤ length text.now }
-    ensures { result ≡ begins_ascii 16 (drop place text.now) }
+    ensures { result ≡ begins_ascii N (drop place text.now) }
 {
-    if text.len() - place < 16 {
-        return false;
-    }
-    ascii_8(text, place) & ascii_8(text, place + 8)
-}
-
-// Whether eight ASCII bytes stand from a place on.
-fn ascii_8_at(text: &[u8], place: usize) -> bool
-    requires { place ≤ length text.now }
-    ensures { result ≡ begins_ascii 8 (drop place text.now) }
-{
-    if text.len() - place < 8 {
-        return false;
-    }
-    ascii_8(text, place)
+    N <= text.len() - place && ascii_run::<N>(text, place)
 }
 
 // Whether at most sixteen bytes stand from a place to the text's end and are seen to be ASCII: by the last eight and, where
@@ -142,10 +117,10 @@ fn ascii_end(text: &[u8], place: usize) -> bool
         return false;
     }
     if n - place <= 8 {
-        return ascii_8(text, n - 8);
+        return ascii_run::<8>(text, n - 8);
     }
     if n - place <= 16 {
-        return ascii_8(text, place) & ascii_8(text, n - 8);
+        return ascii_run::<8>(text, place) & ascii_run::<8>(text, n - 8);
     }
     false
 }
@@ -157,14 +132,14 @@ pub fn valid_up_to(text: &[u8]) -> usize
 {
     let mut i = 0;
     while i < text.len() {
-        if ascii_16(text, i) {
+        if ascii_at::<16>(text, i) {
             i += 16;
             continue;
         }
         if ascii_end(text, i) {
             return text.len();
         }
-        if ascii_8_at(text, i) {
+        if ascii_at::<8>(text, i) {
             i += 8;
             continue;
         }
@@ -172,49 +147,35 @@ pub fn valid_up_to(text: &[u8]) -> usize
             i += 1;
             continue;
         }
-        let n = sequence_length(text, i);
-        if n == 0 {
+        let Some(n) = sequence_length(text, i) else {
             return i;
-        }
+        };
         i += n;
     }
     i
 }
 
-// The lesser of two numbers.
-fn least(a: usize, b: usize) -> usize
-    ensures { result ≡ min a b }
-{
-    if a < b { a } else { b }
-}
-
 // Whether a byte continues a character, and so is in the column of the byte before it.
+#[tactic(auto, using(std::proofs::lemmas::Bool::Decides::nat_tests), unfolding(crate::specs::rules::Position::is_continuation))]
 fn is_continuation(b: u8) -> bool
     ensures { result ≡ is_continuation b }
 {
-    if b < 0x80 {
-        return false;
-    }
-    b <= 0xBF
+    matches!(b, 0x80..=0xBF)
 }
 
 // Line and column of a place, both from 1; a place past the end is taken as the end.
 pub fn position(text: &[u8], place: usize) -> LineColumn
     ensures { (result.line ≡ line_of text.now place) × (result.column ≡ column_of text.now place) }
 {
-    let end = least(place, text.len());
     let mut line: usize = 1;
     let mut column: usize = 1;
-    let mut i = 0;
-    while i < end {
-        let b = text[i];
-        if b == 0x0A {
+    for b in &text[..place.min(text.len())] {
+        if *b == 0x0A {
             line += 1;
             column = 1;
-        } else if !is_continuation(b) {
+        } else if !is_continuation(*b) {
             column += 1;
         }
-        i += 1;
     }
     LineColumn { line, column }
 }

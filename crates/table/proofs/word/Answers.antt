@@ -1,5 +1,5 @@
 -- `table::word` meets its contract.
-use mathlib.Core.Path.{refl, sym}
+use mathlib.Core.Path.{◌≡◌, sym}
 use native.Mathlib.Omega.{arith}
 use Prim.Native.Nat.{◌+◌, ◌*◌, ◌≤◌}
 use lib.ListN.{length, get_or-eq_default}
@@ -7,19 +7,14 @@ use Rattle.document.specs.rules.Record.{record_length}
 use Rattle.table.specs.Stored.{word_at}
 use Rattle.table.proofs.word.Goals as goal
 
-pub returns-then-nodes-i : goal.returns-then-nodes-i
+pub returns-in-Some : goal.returns-in-Some
 unfolding word_at
-returns-then-nodes-i c = let h : length c.args.nodes.now ≤ record_length * c.args.i + c.args.j = omega arith in
-    sym (get_or-eq_default c.args.nodes.now 0 h)
+returns-in-Some c = let good = c.well_formed in
+    let (inside, at) = c.in-Some.ensures.lookup.3 in
+    let same : c.saturating_add.result ≡ record_length * c.args.i + c.args.j = omega arith in
+    rw same at (at 0)
 
-pub returns-then-nodes-at : goal.returns-then-nodes-at
+pub returns-in-None : goal.returns-in-None
 unfolding word_at
-returns-then-nodes-at c = let h : length c.args.nodes.now ≤ record_length * c.args.i + c.args.j = omega arith in
-    sym (get_or-eq_default c.args.nodes.now 0 h)
-
-pub overflow_cast-result : goal.overflow_cast-result
-overflow_cast-result c = omega (arith, c.shared_slice_known-1.given (record_length * c.args.i + c.args.j))
-
-pub returns : goal.returns
-unfolding word_at
-returns c = refl
+returns-in-None c = let past : length c.args.nodes.now ≤ record_length * c.args.i + c.args.j = omega (arith, c.in-None.ensures.lookup.3) in
+    sym (get_or-eq_default c.args.nodes.now 0 past)

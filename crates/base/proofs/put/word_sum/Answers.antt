@@ -1,17 +1,19 @@
 -- `put::word_sum` meets its contract.
-use mathlib.Core.Path.{sym}
+use mathlib.Core.Path.{sym, ◌∙◌}
 use native.Mathlib.Omega.{arith}
 use Rattle.base.proofs.Adding.{sum_past, sum_within}
 use Rattle.base.proofs.put.word_sum.Goals as goal
 
-pub returns-then-n-gt-GREATEST_WORD : goal.returns-then-n-gt-GREATEST_WORD
-returns-then-n-gt-GREATEST_WORD c = let args = c.args in
-    sym (sum_past args.a args.n (omega (arith, c.if-n-gt-GREATEST_WORD.true)))
+pub returns-in-Some : goal.returns-in-Some
+returns-in-Some c = let args = c.args in
+    let (fits, same) = c.in-Some.ensures in
+    same ∙ sym (sum_within args.a args.n (omega arith))
 
-pub returns-then-n-a : goal.returns-then-n-a
-returns-then-n-a c = let args = c.args in
-    sym (sum_past args.a args.n (omega (arith, c.if-n-a.true)))
+pub returns-in_default : goal.returns-in_default
+returns-in_default c = let args = c.args in
+    let (fits, same) = c.in-Some.ensures in
+    sym (sum_past args.a args.n (omega arith))
 
-pub returns : goal.returns
-returns c = let args = c.args in
-    sym (sum_within args.a args.n (omega (arith, c.if-n-a.false)))
+pub returns-in_default-2 : goal.returns-in_default-2
+returns-in_default-2 c = let args = c.args in
+    sym (sum_past args.a args.n (omega (arith, c.in_default.ensures)))
