@@ -14,6 +14,7 @@ ghost use Rattle.validate.specs.internal.DraftWalk.{DecidesNext, value_levels, n
 ghost use Rattle.document.specs.rules.Draft.{IsDraft};
 
 use super::OK;
+use super::lent::Table;
 use super::record::{element_fits, stands, string_stands, text_alone, value_levels, words};
 use super::values::values;
 use base::limit::{MOST_BYTES, MOST_NODES, NESTED_LEVELS};
@@ -23,9 +24,6 @@ use table::{
     END, KEY_LENGTH, KIND, MISSING, RECORD, TEXT, TEXT_LENGTH, TYPE_LENGTH, is_titled, word,
 };
 use utf8::valid_up_to;
-
-// "within the limits (at most 4,096 nodes, canonical nesting at most 64, pool at most 65,536)"
-const MOST_WORDS: usize = MOST_NODES * RECORD;
 
 // Whether what was looked for stands there, and the number and the place in the pool that follow it.
 #[derive(Clone, Copy)]
@@ -243,18 +241,17 @@ fn child(
     }
 }
 
-// Whether the words and the pool are the table of a draft.
-pub fn is_table(nodes: &[u32], pool: &[u8]) -> bool
-    ensures { (result ≡ true → (d : Node) × IsDraft d nodes.now pool.now)
-        × ((d : Node) → IsDraft d nodes.now pool.now → result ≡ true) }
+// Whether a table is that of a draft.
+pub fn is_table(table: &Table) -> bool
+    ensures { (result ≡ true → (d : Node) × IsDraft d table.now.nodes.now table.now.pool.now)
+        × ((d : Node) → IsDraft d table.now.nodes.now table.now.pool.now → result ≡ true) }
 {
-    if MOST_WORDS < nodes.len() {
+    let nodes = table.nodes;
+    let pool = table.pool;
+    if MOST_NODES < table.count {
         return false;
     }
     if MOST_BYTES < pool.len() {
-        return false;
-    }
-    if nodes.len() % RECORD != 0 {
         return false;
     }
     if word(nodes, 0, KIND) != Kind::DOCUMENT.number as usize {
@@ -267,5 +264,5 @@ pub fn is_table(nodes: &[u32], pool: &[u8]) -> bool
     if w.pool != pool.len() {
         return false;
     }
-    w.next == nodes.len() / RECORD
+    w.next == table.count
 }
