@@ -1,5 +1,5 @@
 // The words and the bytes of a table and its pool, whatever they say.
-ghost use Rattle.std.specs.Prelude.{◌≡◌, ◌*◌, ◌≤◌, length, MatchOption};
+ghost use Rattle.std.specs.Prelude.{◌≡◌, ◌*◌, ◌^◌, ◌<◌, ◌≤◌, length, MatchOption};
 ghost use Rattle.document.specs.rules.Record.{record_length};
 ghost use Rattle.table.specs.Stored.{word_at};
 ghost use Rattle.validate.specs.internal.TableWords.{key_at};
@@ -12,6 +12,7 @@ pub struct Table<'a> {
     pub nodes: &'a [u32],
     pub count: usize,
     pub pool: &'a [u8],
+    ghost few: { count < 2 ^ 32 },
     ghost whole: { record_length * count ≡ length nodes.now },
 }
 

@@ -1,25 +1,12 @@
--- A test of every byte, one after another.
-use Prim.Native.Nat.{ℕ, ◌+◌, ◌≤◌, ◌<◌}
-use mathlib.Core.Path.{◌≡◌, ◌∙◌}
-use mathlib.Core.Bool.{Bool, true, false, ◌&&◌}
-use mathlib.Core.List.{List}
-use native.Mathlib.Numerals.{add-one}
-use lib.ListN.{length, get_or, drop, drop_of_length-le}
-use lib.Seq.{drop-cons}
+-- A test of every byte.
+use Prim.Native.Nat.{ℕ}
+use mathlib.Core.Path.{◌≡◌, refl, ap}
+use mathlib.Core.Bool.{Bool, ◌&&◌}
+use mathlib.Core.List.{List, [], ◌∷◌}
+use Rattle.std.specs.List.{list_all}
 use Rattle.document.specs.rules.Value.{every}
 
-module _ (test : ℕ → Bool) (xs : List ℕ) (i : ℕ) where
-  module _ {answer : Bool} (h : i < length xs) (e : answer ≡ test (get_or xs i 0)) where
-    first : every test (drop i xs) ≡ answer && every test (drop (i + 1) xs)
-    unfolding every
-    first = rw (add-one, drop-cons xs i 0, e)
-
-    pub every_on : answer ≡ true → every test (drop i xs) ≡ every test (drop (i + 1) xs)
-    every_on f = first ∙ rw f
-
-    pub every_not : answer ≡ false → every test (drop i xs) ≡ false
-    every_not f = first ∙ rw f
-
-  pub every_end : length xs ≤ i → every test (drop i xs) ≡ true
-  unfolding every
-  every_end h = rw (drop_of_length-le xs h)
+pub all_every : (test : ℕ → Bool) (xs : List ℕ) → list_all test xs ≡ every test xs
+unfolding every
+all_every test [] = refl
+all_every test (x ∷ xs) = ap (λ (b : Bool). test x && b) (all_every test xs)
