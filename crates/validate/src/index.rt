@@ -82,6 +82,7 @@ impl<'a> IdIndex<'a> {
     }
 
     // Whether a string of slot `s` is the id of such a block among the nodes that have entered.
+    #[inline(always)]
     fn known(&self, s: usize, id: &[u8], target: Target) -> bool
         requires { (s ≡ slot_of id.now) × (s < most_nodes) }
         ensures { result ≡ is_among id.now (ids_before self.now.table.nodes.now self.now.table.pool.now target self.now.count) }
