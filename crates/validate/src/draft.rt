@@ -46,7 +46,7 @@ enum Led {
 // A node under a parent, with its descendants: its strings stand in the pool from `at` on, and its brackets nest at most `left` levels.
 #[cycle(child_children_element_node)]
 fn node(row: &Row, parent: usize, at: usize, left: usize) -> Option<Walked>
-    requires { at ≤ length row.now.table.pool.now }
+    requires { at ≤ length row.now.table.now.pool.now }
     ensures { DecidesNext (LawfulRow row.now parent at left) result }
 {
     if row.words[KIND] == Kind::TEXT.number as u32 {
@@ -57,7 +57,7 @@ fn node(row: &Row, parent: usize, at: usize, left: usize) -> Option<Walked>
 
 // The same of a text.
 fn text_node(row: &Row, parent: usize, at: usize) -> Option<Walked>
-    requires { (at ≤ length row.now.table.pool.now) × (word_at row.now.table.nodes.now row.now.number Word.kind ≡ Class.text) }
+    requires { (at ≤ length row.now.table.now.pool.now) × (word_at row.now.table.now.nodes.now row.now.number Word.kind ≡ Class.text) }
     ensures { (left : ℕ) → DecidesNext (LawfulRow row.now parent at left) result }
 {
     let next = row.number + 1;
@@ -74,7 +74,7 @@ fn text_node(row: &Row, parent: usize, at: usize) -> Option<Walked>
 // The same of an element.
 #[cycle(child_children_element_node)]
 fn element(row: &Row, parent: usize, at: usize, left: usize) -> Option<Walked>
-    requires { (at ≤ length row.now.table.pool.now) × (word_at row.now.table.nodes.now row.now.number Word.kind ≡ Class.text → ⊥) }
+    requires { (at ≤ length row.now.table.now.pool.now) × (word_at row.now.table.now.nodes.now row.now.number Word.kind ≡ Class.text → ⊥) }
     ensures { DecidesNext (LawfulRow row.now parent at left) result }
 {
     let after = row.strings_end(parent, at)?;
@@ -88,7 +88,7 @@ fn element(row: &Row, parent: usize, at: usize, left: usize) -> Option<Walked>
 
 // The values, where they stand before the children. A title or summary stands before the values, which are then due.
 fn lead(row: &Row, kind: u8, end: usize, levels: usize) -> Option<Led>
-    requires { levels ≡ value_levels row.now.table.nodes.now row.now.number }
+    requires { levels ≡ value_levels row.now.table.now.nodes.now row.now.number }
     ensures { ValuesLead kind row.now.number end (row_values row.now kind) result }
 {
     // most elements have no values
@@ -114,7 +114,7 @@ fn children(
     at: usize,
     left: usize,
 ) -> Option<Walked>
-    requires { (at ≤ length row.now.table.pool.now) × (levels ≡ value_levels row.now.table.nodes.now row.now.number) }
+    requires { (at ≤ length row.now.table.now.pool.now) × (levels ≡ value_levels row.now.table.now.nodes.now row.now.number) }
     ensures { DecidesNext (RowChildren row.now
         (place_values (node_first (rule_of kind).parameters) (row_values row.now kind))
         kind (start kind) (row.now.number + 1) at end left) result }
@@ -147,10 +147,10 @@ fn children(
 // The child with number `j` of an element of a kind that is read so far to a state.
 #[cycle(child_children_element_node)]
 fn child(row: &Row, kind: u8, state: u8, j: usize, at: usize, left: usize) -> Option<Entered>
-    requires { (row.now.number < j) × (at ≤ length row.now.table.pool.now) }
+    requires { (row.now.number < j) × (at ≤ length row.now.table.now.pool.now) }
     ensures { ChildTaken row.now kind (state_of kind state) j at left result }
 {
-    let own = Row::of(&row.table, j)?;
+    let own = Row::of(row.table, j)?;
     let w = node(&own, row.number, at, left)?;
     let state = state_after(kind, state, own.words[KIND] as u8)?;
     Some(Entered {

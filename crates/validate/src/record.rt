@@ -27,11 +27,11 @@ fn offset_of(p: usize, length: usize) -> usize
 // The record of node `number`, which is there, so that its words are read without a test for each.
 #[derive(Clone, Copy)]
 pub struct Row<'a> {
-    pub table: Table<'a>,
+    pub table: &'a Table<'a>,
     pub number: usize,
     pub words: &'a [u32; RECORD],
-    ghost within: { number < table.count },
-    ghost recorded: { take record_length (drop (record_length * number) table.nodes.now) ≡ words.now },
+    ghost within: { number < table.now.count },
+    ghost recorded: { take record_length (drop (record_length * number) table.now.nodes.now) ≡ words.now },
 }
 
 impl<'a> Row<'a> {
@@ -39,8 +39,8 @@ impl<'a> Row<'a> {
     ghost use Rattle.validate.specs.internal.DraftWalk.{Decided, DecidesEnd, NamesStringAt, strings_end, RecordAt, TextAlone, ElementAt, value_levels};
 
     // The record of node `i`, where the table has it.
-    pub fn of(table: &Table<'a>, i: usize) -> Option<Row<'a>>
-        ensures { MatchOption result (table.now.count ≤ i) (λ r. (r.table ≡ table.now) × (r.number ≡ i)) }
+    pub fn of(table: &'a Table<'a>, i: usize) -> Option<Row<'a>>
+        ensures { MatchOption result (table.now.count ≤ i) (λ r. (r.table.now ≡ table.now) × (r.number ≡ i)) }
     {
         if table.count <= i {
             return None;
@@ -49,7 +49,7 @@ impl<'a> Row<'a> {
         let end = at + RECORD;
         let words = table.nodes[at..end].first_chunk().unwrap();
         Some(Row {
-            table: *table,
+            table,
             number: i,
             words,
         })
@@ -57,9 +57,9 @@ impl<'a> Row<'a> {
 
     // Where the string ends that words `j` and `j + 1` name, if it stands at `p` in the pool.
     pub fn string_end(&self, j: usize, p: usize) -> Option<usize>
-        requires { (j + 1 < record_length) × (p ≤ length self.now.table.pool.now) }
-        ensures { DecidesEnd (NamesStringAt self.now.table.nodes.now self.now.number j p (length self.now.table.pool.now))
-            (p + word_at self.now.table.nodes.now self.now.number (j + 1)) result }
+        requires { (j + 1 < record_length) × (p ≤ length self.now.table.now.pool.now) }
+        ensures { DecidesEnd (NamesStringAt self.now.table.now.nodes.now self.now.number j p (length self.now.table.now.pool.now))
+            (p + word_at self.now.table.now.nodes.now self.now.number (j + 1)) result }
     {
         let length = self.words[j + 1] as usize;
         if self.words[j] as usize != offset_of(p, length) {
@@ -73,9 +73,9 @@ impl<'a> Row<'a> {
 
     // Where its strings end, if it has this parent and they stand from `p` on.
     pub fn strings_end(&self, parent: usize, p: usize) -> Option<usize>
-        requires { p ≤ length self.now.table.pool.now }
-        ensures { DecidesEnd (RecordAt self.now.table.nodes.now (length self.now.table.pool.now) self.now.number parent p)
-            (strings_end self.now.table.nodes.now self.now.number p) result }
+        requires { p ≤ length self.now.table.now.pool.now }
+        ensures { DecidesEnd (RecordAt self.now.table.now.nodes.now (length self.now.table.now.pool.now) self.now.number parent p)
+            (strings_end self.now.table.now.nodes.now self.now.number p) result }
     {
         if self.words[PARENT] as usize != parent {
             return None;
@@ -87,7 +87,7 @@ impl<'a> Row<'a> {
 
     // Whether it has this parent and end, a text, and no other string and no size.
     pub fn text_alone(&self, parent: usize, end: usize) -> bool
-        ensures { Decided (TextAlone self.now.table.nodes.now self.now.number parent end) result }
+        ensures { Decided (TextAlone self.now.table.now.nodes.now self.now.number parent end) result }
     {
         let r = self.words;
         (r[PARENT] as usize == parent)
@@ -103,7 +103,7 @@ impl<'a> Row<'a> {
 
     // The levels of an element's values.
     pub fn value_levels(&self) -> usize
-        ensures { result ≡ value_levels self.now.table.nodes.now self.now.number }
+        ensures { result ≡ value_levels self.now.table.now.nodes.now self.now.number }
     {
         let r = self.words;
         let none = (r[KEY_LENGTH] == 0) & (r[TYPE_LENGTH] == 0) & (r[WIDTH] == MISSING_WORD);
@@ -112,8 +112,8 @@ impl<'a> Row<'a> {
 
     // Whether it may be that of an element that nests at most `left` levels; its values nest `levels`.
     pub fn element_fits(&self, levels: usize, left: usize) -> bool
-        requires { levels ≡ value_levels self.now.table.nodes.now self.now.number }
-        ensures { Decided (ElementAt self.now.table.nodes.now self.now.number left) result }
+        requires { levels ≡ value_levels self.now.table.now.nodes.now self.now.number }
+        ensures { Decided (ElementAt self.now.table.now.nodes.now self.now.number left) result }
     {
         let r = self.words;
         (FIRST_KIND <= r[KIND])

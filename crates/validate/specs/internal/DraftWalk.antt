@@ -86,7 +86,7 @@ node_values words bytes k i ts =
     (value_before Class.type (string_at words bytes i Word.type_offset) ts))
 
 abbrev pub row_values : Row → ℕ → Trees → Trees
-row_values row k = node_values row.table.nodes.now row.table.pool.now k row.number
+row_values row k = node_values row.table.now.nodes.now row.table.now.pool.now k row.number
 
 -- The trees inside an element of kind k keep the rules from the state on that an answer gives, where it gives one.
 abbrev pub keep_from : ℕ → Option ℕ → Trees → Bool
@@ -129,7 +129,7 @@ pub record LawfulNodeAt (words bytes : List ℕ) (i parent p left e q : ℕ) : T
   pub after : q ≡ p + length (pool made)
 
 abbrev pub LawfulRow : Row → ℕ → ℕ → ℕ → ℕ → ℕ → Type 0
-LawfulRow row parent p left e q = LawfulNodeAt row.table.nodes.now row.table.pool.now row.number parent p left e q
+LawfulRow row parent p left e q = LawfulNodeAt row.table.now.nodes.now row.table.now.pool.now row.number parent p left e q
 
 -- Lawful children of node i, of kind k and read so far to the state s, stand in the table from number `at` up to `end` and in the pool from p to q.
 -- W is what stands among their trees.
@@ -144,12 +144,12 @@ pub record ChildrenAt (words bytes : List ℕ) (W : Trees → Trees) (k i : ℕ)
   pub after : q ≡ p + length (pool_all made)
 
 abbrev pub RowChildren : Row → (Trees → Trees) → ℕ → State → ℕ → ℕ → ℕ → ℕ → ℕ → ℕ → Type 0
-RowChildren row W k s at p end left e q = ChildrenAt row.table.nodes.now row.table.pool.now W k row.number s at p end left e q
+RowChildren row W k s at p end left e q = ChildrenAt row.table.now.nodes.now row.table.now.pool.now W k row.number s at p end left e q
 
 -- An answer tells whether a lawful child of a node stands in the table with number `at` and is taken, and what follows it.
 pub record ChildTaken (row : Row) (k : ℕ) (s : State) (at p left : ℕ) (answer : Option Entered) : Type 0 where
   pub sound : (c : Entered) → answer ≡ Some c
-      → LawfulNodeAt row.table.nodes.now row.table.pool.now at row.number p left c.next c.pool
-      × (step k s (word_at row.table.nodes.now at Word.kind) ≡ go (state_of k c.state))
-  pub complete : (e q : ℕ) (s' : State) → LawfulNodeAt row.table.nodes.now row.table.pool.now at row.number p left e q
-      → step k s (word_at row.table.nodes.now at Word.kind) ≡ go s' → (c : Entered) × (answer ≡ Some c) × (c.next ≡ e) × (c.pool ≡ q)
+      → LawfulNodeAt row.table.now.nodes.now row.table.now.pool.now at row.number p left c.next c.pool
+      × (step k s (word_at row.table.now.nodes.now at Word.kind) ≡ go (state_of k c.state))
+  pub complete : (e q : ℕ) (s' : State) → LawfulNodeAt row.table.now.nodes.now row.table.now.pool.now at row.number p left e q
+      → step k s (word_at row.table.now.nodes.now at Word.kind) ≡ go s' → (c : Entered) × (answer ≡ Some c) × (c.next ≡ e) × (c.pool ≡ q)

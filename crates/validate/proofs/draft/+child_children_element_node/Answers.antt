@@ -15,7 +15,7 @@ use Rattle.validate.proofs.draft.+child_children_element_node.Goals as goal
 
 pub child-returns-in_err-own : goal.child-returns-in_err-own
 child-returns-in_err-own t c =
-    let table = c.args.row.now.table in
+    let table = c.args.row.now.table.now in
     rw c.from_residual.ensures
     (child_missing c.args.row.now _ (λ e q a. omega (arith, (stored_node a.made _ _ _ _ _ a.stored c.requires.1).recorded.whole, c.in_err-own.ensures, table.whole)))
 

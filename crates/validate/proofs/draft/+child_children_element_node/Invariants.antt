@@ -16,19 +16,19 @@ use Prim.Native.Nat.{◌<◌}
 use Rattle.validate.proofs.draft.+child_children_element_node.Given as goal
 
 abbrev pub decreases-child : goal.decreases-child
-decreases-child l = 4 * (l.row.now.table.count - l.row.now.number) + 1
+decreases-child l = 4 * (l.row.now.table.now.count - l.row.now.number) + 1
 
 abbrev pub decreases-children : goal.decreases-children
-decreases-children l = 4 * (l.row.now.table.count - l.row.now.number) + 2
+decreases-children l = 4 * (l.row.now.table.now.count - l.row.now.number) + 2
 
 abbrev pub decreases-element : goal.decreases-element
-decreases-element l = 4 * (l.row.now.table.count - l.row.now.number) + 3
+decreases-element l = 4 * (l.row.now.table.now.count - l.row.now.number) + 3
 
 abbrev pub decreases-node : goal.decreases-node
-decreases-node l = 4 * (l.row.now.table.count - l.row.now.number) + 4
+decreases-node l = 4 * (l.row.now.table.now.count - l.row.now.number) + 4
 
 abbrev pub invariant-children-loop-j : goal.invariant-children-loop-j
-invariant-children-loop-j l = (l.row.number < l.j) × (l.p ≤ length l.row.table.pool.now) × (l.due ≡ true → l.j < l.end)
+invariant-children-loop-j l = (l.row.number < l.j) × (l.p ≤ length l.row.table.now.pool.now) × (l.due ≡ true → l.j < l.end)
     × Same (RowChildren l.row (behind_first l.due (row_values l.row l.kind)) l.kind (state_of l.kind l.state) l.j l.p l.end l.left)
     (RowChildren l.row (place_values (node_first (rule_of l.kind).parameters) (row_values l.row l.kind)) l.kind (start l.kind) (l.row.number + 1) l.at l.end l.left)
 

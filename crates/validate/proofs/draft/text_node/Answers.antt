@@ -24,7 +24,7 @@ returns-then-valid_up_to-row c = λ left.
     let size = row_word row 8 (omega arith) in
     let alone = c.text_alone.ensures.sound c.if-not-text_alone.false in
     let (text, end) = the_end c.in_ok-end.ensures in
-    let same : c.in_ok-end.end - c.args.at ≡ word_at row.table.nodes.now row.number 8 = omega arith in
+    let same : c.in_ok-end.end - c.args.at ≡ word_at row.table.now.nodes.now row.number 8 = omega arith in
     let valid = text_valid _ _ _ _ _ alone text (rw same at c.valid_up_to.ensures) in
     text_refused _ _ _ _ _ c.requires.1 c.requires.0 (not_held valid (ne_eqb _ _ (λ e. c.if-valid_up_to-row.true (e ∙ sym size))))
 
@@ -35,6 +35,6 @@ returns c = λ left.
     let size = row_word row 8 (omega arith) in
     let alone = c.text_alone.ensures.sound c.if-not-text_alone.false in
     let (text, end) = the_end c.in_ok-end.ensures in
-    let same : c.in_ok-end.end - c.args.at ≡ word_at row.table.nodes.now row.number 8 = omega arith in
+    let same : c.in_ok-end.end - c.args.at ≡ word_at row.table.now.nodes.now row.number 8 = omega arith in
     let valid = text_valid _ _ _ _ _ alone text (rw same at c.valid_up_to.ensures) in
     text_taken _ _ _ _ _ c.requires.1 c.requires.0 (row_whole row) (valid.sound (eq-eqb _ _ (c.if-valid_up_to-row.false ∙ size))) end

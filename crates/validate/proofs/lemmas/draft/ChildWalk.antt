@@ -71,19 +71,19 @@ behind_child true W t ts = refl
 behind_child false W t ts = refl
 
 -- What is decided of a row is decided of the node that it is of.
-pub of_node : (own : Row) {t : Table} {j : ℕ} → own.table ≡ t → own.number ≡ j → {parent p left : ℕ} {answer : Option Walked}
+pub of_node : (own : Row) {t : Table} {j : ℕ} → own.table.now ≡ t → own.number ≡ j → {parent p left : ℕ} {answer : Option Walked}
     → DecidesNext (LawfulRow own parent p left) answer → DecidesNext (LawfulNodeAt t.nodes.now t.pool.now j parent p left) answer
 of_node own {t} {j} e f d = rw (← e, ← f) d
 
-pub word_of_node : (own : Row) {t : Table} {j : ℕ} → own.table ≡ t → own.number ≡ j → (n : ℕ) → n < record_length → get_or own.words.now n 0 ≡ word_at t.nodes.now j n
+pub word_of_node : (own : Row) {t : Table} {j : ℕ} → own.table.now ≡ t → own.number ≡ j → (n : ℕ) → n < record_length → get_or own.words.now n 0 ≡ word_at t.nodes.now j n
 word_of_node own {t} {j} e f n h = rw (← e, ← f) (row_word own n h)
 
 module _ (row : Row) (k : ℕ) where
   abbrev words : List ℕ
-  words = row.table.nodes.now
+  words = row.table.now.nodes.now
 
   abbrev bytes : List ℕ
-  bytes = row.table.pool.now
+  bytes = row.table.now.pool.now
 
   abbrev i : ℕ
   i = row.number

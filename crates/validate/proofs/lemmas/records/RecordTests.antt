@@ -21,31 +21,31 @@ use Rattle.validate.proofs.lemmas.records.Decided.{equal_decided, unequal_decide
 -- ---- the words of a record
 
 -- The words of a row.
-pub row_recorded : (row : Row) → Recorded row.table.nodes.now row.number row.words.now
+pub row_recorded : (row : Row) → Recorded row.table.now.nodes.now row.number row.words.now
 unfolding Recorded
 row_recorded row = row.recorded
 
-pub row_word : (row : Row) (j : ℕ) → j < record_length → get_or row.words.now j 0 ≡ word_at row.table.nodes.now row.number j
-row_word row j h = sym (recorded_word row.table.nodes.now row.words.now row.number j (row_recorded row) h)
+pub row_word : (row : Row) (j : ℕ) → j < record_length → get_or row.words.now j 0 ≡ word_at row.table.now.nodes.now row.number j
+row_word row j h = sym (recorded_word row.table.now.nodes.now row.words.now row.number j (row_recorded row) h)
 
-pub row_whole : (row : Row) → record_length * row.number + record_length ≤ length row.table.nodes.now
-row_whole row = omega (arith, row.within, row.table.whole)
+pub row_whole : (row : Row) → record_length * row.number + record_length ≤ length row.table.now.nodes.now
+row_whole row = omega (arith, row.within, row.table.now.whole)
 
 -- ---- the tests
 
 -- A string by its words.
 module _ (row : Row) (j p : ℕ) (within : j + 1 < record_length) {offset : ℕ} (at : offset ≡ cond (eqb (get_or row.words.now (j + 1) 0) 0) 0 p) where
   abbrev Named : Type 0
-  Named = NamesStringAt row.table.nodes.now row.number j p (length row.table.pool.now)
+  Named = NamesStringAt row.table.now.nodes.now row.number j p (length row.table.now.pool.now)
 
   pub string_elsewhere : (get_or row.words.now j 0 ≡ offset → ⊥) → Named → ⊥
   unfolding offset_of
   string_elsewhere f s = f (row_word row j (omega arith) ∙ (s.offset ∙ (rw (← (row_word row (j + 1) within)) (sym at))))
 
-  pub string_long : p ≤ length row.table.pool.now → length row.table.pool.now - p < get_or row.words.now (j + 1) 0 → Named → ⊥
+  pub string_long : p ≤ length row.table.now.pool.now → length row.table.now.pool.now - p < get_or row.words.now (j + 1) 0 → Named → ⊥
   string_long h l s = omega (arith, row_word row (j + 1) within, s.within)
 
-  pub string_there : p ≤ length row.table.pool.now → get_or row.words.now j 0 ≡ offset → get_or row.words.now (j + 1) 0 ≤ length row.table.pool.now - p → Named
+  pub string_there : p ≤ length row.table.now.pool.now → get_or row.words.now j 0 ≡ offset → get_or row.words.now (j + 1) 0 ≤ length row.table.now.pool.now - p → Named
   unfolding offset_of
   string_there h e l =
       record {

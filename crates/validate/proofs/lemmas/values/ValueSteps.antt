@@ -145,10 +145,10 @@ module _ (row : Row) (k end : ℕ) where
   abbrev W : Trees → Trees
   W = row_values row k
 
-  pub lead_none : value_levels row.table.nodes.now row.number ≡ 0 → ValuesLead k row.number end W (Some (Taken 0))
+  pub lead_none : value_levels row.table.now.nodes.now row.number ≡ 0 → ValuesLead k row.number end W (Some (Taken 0))
   lead_none e =
       record {
-        taken = λ ns n. rw (placed_nothing (node_first (rule_of k).parameters) (nothing row.table.nodes.now row.table.pool.now k row.number e) (layout_all ns), start_state k);
+        taken = λ ns n. rw (placed_nothing (node_first (rule_of k).parameters) (nothing row.table.now.nodes.now row.table.now.pool.now k row.number e) (layout_all ns), start_state k);
         before_child = λ d. cc;
       }
 

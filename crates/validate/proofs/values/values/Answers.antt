@@ -39,7 +39,7 @@ returns-then-r-eq0 c =
     let row = c.args.row.now in
     let key = rw (c.key_class.ensures, c.part-key.ensures, row_word row 3 (omega arith), row_word row 4 (omega arith)) at c.in_ok-after_key.ensures in
     let size = rw (row_word row 9 (omega arith), row_word row 10 (omega arith)) at c.in_ok-after_size.ensures in
-    let none = missing_string row.table.nodes.now row.table.pool.now row.number 5 (sym (row_word row 6 (omega arith)) ∙ c.if-r-eq0.true) in
+    let none = missing_string row.table.now.nodes.now row.table.now.pool.now row.number 5 (sym (row_word row 6 (omega arith)) ∙ c.if-r-eq0.true) in
     takes_then key (takes_then size (value_missing _ _ _ _ (ap length none)))
 
 pub returns : goal.returns

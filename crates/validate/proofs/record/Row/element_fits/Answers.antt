@@ -13,4 +13,4 @@ returns c =
       row_word row 10 (omega arith),
       c.requires,
     )
-    (element_tests row.table.nodes.now row.number c.args.left)
+    (element_tests row.table.now.nodes.now row.number c.args.left)

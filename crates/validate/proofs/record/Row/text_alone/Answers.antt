@@ -20,4 +20,4 @@ returns c =
       at 9 (omega arith),
       at 10 (omega arith),
     )
-    (alone_tests row.table.nodes.now row.number _ _)
+    (alone_tests row.table.now.nodes.now row.number _ _)
