@@ -1,5 +1,5 @@
 // The record of a node, and whether it is that of one (document 01, "The table").
-ghost use Rattle.std.specs.Prelude.{◌≡◌, ◌+◌, ◌*◌, ◌≤◌, ◌<◌, cond, eqb, length, take, drop, MatchOption};
+ghost use Rattle.std.specs.Prelude.{◌≡◌, ◌+◌, ◌*◌, ◌≤◌, ◌<◌, length, take, drop, MatchOption};
 ghost use Rattle.document.specs.rules.Record.{record_length};
 
 use super::lent::Table;
@@ -16,13 +16,6 @@ const MISSING_WORD: u32 = MISSING as u32;
 const FIRST_KIND: u32 = Kind::DOCUMENT.number as u32;
 
 const LAST_KIND: u32 = Kind::CELL.number as u32;
-
-// "A missing string is 0, 0": the offset of so many bytes that would stand at `p`.
-fn offset_of(p: usize, length: usize) -> usize
-    ensures { result ≡ cond (eqb length 0) 0 p }
-{
-    if length == 0 { 0 } else { p }
-}
 
 // The record of node `number`, which is there, so that its words are read without a test for each.
 #[derive(Clone, Copy)]
@@ -61,8 +54,13 @@ impl<'a> Row<'a> {
         ensures { DecidesEnd (NamesStringAt self.now.table.now.nodes.now self.now.number j p (length self.now.table.now.pool.now))
             (p + word_at self.now.table.now.nodes.now self.now.number (j + 1)) result }
     {
+        let offset = self.words[j] as usize;
         let length = self.words[j + 1] as usize;
-        if self.words[j] as usize != offset_of(p, length) {
+        // most strings are missing
+        if length == 0 {
+            return if offset == 0 { Some(p) } else { None };
+        }
+        if offset != p {
             return None;
         }
         if self.table.pool.len() - p < length {

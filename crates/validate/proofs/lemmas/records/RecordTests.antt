@@ -6,6 +6,7 @@ use mathlib.Core.List.{List, [], ◌∷◌}
 use native.Mathlib.Omega.{arith}
 use lib.Dec.{T, eqb, leb, ltb}
 use lib.ListN.{length, get_or}
+use borrow.Author.Tests.{ne_eqb}
 use Rattle.base.proofs.Booleans.{true_T, T_true}
 use Rattle.utf8.specs.reference.Sequence.{valid_up_to}
 use Rattle.base.specs.rules.Limits.{missing}
@@ -34,24 +35,38 @@ row_whole row = omega (arith, row.within, row.table.now.whole)
 -- ---- the tests
 
 -- A string by its words.
-module _ (row : Row) (j p : ℕ) (within : j + 1 < record_length) {offset : ℕ} (at : offset ≡ cond (eqb (get_or row.words.now (j + 1) 0) 0) 0 p) where
+module _ (row : Row) (j p : ℕ) (within : j + 1 < record_length) where
   abbrev Named : Type 0
   Named = NamesStringAt row.table.now.nodes.now row.number j p (length row.table.now.pool.now)
 
-  pub string_elsewhere : (get_or row.words.now j 0 ≡ offset → ⊥) → Named → ⊥
+  named_offset : Named → get_or row.words.now j 0 ≡ cond (eqb (get_or row.words.now (j + 1) 0) 0) 0 p
   unfolding offset_of
-  string_elsewhere f s = f (row_word row j (omega arith) ∙ (s.offset ∙ (rw (← (row_word row (j + 1) within)) (sym at))))
+  named_offset s = row_word row j (omega arith) ∙ (s.offset ∙ rw (row_word row (j + 1) within))
+
+  named : get_or row.words.now j 0 ≡ cond (eqb (get_or row.words.now (j + 1) 0) 0) 0 p → p + get_or row.words.now (j + 1) 0 ≤ length row.table.now.pool.now → Named
+  unfolding offset_of
+  named e l =
+      record {
+        offset = sym (row_word row j (omega arith)) ∙ (rw (row_word row (j + 1) within) at e);
+        within = omega (arith, row_word row (j + 1) within);
+      }
+
+  module _ (none : get_or row.words.now (j + 1) 0 ≡ 0) where
+    pub string_missing : p ≤ length row.table.now.pool.now → get_or row.words.now j 0 ≡ 0 → Named
+    string_missing h e = named (rw none e) (omega arith)
+
+    pub string_no_offset : (get_or row.words.now j 0 ≡ 0 → ⊥) → Named → ⊥
+    string_no_offset f s = f (rw none at (named_offset s))
+
+  module _ (some : get_or row.words.now (j + 1) 0 ≡ 0 → ⊥) where
+    pub string_elsewhere : (get_or row.words.now j 0 ≡ p → ⊥) → Named → ⊥
+    string_elsewhere f s = f (rw (ne_eqb _ 0 some) at (named_offset s))
+
+    pub string_there : p ≤ length row.table.now.pool.now → get_or row.words.now j 0 ≡ p → get_or row.words.now (j + 1) 0 ≤ length row.table.now.pool.now - p → Named
+    string_there h e l = named (rw (ne_eqb _ 0 some) e) (omega arith)
 
   pub string_long : p ≤ length row.table.now.pool.now → length row.table.now.pool.now - p < get_or row.words.now (j + 1) 0 → Named → ⊥
   string_long h l s = omega (arith, row_word row (j + 1) within, s.within)
-
-  pub string_there : p ≤ length row.table.now.pool.now → get_or row.words.now j 0 ≡ offset → get_or row.words.now (j + 1) 0 ≤ length row.table.now.pool.now - p → Named
-  unfolding offset_of
-  string_there h e l =
-      record {
-        offset = sym (row_word row j (omega arith)) ∙ (e ∙ (rw (row_word row (j + 1) within) at at));
-        within = omega (arith, row_word row (j + 1) within);
-      }
 
 -- What stands in the record of a text beside the text.
 pub alone_tests : (words : List ℕ) (i parent end : ℕ)
