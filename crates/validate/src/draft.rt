@@ -9,7 +9,7 @@ ghost use Rattle.inside.specs.Machine.{state_of};
 ghost use Rattle.document.specs.rules.Document.{Node};
 ghost use Rattle.document.specs.rules.Canonical.{node_first, place_values};
 ghost use Rattle.table.specs.Stored.{word_at};
-ghost use Rattle.validate.specs.internal.DraftWalk.{DecidesNext, value_levels, row_values, ValuesLead, LawfulRow, RowChildren, ChildTaken};
+ghost use Rattle.validate.specs.internal.DraftWalk.{DecidesNext, row_values, ValuesLead, LawfulRow, RowChildren, ChildTaken};
 ghost use Rattle.document.specs.rules.Draft.{IsDraft};
 
 use super::lent::Table;
@@ -78,27 +78,23 @@ fn element(row: &Row, parent: usize, at: usize, left: usize) -> Option<Walked>
     ensures { DecidesNext (LawfulRow row.now parent at left) result }
 {
     let after = row.strings_end(parent, at)?;
-    let levels = row.value_levels();
-    if !row.element_fits(levels, left) {
+    if !row.element_fits(left) {
         return None;
     }
     let r = row.words;
-    children(row, r[KIND] as u8, r[END] as usize, levels, after, left - 1)
+    children(row, r[KIND] as u8, r[END] as usize, after, left - 1)
 }
 
 // The values, where they stand before the children. A title or summary stands before the values, which are then due.
-fn lead(row: &Row, kind: u8, end: usize, levels: usize) -> Option<Led>
-    requires { levels ≡ value_levels row.now.table.now.nodes.now row.now.number }
+fn lead(row: &Row, kind: u8, end: usize) -> Option<Led>
     ensures { ValuesLead kind row.now.number end (row_values row.now kind) result }
 {
     // most elements have no values
-    if levels == 0 {
+    if row.value_levels() == 0 {
         return Some(Led::Taken(0));
     }
-    if row.number + 1 < end {
-        if is_titled(kind as usize) {
-            return Some(Led::Due);
-        }
+    if row.number + 1 < end && is_titled(kind as usize) {
+        return Some(Led::Due);
     }
     let state = values(row, kind, 0)?;
     Some(Led::Taken(state))
@@ -106,20 +102,13 @@ fn lead(row: &Row, kind: u8, end: usize, levels: usize) -> Option<Led>
 
 // The children and values of an element of a kind.
 #[cycle(child_children_element_node)]
-fn children(
-    row: &Row,
-    kind: u8,
-    end: usize,
-    levels: usize,
-    at: usize,
-    left: usize,
-) -> Option<Walked>
-    requires { (at ≤ length row.now.table.now.pool.now) × (levels ≡ value_levels row.now.table.now.nodes.now row.now.number) }
+fn children(row: &Row, kind: u8, end: usize, at: usize, left: usize) -> Option<Walked>
+    requires { at ≤ length row.now.table.now.pool.now }
     ensures { DecidesNext (RowChildren row.now
         (place_values (node_first (rule_of kind).parameters) (row_values row.now kind))
         kind (start kind) (row.now.number + 1) at end left) result }
 {
-    let (mut state, mut due) = match lead(row, kind, end, levels)? {
+    let (mut state, mut due) = match lead(row, kind, end)? {
         Led::Due => (0, true),
         Led::Taken(state) => (state, false),
     };

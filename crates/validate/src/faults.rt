@@ -99,10 +99,8 @@ fn first_unknown(index: &IdIndex, kind: usize, target: Target) -> Option<usize>
 {
     let nodes = index.table.nodes;
     for i in 0..index.count {
-        if nodes[RECORD * i] as usize == kind {
-            if !index.knows(index.table.key(i), target) {
-                return Some(i);
-            }
+        if nodes[RECORD * i] as usize == kind && !index.knows(index.table.key(i), target) {
+            return Some(i);
         }
     }
     None
@@ -186,10 +184,8 @@ fn first_bad_row(table: &Table) -> Option<usize>
 {
     let nodes = table.nodes;
     for i in 0..table.count {
-        if nodes[RECORD * i] as usize == ROW {
-            if row_differs(nodes, i) {
-                return Some(i);
-            }
+        if nodes[RECORD * i] as usize == ROW && row_differs(nodes, i) {
+            return Some(i);
         }
     }
     None

@@ -90,10 +90,8 @@ impl<'a> IdIndex<'a> {
         let mut j = self.heads[s] as usize;
         while 0 < j {
             let i = j - 1;
-            if has_id(&self.table, i, target) {
-                if id == self.table.key(i) {
-                    return true;
-                }
+            if has_id(&self.table, i, target) && id == self.table.key(i) {
+                return true;
             }
             j = self.nexts[i] as usize;
         }

@@ -108,9 +108,8 @@ impl<'a> Row<'a> {
         if none { 0 } else { 1 }
     }
 
-    // Whether it may be that of an element that nests at most `left` levels; its values nest `levels`.
-    pub fn element_fits(&self, levels: usize, left: usize) -> bool
-        requires { levels ≡ value_levels self.now.table.now.nodes.now self.now.number }
+    // Whether it may be that of an element that nests at most `left` levels.
+    pub fn element_fits(&self, left: usize) -> bool
         ensures { Decided (ElementAt self.now.table.now.nodes.now self.now.number left) result }
     {
         let r = self.words;
@@ -118,6 +117,6 @@ impl<'a> Row<'a> {
             & (r[KIND] <= LAST_KIND)
             & (r[TEXT_LENGTH] == 0)
             & ((r[WIDTH] != MISSING_WORD) | (r[HEIGHT] == MISSING_WORD))
-            & (levels < left)
+            & (self.value_levels() < left)
     }
 }

@@ -6,7 +6,7 @@ use Rattle.validate.specs.internal.TableWords.{found}
 use Rattle.validate.proofs.lemmas.index.BlockIds.{kind_read}
 use Rattle.validate.proofs.lemmas.faults.BadRows.{spot_other, search_step, search_end}
 use Rattle.validate.proofs.faults.first_bad_row.Goals as goal
-use Rattle.validate.proofs.faults.first_bad_row.Goals.{then-nodes-i-eq-ROW+else-row_differs, else-nodes-i-eq-ROW}
+use Rattle.validate.proofs.faults.first_bad_row.Goals.{else-nodes-i-eq-ROW-via-then-nodes-i-eq-ROW+else-row_differs, else-nodes-i-eq-ROW-via-else-nodes-i-eq-ROW}
 
 pub loop-i-init : goal.loop-i-init
 loop-i-init c = λ f s.
@@ -28,9 +28,9 @@ pub loop-i-preserved : goal.loop-i-preserved
 loop-i-preserved c = λ f s.
     let loop = c.loop-i in
     let t = search_step c.args.table.now.nodes.now c.args.table.now.count loop.i f c.loop-i-test.true (loop.invariant f s) in
-    t.on (elim c.if-nodes-i-eq-ROW.branch [
-      | then-nodes-i-eq-ROW+else-row_differs w ↦ sym (w.row_differs.ensures t.test t.spot) ∙ w.if-row_differs.false
-      | else-nodes-i-eq-ROW w ↦ sym (spot_other _ _ _ t.spot (λ k. w.if-nodes-i-eq-ROW.false (kind_read _ _ ∙ k)))
+    t.on (elim c.else-nodes-i-eq-ROW.branch [
+      | else-nodes-i-eq-ROW-via-then-nodes-i-eq-ROW+else-row_differs w ↦ sym (w.row_differs.ensures t.test t.spot) ∙ w.if-row_differs.false
+      | else-nodes-i-eq-ROW-via-else-nodes-i-eq-ROW w ↦ sym (spot_other _ _ _ t.spot (λ k. w.if-nodes-i-eq-ROW.false (kind_read _ _ ∙ k)))
     ])
 
 pub returns : goal.returns

@@ -10,7 +10,7 @@ use Rattle.table.specs.Stored.{word_at}
 use Rattle.validate.specs.internal.TableWords.{found, key_at, ids_before}
 use Rattle.validate.proofs.lemmas.index.BlockIds.{kind_read, unknown_here, unknown_on, unknown_end}
 use Rattle.validate.proofs.faults.first_unknown.Goals as goal
-use Rattle.validate.proofs.faults.first_unknown.Goals.{then-nodes-i+else-not-knows, else-nodes-i}
+use Rattle.validate.proofs.faults.first_unknown.Goals.{else-nodes-i-via-then-nodes-i+else-not-knows, else-nodes-i-via-else-nodes-i}
 
 pub loop-i-init : goal.loop-i-init
 loop-i-init c =
@@ -34,10 +34,10 @@ loop-i-preserved c =
     let ids = ids_before table.nodes.now table.pool.now c.args.target c.args.index.now.count in
     let i = c.loop-i.i in
     let e : eqb (word_at table.nodes.now i 0) c.args.kind && not (is_among (key_at table.nodes.now table.pool.now i) ids) ≡ false =
-    elim c.if-nodes-i.branch [
-      | then-nodes-i+else-not-knows w ↦
+    elim c.else-nodes-i.branch [
+      | else-nodes-i-via-then-nodes-i+else-not-knows w ↦
           rw (eq-eqb _ c.args.kind (sym (kind_read table.nodes.now i) ∙ w.if-nodes-i.true), ← w.key.ensures, ← w.knows.ensures, w.if-not-knows.false)
-      | else-nodes-i w ↦ rw (ne_eqb _ c.args.kind (λ e. w.if-nodes-i.false (kind_read table.nodes.now i ∙ e)))
+      | else-nodes-i-via-else-nodes-i w ↦ rw (ne_eqb _ c.args.kind (λ e. w.if-nodes-i.false (kind_read table.nodes.now i ∙ e)))
     ] in
     unknown_on _ _ _ _ _ _ c.loop-i-test.true e ∙ c.loop-i.invariant
 

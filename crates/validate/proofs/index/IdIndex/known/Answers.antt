@@ -7,7 +7,7 @@ use Rattle.validate.specs.internal.TableWords.{ids_before}
 use Rattle.validate.proofs.lemmas.index.BlockIds.{equal_same, known_here, known_other, known_none, known_end}
 use Rattle.validate.proofs.lemmas.index.SlotChains.{left_first, left_next, next_below}
 use Rattle.validate.proofs.index.IdIndex.known.Goals as goal
-use Rattle.validate.proofs.index.IdIndex.known.Goals.{then-has_id+else-eq, else-has_id}
+use Rattle.validate.proofs.index.IdIndex.known.Goals.{else-has_id-via-then-has_id+else-eq, else-has_id-via-else-has_id}
 
 pub loop-j-init : goal.loop-j-init
 loop-j-init c = left_first _ _ _ _ _ _ _ c.args.self.now.indexed c.requires.0
@@ -30,11 +30,11 @@ loop-j-preserved c =
     let j = c.loop-j.j in
     let below = c.loop-j-test.true in
     let e : is_among id (ids_before words bytes target (j - 1)) ≡ is_among id (ids_before words bytes target j) =
-    elim c.if-has_id.branch [
-      | then-has_id+else-eq w ↦ known_other words bytes id target j below
+    elim c.else-has_id.branch [
+      | else-has_id-via-then-has_id+else-eq w ↦ known_other words bytes id target j below
           (sym c.has_id.ensures ∙ w.if-has_id.true)
           (sym (ap (same id) w.key.ensures) ∙ (sym (equal_same _ _ w.eq.ensures) ∙ w.if-eq.false))
-      | else-has_id w ↦ known_none words bytes id target j below (sym c.has_id.ensures ∙ w.if-has_id.false)
+      | else-has_id-via-else-has_id w ↦ known_none words bytes id target j below (sym c.has_id.ensures ∙ w.if-has_id.false)
     ] in
     left_next _ _ _ _ _ _ _ c.args.self.now.indexed _ below c.loop-j.invariant e
 

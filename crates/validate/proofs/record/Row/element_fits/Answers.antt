@@ -11,6 +11,6 @@ returns c =
       row_word row 8 (omega arith),
       row_word row 9 (omega arith),
       row_word row 10 (omega arith),
-      c.requires,
+      c.value_levels.ensures,
     )
     (element_tests row.table.now.nodes.now row.number c.args.left)
