@@ -6,3 +6,4 @@ pub mod Copied
 pub mod Blocks
 pub mod Adding
 pub mod EqualBytes
+pub mod Refusals

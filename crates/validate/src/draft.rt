@@ -1,7 +1,6 @@
-// The walk that decides whether words and pool are the table of a draft: a document that may have the faults 15 to 18.
+// The walk that decides whether a table is that of a draft: a document that may have the faults 15 to 18.
 // Nothing is assumed of the words. The walk over a node calls the walk over its children, which calls it back, and the records left fall.
-ghost use Rattle.std.specs.Prelude.{◌≡◌, true, false, ℕ, ◌+◌, ◌*◌, ◌≤◌, ◌<◌, length};
-ghost use Rattle.document.specs.rules.Record.{record_length};
+ghost use Rattle.std.specs.Prelude.{◌≡◌, true, ℕ, ◌+◌, ◌≤◌, ◌<◌, length};
 ghost use Rattle.document.specs.rules.Record as Word;
 ghost use Rattle.elements.specs.rules.Class as Class;
 ghost use Rattle.elements.specs.rules.Rules.{rule_of};
@@ -10,262 +9,165 @@ ghost use Rattle.inside.specs.Machine.{state_of};
 ghost use Rattle.document.specs.rules.Document.{Node};
 ghost use Rattle.document.specs.rules.Canonical.{node_first, place_values};
 ghost use Rattle.table.specs.Stored.{word_at};
-ghost use Rattle.validate.specs.internal.DraftWalk.{DecidesNext, value_levels, node_values, ValuesLead, LawfulNodeAt, ChildrenAt, ChildTaken};
+ghost use Rattle.validate.specs.internal.DraftWalk.{DecidesNext, row_values, ValuesLead, LawfulRow, RowChildren, ChildTaken};
 ghost use Rattle.document.specs.rules.Draft.{IsDraft};
 
-use super::OK;
-use super::record::{element_fits, stands, string_stands, text_alone, value_levels, words};
-use super::values::values;
+use super::lent::Table;
+use super::record::Row;
+use super::values::{state_after, values};
 use base::limit::{MOST_BYTES, MOST_NODES, NESTED_LEVELS};
-use inside::{may_end, step};
+use inside::may_end;
 use kind::Kind;
-use table::{
-    END, KEY_LENGTH, KIND, MISSING, RECORD, TEXT, TEXT_LENGTH, TYPE_LENGTH, is_titled, word,
-};
+use table::{END, KIND, MISSING, TEXT, TEXT_LENGTH, is_titled};
 use utf8::valid_up_to;
 
-// "within the limits (at most 4,096 nodes, canonical nesting at most 64, pool at most 65,536)"
-const MOST_WORDS: usize = MOST_NODES * RECORD;
-
-// Whether what was looked for stands there, and the number and the place in the pool that follow it.
+// The number and the place in the pool that follow what was looked for, where it stands there.
 #[derive(Clone, Copy)]
-pub struct Walked {
-    pub ok: bool,
-    pub next: usize,
-    pub pool: usize,
+struct Walked {
+    next: usize,
+    pool: usize,
 }
 
 // The same of a child, with the state of its parent after it.
 #[derive(Clone, Copy)]
 struct Entered {
-    ok: bool,
     next: usize,
     pool: usize,
     state: u8,
 }
 
-// Whether the values that stand before the children are taken, or due behind the first child, and the state after them.
+// The values that stand before the children: due behind the first child, or taken, with the state after them.
 #[derive(Clone, Copy)]
-struct Led {
-    ok: bool,
-    due: bool,
-    state: u8,
+enum Led {
+    Due,
+    Taken(u8),
 }
 
-fn refused() -> Walked
-    ensures { result.ok ≡ false }
-{
-    Walked {
-        ok: false,
-        next: 0,
-        pool: 0,
-    }
-}
-
-// Node `i` under a parent, with its descendants: its strings stand in the pool from `at` on, and its brackets nest at most `left` levels.
+// A node under a parent, with its descendants: its strings stand in the pool from `at` on, and its brackets nest at most `left` levels.
 #[cycle(child_children_element_node)]
-fn node(nodes: &[u32], pool: &[u8], i: usize, parent: usize, at: usize, left: usize) -> Walked
-    requires { at ≤ length pool.now }
-    ensures { DecidesNext (LawfulNodeAt nodes.now pool.now i parent at left) result.ok result.next result.pool }
+fn node(row: &Row, parent: usize, at: usize, left: usize) -> Option<Walked>
+    requires { at ≤ length row.now.table.now.pool.now }
+    ensures { DecidesNext (LawfulRow row.now parent at left) result }
 {
-    if nodes.len() / RECORD <= i {
-        return refused();
+    if row.words[KIND] == Kind::TEXT.number as u32 {
+        return text_node(row, parent, at);
     }
-    let r = words(nodes, i);
-    if r[KIND] == Kind::TEXT.number as u32 {
-        return text_node(nodes, pool, i, parent, at);
-    }
-    element(nodes, pool, i, parent, at, left)
+    element(row, parent, at, left)
 }
 
-// The same of a text, whose record is there.
-fn text_node(nodes: &[u32], pool: &[u8], i: usize, parent: usize, at: usize) -> Walked
-    requires { (record_length * i + record_length ≤ length nodes.now) × (at ≤ length pool.now) × (word_at nodes.now i Word.kind ≡ Class.text) }
-    ensures { (left : ℕ) → DecidesNext (LawfulNodeAt nodes.now pool.now i parent at left) result.ok result.next result.pool }
+// The same of a text.
+fn text_node(row: &Row, parent: usize, at: usize) -> Option<Walked>
+    requires { (at ≤ length row.now.table.now.pool.now) × (word_at row.now.table.now.nodes.now row.now.number Word.kind ≡ Class.text) }
+    ensures { (left : ℕ) → DecidesNext (LawfulRow row.now parent at left) result }
 {
-    let r = words(nodes, i);
-    let next = i + 1;
-    if !text_alone(r, parent, next) {
-        return refused();
+    let next = row.number + 1;
+    if !row.text_alone(parent, next) {
+        return None;
     }
-    if !string_stands(r[TEXT], r[TEXT_LENGTH], at, pool.len()) {
-        return refused();
+    let end = row.string_end(TEXT, at)?;
+    if valid_up_to(&row.table.pool[at..end]) != row.words[TEXT_LENGTH] as usize {
+        return None;
     }
-    let size = r[TEXT_LENGTH] as usize;
-    let end = at + size;
-    Walked {
-        ok: valid_up_to(&pool[at..end]) == size,
-        next,
-        pool: end,
-    }
+    Some(Walked { next, pool: end })
 }
 
-// The same of an element, whose record is there.
+// The same of an element.
 #[cycle(child_children_element_node)]
-fn element(nodes: &[u32], pool: &[u8], i: usize, parent: usize, at: usize, left: usize) -> Walked
-    requires { (record_length * i + record_length ≤ length nodes.now) × (at ≤ length pool.now) × (word_at nodes.now i Word.kind ≡ Class.text → ⊥) }
-    ensures { DecidesNext (LawfulNodeAt nodes.now pool.now i parent at left) result.ok result.next result.pool }
+fn element(row: &Row, parent: usize, at: usize, left: usize) -> Option<Walked>
+    requires { (at ≤ length row.now.table.now.pool.now) × (word_at row.now.table.now.nodes.now row.now.number Word.kind ≡ Class.text → ⊥) }
+    ensures { DecidesNext (LawfulRow row.now parent at left) result }
 {
-    let r = words(nodes, i);
-    if !stands(r, pool.len(), parent, at) {
-        return refused();
+    let after = row.strings_end(parent, at)?;
+    if !row.element_fits(left) {
+        return None;
     }
-    let levels = value_levels(r);
-    if !element_fits(r, levels, left) {
-        return refused();
-    }
-    let after = at + r[KEY_LENGTH] as usize + r[TYPE_LENGTH] as usize;
-    children(
-        nodes,
-        pool,
-        i,
-        r[KIND] as u8,
-        r[END] as usize,
-        levels,
-        after,
-        left - 1,
-    )
+    let r = row.words;
+    children(row, r[KIND] as u8, r[END] as usize, after, left - 1)
 }
 
-// The values of node `i`, where they stand before its children. A title or summary stands before the values, which are then due.
-fn lead(nodes: &[u32], pool: &[u8], i: usize, kind: u8, end: usize, levels: usize) -> Led
-    requires { (record_length * i + record_length ≤ length nodes.now) × (levels ≡ value_levels nodes.now i) }
-    ensures { ValuesLead nodes.now pool.now kind i end result.ok result.due result.state }
+// The values, where they stand before the children. A title or summary stands before the values, which are then due.
+fn lead(row: &Row, kind: u8, end: usize) -> Option<Led>
+    ensures { ValuesLead kind row.now.number end (row_values row.now kind) result }
 {
     // most elements have no values
-    if levels == 0 {
-        return Led {
-            ok: true,
-            due: false,
-            state: 0,
-        };
+    if row.value_levels() == 0 {
+        return Some(Led::Taken(0));
     }
-    if i + 1 < end {
-        if is_titled(kind as usize) {
-            return Led {
-                ok: true,
-                due: true,
-                state: 0,
-            };
-        }
+    if row.number + 1 < end && is_titled(kind as usize) {
+        return Some(Led::Due);
     }
-    let taken = values(nodes, pool, i, kind, 0);
-    Led {
-        ok: taken.ok,
-        due: false,
-        state: taken.state,
-    }
+    let state = values(row, kind, 0)?;
+    Some(Led::Taken(state))
 }
 
-// The children and values of node `i`, an element of a kind.
+// The children and values of an element of a kind.
 #[cycle(child_children_element_node)]
-fn children(
-    nodes: &[u32],
-    pool: &[u8],
-    i: usize,
-    kind: u8,
-    end: usize,
-    levels: usize,
-    at: usize,
-    left: usize,
-) -> Walked
-    requires { (record_length * i + record_length ≤ length nodes.now) × (at ≤ length pool.now) × (levels ≡ value_levels nodes.now i) }
-    ensures { DecidesNext (ChildrenAt nodes.now pool.now
-        (place_values (node_first (rule_of kind).parameters) (node_values nodes.now pool.now kind i))
-        kind i (start kind) (i + 1) at end left) result.ok result.next result.pool }
+fn children(row: &Row, kind: u8, end: usize, at: usize, left: usize) -> Option<Walked>
+    requires { at ≤ length row.now.table.now.pool.now }
+    ensures { DecidesNext (RowChildren row.now
+        (place_values (node_first (rule_of kind).parameters) (row_values row.now kind))
+        kind (start kind) (row.now.number + 1) at end left) result }
 {
-    let led = lead(nodes, pool, i, kind, end, levels);
-    if !led.ok {
-        return refused();
-    }
-    let mut due = led.due;
-    let mut s = led.state;
-    let mut j = i + 1;
+    let (mut state, mut due) = match lead(row, kind, end)? {
+        Led::Due => (0, true),
+        Led::Taken(state) => (state, false),
+    };
+    let mut j = row.number + 1;
     let mut p = at;
     while j < end {
-        let c = child(nodes, pool, i, kind, s, j, p, left);
-        if !c.ok {
-            return refused();
-        }
-        s = c.state;
+        let c = child(row, kind, state, j, p, left)?;
+        state = c.state;
         j = c.next;
         p = c.pool;
         if due {
-            let taken = values(nodes, pool, i, kind, s);
-            if !taken.ok {
-                return refused();
-            }
-            s = taken.state;
+            state = values(row, kind, state)?;
             due = false;
         }
     }
     if j != end {
-        return refused();
+        return None;
     }
-    Walked {
-        ok: may_end(kind, s),
-        next: end,
-        pool: p,
+    if !may_end(kind, state) {
+        return None;
     }
+    Some(Walked { next: end, pool: p })
 }
 
-// The child with number `j` of node `i`, an element of a kind that is read so far to a state.
+// The child with number `j` of an element of a kind that is read so far to a state.
 #[cycle(child_children_element_node)]
-fn child(
-    nodes: &[u32],
-    pool: &[u8],
-    i: usize,
-    kind: u8,
-    state: u8,
-    j: usize,
-    at: usize,
-    left: usize,
-) -> Entered
-    requires { (record_length * i + record_length ≤ length nodes.now) × (i < j) × (at ≤ length pool.now) }
-    ensures { ChildTaken nodes.now pool.now kind i (state_of kind state) j at left result.ok result.next result.pool result.state }
+fn child(row: &Row, kind: u8, state: u8, j: usize, at: usize, left: usize) -> Option<Entered>
+    requires { (row.now.number < j) × (at ≤ length row.now.table.now.pool.now) }
+    ensures { ChildTaken row.now kind (state_of kind state) j at left result }
 {
-    let w = node(nodes, pool, j, i, at, left);
-    if !w.ok {
-        return Entered {
-            ok: false,
-            next: 0,
-            pool: 0,
-            state,
-        };
-    }
-    let r = words(nodes, j);
-    let taken = step(kind, state, r[KIND] as u8);
-    Entered {
-        ok: taken.fault == OK,
+    let own = Row::of(row.table, j)?;
+    let w = node(&own, row.number, at, left)?;
+    let state = state_after(kind, state, own.words[KIND] as u8)?;
+    Some(Entered {
         next: w.next,
         pool: w.pool,
-        state: taken.state,
-    }
+        state,
+    })
 }
 
-// Whether the words and the pool are the table of a draft.
-pub fn is_table(nodes: &[u32], pool: &[u8]) -> bool
-    ensures { (result ≡ true → (d : Node) × IsDraft d nodes.now pool.now)
-        × ((d : Node) → IsDraft d nodes.now pool.now → result ≡ true) }
+// Whether a table is that of a draft.
+pub fn is_table(table: &Table) -> bool
+    ensures { (result ≡ true → (d : Node) × IsDraft d table.now.nodes.now table.now.pool.now)
+        × ((d : Node) → IsDraft d table.now.nodes.now table.now.pool.now → result ≡ true) }
 {
-    if MOST_WORDS < nodes.len() {
+    if MOST_NODES < table.count {
         return false;
     }
-    if MOST_BYTES < pool.len() {
+    if MOST_BYTES < table.pool.len() {
         return false;
     }
-    if nodes.len() % RECORD != 0 {
+    let Some(root) = Row::of(table, 0) else {
+        return false;
+    };
+    if root.words[KIND] != Kind::DOCUMENT.number as u32 {
         return false;
     }
-    if word(nodes, 0, KIND) != Kind::DOCUMENT.number as usize {
-        return false;
+    match element(&root, MISSING, 0, NESTED_LEVELS) {
+        Some(w) => w.pool == table.pool.len() && w.next == table.count,
+        None => false,
     }
-    let w = element(nodes, pool, 0, MISSING, 0, NESTED_LEVELS);
-    if !w.ok {
-        return false;
-    }
-    if w.pool != pool.len() {
-        return false;
-    }
-    w.next == nodes.len() / RECORD
 }

@@ -1,5 +1,5 @@
 // Faults 15 to 18 of the document that a table has (document 01, "Numbers answered").
-ghost use Rattle.std.specs.Prelude.{◌≡◌, Bool, false, [], ◌+◌, ◌*◌, ◌≤◌, ◌<◌, length};
+ghost use Rattle.std.specs.Prelude.{◌≡◌, Bool, [], ◌+◌, ◌*◌, ◌≤◌, ◌<◌, length};
 ghost use Rattle.base.specs.rules.Limits.{most_nodes};
 ghost use Rattle.document.specs.rules.Record.{record_length};
 ghost use Rattle.document.specs.rules.Record as Word;
@@ -7,17 +7,16 @@ ghost use Rattle.elements.specs.rules.Class as Class;
 ghost use Rattle.document.specs.rules.Document.{Node, Nodes};
 ghost use Rattle.document.specs.reference.Check.{First, Cells, cells_in, found_repeated_id, found_unknown_target, check};
 ghost use Rattle.document.specs.rules.Visits.{child_count};
-ghost use Rattle.validate.specs.internal.CheckNumbers.{check_number, check_node};
+ghost use Rattle.validate.specs.internal.CheckNumbers.{number_of, kept, checked};
 ghost use Rattle.validate.specs.internal.DocumentTable.{BeginsWithTable};
 ghost use Rattle.table.specs.Stored.{word_at};
-ghost use Rattle.validate.specs.internal.IdIndex.{Indexed};
-ghost use Rattle.validate.specs.internal.TableWords.{entries_from, ids_before, repeats_at, dangles_at, found, cells_found, Family, Below, Binder, Spot, Searched};
+ghost use Rattle.validate.specs.internal.TableWords.{entries_from, ids_before, found, cells_found, Family, Below, Binder, Spot, Searched};
 
-use super::index::{ANY, enter, has_id, known, slot};
-use base::limit::MOST_NODES;
-use base::number::{OK, REPEATED_ID, ROW_LENGTH, UNKNOWN_FOOTNOTE, UNKNOWN_TARGET};
+use super::index::{IdIndex, Target};
+use super::lent::Table;
+use base::number::{REPEATED_ID, ROW_LENGTH, UNKNOWN_FOOTNOTE, UNKNOWN_TARGET};
 use kind::Kind;
-use table::{END, KEY, KIND, PARENT, RECORD, string, word};
+use table::{END, KIND, PARENT, RECORD, word};
 
 // The kinds that the check looks at, as words.
 const FOOTNOTE: usize = Kind::FOOTNOTE.number as usize;
@@ -34,110 +33,77 @@ const BODY: usize = Kind::BODY.number as usize;
 
 const ROW: usize = Kind::ROW.number as usize;
 
-// A fault 15 to 18 with the number of the first node that has it; number 0 where there is none.
-#[derive(Clone, Copy)]
+// The rules that a draft may break.
+#[derive(Clone, Copy, Debug, PartialEq, Eq)]
+pub enum Rule {
+    RowLength,
+    RepeatedId,
+    UnknownTarget,
+    UnknownFootnote,
+}
+
+impl Rule {
+    // The number of the fault, 15 to 18.
+    pub fn number(self) -> u32
+        ensures { result ≡ number_of self }
+    {
+        match self {
+            Rule::RowLength => ROW_LENGTH,
+            Rule::RepeatedId => REPEATED_ID,
+            Rule::UnknownTarget => UNKNOWN_TARGET,
+            Rule::UnknownFootnote => UNKNOWN_FOOTNOTE,
+        }
+    }
+}
+
+// A rule that is broken, with the number of the first node that breaks it.
+#[derive(Clone, Copy, Debug, PartialEq, Eq)]
 pub struct Fault {
-    pub number: u32,
+    pub rule: Rule,
     pub node: usize,
 }
 
-// A number that may be missing: of a node, or of a head's names.
-#[derive(Clone, Copy)]
-enum Found {
-    At(usize),
-    Nothing,
+// The fault of a node that breaks a rule, where there is one.
+fn kept(rule: Rule, broken_at: Option<usize>) -> Result<(), Fault>
+    ensures { result ≡ kept rule broken_at }
+{
+    match broken_at {
+        Some(node) => Err(Fault { rule, node }),
+        None => Ok(()),
+    }
 }
 
-// 16: whether node `i` is a block whose id is on an earlier block. An id that is on none enters the index.
-fn repeats(
-    nodes: &[u32],
-    i: usize,
-    pool: &[u8],
-    heads: &mut [u32; MOST_NODES],
-    nexts: &mut [u32; MOST_NODES],
-) -> bool
-    requires { (i < most_nodes) × Indexed nodes.now pool.now i heads.old nexts.old }
-    ensures { (result ≡ repeats_at nodes.now pool.now i)
-        × (result ≡ false → Indexed nodes.now pool.now (i + 1) heads.new nexts.new) }
+// 16: the first node that is a block whose id is on an earlier block. Where there is none, the ids of all nodes have entered.
+// The kind is tested first, here and in the loops below, since most nodes are passed by it alone.
+fn first_repeated(index: &mut IdIndex) -> Option<usize>
+    requires { index.old.count ≡ 0 }
+    ensures { (result ≡ found (found_repeated_id [] (entries_from index.old.table.nodes.now index.old.table.pool.now index.old.table.count 0)))
+        × (index.new.table ≡ index.old.table)
+        × (result ≡ None → index.new.count ≡ index.old.table.count) }
 {
-    if !has_id(nodes, i, pool, ANY) {
-        return false;
-    }
-    let id = string(nodes, i, KEY, pool);
-    let s = slot(id);
-    if known(nodes, i, pool, heads, nexts, s, ANY, id) {
-        return true;
-    }
-    enter(heads, nexts, s, i);
-    false
-}
-
-// The first such node; where there is none, the ids of all nodes have entered. The kind is tested first, here and in the loops below,
-// since most nodes are passed by it alone.
-fn first_repeated(
-    nodes: &[u32],
-    count: usize,
-    pool: &[u8],
-    heads: &mut [u32; MOST_NODES],
-    nexts: &mut [u32; MOST_NODES],
-) -> Found
-    requires { (count ≤ most_nodes) × (record_length * count ≤ length nodes.now) × Indexed nodes.now pool.now 0 heads.old nexts.old }
-    ensures { (result ≡ found (found_repeated_id [] (entries_from nodes.now pool.now count 0)))
-        × (result ≡ Found.Nothing → Indexed nodes.now pool.now count heads.new nexts.new) }
-{
-    let mut i = 0;
-    while i < count {
-        if nodes[RECORD * i] as usize <= FOOTNOTE {
-            if repeats(nodes, i, pool, heads, nexts) {
-                return Found::At(i);
-            }
+    let nodes = index.table.nodes;
+    for i in 0..index.table.count {
+        if FOOTNOTE < nodes[RECORD * i] as usize {
+            index.pass();
+        } else if index.repeats() {
+            return Some(i);
         }
-        i += 1;
     }
-    Found::Nothing
+    None
 }
 
-// 17 and 18: whether the target of node `i`, which is of this kind, is on no block, or on none of the kind `only`.
-fn dangles(
-    nodes: &[u32],
-    count: usize,
-    pool: &[u8],
-    heads: &[u32; MOST_NODES],
-    nexts: &[u32; MOST_NODES],
-    i: usize,
-    kind: usize,
-    only: usize,
-) -> bool
-    requires { (word_at nodes.now i Word.kind ≡ kind) × Indexed nodes.now pool.now count heads.now nexts.now }
-    ensures { result ≡ dangles_at nodes.now pool.now kind (ids_before nodes.now pool.now only count) i }
+// 17 and 18: the first node of this kind that names no such block.
+fn first_unknown(index: &IdIndex, kind: usize, target: Target) -> Option<usize>
+    ensures { result ≡ found (found_unknown_target kind (ids_before index.now.table.nodes.now index.now.table.pool.now target index.now.count)
+        (entries_from index.now.table.nodes.now index.now.table.pool.now index.now.count 0)) }
 {
-    let id = string(nodes, i, KEY, pool);
-    !known(nodes, count, pool, heads, nexts, slot(id), only, id)
-}
-
-fn first_unknown(
-    nodes: &[u32],
-    count: usize,
-    pool: &[u8],
-    heads: &[u32; MOST_NODES],
-    nexts: &[u32; MOST_NODES],
-    kind: usize,
-    only: usize,
-) -> Found
-    requires { (record_length * count ≤ length nodes.now) × Indexed nodes.now pool.now count heads.now nexts.now }
-    ensures { result ≡ found (found_unknown_target kind (ids_before nodes.now pool.now only count)
-        (entries_from nodes.now pool.now count 0)) }
-{
-    let mut i = 0;
-    while i < count {
-        if nodes[RECORD * i] as usize == kind {
-            if dangles(nodes, count, pool, heads, nexts, i, kind, only) {
-                return Found::At(i);
-            }
+    let nodes = index.table.nodes;
+    for i in 0..index.count {
+        if nodes[RECORD * i] as usize == kind && !index.knows(index.table.key(i), target) {
+            return Some(i);
         }
-        i += 1;
     }
-    Found::Nothing
+    None
 }
 
 // How many children node `i` has: each begins where the one before ends.
@@ -162,25 +128,25 @@ fn child_count(nodes: &[u32], i: usize) -> usize
 }
 
 // How many names the head has among the children of node `t`, where there is a head.
-fn head_names(nodes: &[u32], t: usize) -> Found
+fn head_names(nodes: &[u32], t: usize) -> Option<usize>
     ensures { (ns : Nodes) → Family nodes.now t ns → result ≡ cells_found (cells_in ns) }
 {
     let end = word(nodes, t, END);
     if end <= t {
-        return Found::Nothing;
+        return None;
     }
     let mut at = t + 1;
     while at < end {
         if word(nodes, at, KIND) == HEAD {
-            return Found::At(child_count(nodes, at));
+            return Some(child_count(nodes, at));
         }
         let next = word(nodes, at, END);
         if next <= at {
-            return Found::Nothing;
+            return None;
         }
         at = next;
     }
-    Found::Nothing
+    None
 }
 
 // The first ancestor of node `i` that is no body.
@@ -207,66 +173,38 @@ fn row_differs(nodes: &[u32], i: usize) -> bool
     if word(nodes, t, KIND) != TABLE {
         return false;
     }
-    let names = head_names(nodes, t);
-    let Found::At(n) = names else {
-        return false;
-    };
-    n != child_count(nodes, i)
+    match head_names(nodes, t) {
+        Some(names) => names != child_count(nodes, i),
+        None => false,
+    }
 }
 
-fn first_bad_row(nodes: &[u32], count: usize) -> Found
-    requires { record_length * count ≤ length nodes.now }
-    ensures { (f : First) → Searched nodes.now count 0 f → result ≡ found f }
+fn first_bad_row(table: &Table) -> Option<usize>
+    ensures { (f : First) → Searched table.now.nodes.now table.now.count 0 f → result ≡ found f }
 {
-    let mut i = 0;
-    while i < count {
-        if nodes[RECORD * i] as usize == ROW {
-            if row_differs(nodes, i) {
-                return Found::At(i);
-            }
+    let nodes = table.nodes;
+    for i in 0..table.count {
+        if nodes[RECORD * i] as usize == ROW && row_differs(nodes, i) {
+            return Some(i);
         }
-        i += 1;
     }
-    Found::Nothing
+    None
 }
 
-// The check of the table of a document with `count` nodes.
-pub fn check_table(nodes: &[u32], count: usize, pool: &[u8]) -> Fault
-    requires { (count ≤ most_nodes) × (record_length * count ≤ length nodes.now) }
-    ensures { (d : Node) → BeginsWithTable nodes.now count pool.now d → (result.number ≡ check_number (check d)) × (result.node ≡ check_node (check d)) }
+// The check of the table of a document.
+pub fn check_table(table: &Table) -> Result<(), Fault>
+    requires { table.now.count ≤ most_nodes }
+    ensures { (d : Node) → BeginsWithTable table.now.nodes.now table.now.count table.now.pool.now d → checked result ≡ check d }
 {
-    let row = first_bad_row(nodes, count);
-    if let Found::At(i) = row {
-        return Fault {
-            number: ROW_LENGTH,
-            node: i,
-        };
-    }
-    let mut heads = [0u32; MOST_NODES];
-    let mut nexts = [0u32; MOST_NODES];
-    let id = first_repeated(nodes, count, pool, &mut heads, &mut nexts);
-    if let Found::At(i) = id {
-        return Fault {
-            number: REPEATED_ID,
-            node: i,
-        };
-    }
-    let link = first_unknown(nodes, count, pool, &heads, &nexts, LINK, ANY);
-    if let Found::At(i) = link {
-        return Fault {
-            number: UNKNOWN_TARGET,
-            node: i,
-        };
-    }
-    let note = first_unknown(nodes, count, pool, &heads, &nexts, FOOTNOTE_REF, FOOTNOTE);
-    if let Found::At(i) = note {
-        return Fault {
-            number: UNKNOWN_FOOTNOTE,
-            node: i,
-        };
-    }
-    Fault {
-        number: OK,
-        node: 0,
-    }
+    kept(Rule::RowLength, first_bad_row(table))?;
+    let mut index = IdIndex::new(*table);
+    kept(Rule::RepeatedId, first_repeated(&mut index))?;
+    kept(
+        Rule::UnknownTarget,
+        first_unknown(&index, LINK, Target::Block),
+    )?;
+    kept(
+        Rule::UnknownFootnote,
+        first_unknown(&index, FOOTNOTE_REF, Target::Footnote),
+    )
 }

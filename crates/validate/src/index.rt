@@ -1,91 +1,138 @@
 // An index of the ids of blocks, so that faults 16 to 18 take no pass over the nodes for each id.
-// Each id has a slot; there are as many slots as a table may have nodes. `heads` has the last node of each slot, and `nexts` the one before each node in its slot: its number + 1, or 0 for none.
-ghost use Rattle.std.specs.Prelude.{◌≡◌, ◌&&◌, ◌+◌, ◌<◌, set, get_or};
+ghost use Rattle.std.specs.Prelude.{◌≡◌, ◌&&◌, ◌+◌, ◌*◌, ◌<◌, ◌≤◌, Bool, false, length};
 ghost use Rattle.base.specs.rules.Limits.{most_nodes};
+ghost use Rattle.document.specs.rules.Record.{record_length};
 ghost use Rattle.document.specs.rules.Record as Word;
 ghost use Rattle.document.specs.reference.Check.{is_among, holds_id};
 ghost use Rattle.table.specs.Stored.{word_at};
-ghost use Rattle.validate.specs.internal.TableWords.{entry_of_node, wanted, ids_before};
+ghost use Rattle.validate.specs.internal.TableWords.{entry_of_node, wanted, ids_before, repeats_at};
 ghost use Rattle.validate.specs.internal.IdIndex.{slot_of, Indexed};
 
-use base::equal;
+use super::lent::Table;
 use base::limit::MOST_NODES;
 use kind::Kind;
-use table::{KEY, KIND, string, word};
-
-// Stands for blocks of any kind. Blocks are the kinds from document to footnote.
-pub const ANY: usize = 0;
+use table::KIND;
 
 const DOCUMENT: usize = Kind::DOCUMENT.number as usize;
 
 const FOOTNOTE: usize = Kind::FOOTNOTE.number as usize;
 
+// What a reference may name: any block, and blocks are the kinds from document to footnote, or a footnote alone.
+#[derive(Clone, Copy, Debug, PartialEq, Eq)]
+pub enum Target {
+    Block,
+    Footnote,
+}
+
+impl Target {
+    // Whether it may be of this kind.
+    fn takes(self, kind: usize) -> bool
+        ensures { result ≡ wanted self kind }
+    {
+        match self {
+            Target::Block => DOCUMENT <= kind && kind <= FOOTNOTE,
+            Target::Footnote => kind == FOOTNOTE,
+        }
+    }
+}
+
+// The ids of the blocks among the first `count` nodes of a table. Each id has a slot; there are as many slots as a table may have nodes.
+// `heads` has the last node of each slot, and `nexts` the one before each node in its slot: its number + 1, or 0 for none.
+#[derive(Drop)]
+pub struct IdIndex<'a> {
+    pub table: Table<'a>,
+    pub count: usize,
+    heads: [u32; MOST_NODES],
+    nexts: [u32; MOST_NODES],
+    ghost few: { table.count ≤ most_nodes },
+    ghost within: { count ≤ table.count },
+    ghost indexed: { Indexed table.nodes.now table.pool.now count heads nexts },
+}
+
 // The slot of an id. Any function of the bytes would be right; this one spreads ids that differ little.
-pub fn slot(id: &[u8]) -> usize
-    ensures { result ≡ slot_of id.now }
+fn slot(id: &[u8]) -> usize
+    ensures { (result ≡ slot_of id.now) × (result < most_nodes) }
 {
     let mut h: usize = 5381;
-    let mut i = 0;
-    while i < id.len() {
-        h = (h * 33 + id[i] as usize) % 1048576;
-        i += 1;
+    for &b in id {
+        h = (h * 33 + b as usize) % 1048576;
     }
     h % MOST_NODES
 }
 
-// Whether node `i` is a block with an id, and of the kind `only` where that is not 0.
-pub fn has_id(nodes: &[u32], i: usize, pool: &[u8], only: usize) -> bool
-    ensures { result ≡ wanted only (word_at nodes.now i Word.kind) && holds_id (entry_of_node nodes.now pool.now i) }
+// Whether node `i` is such a block, and has an id.
+fn has_id(table: &Table, i: usize, target: Target) -> bool
+    ensures { result ≡ wanted target (word_at table.now.nodes.now i Word.kind) && holds_id (entry_of_node table.now.nodes.now table.now.pool.now i) }
 {
-    let kind = word(nodes, i, KIND);
-    if kind < DOCUMENT {
-        return false;
-    }
-    if FOOTNOTE < kind {
-        return false;
-    }
-    if only != ANY {
-        if only != kind {
-            return false;
-        }
-    }
-    string(nodes, i, KEY, pool).len() != 0
+    target.takes(table.word(i, KIND)) && !table.key(i).is_empty()
 }
 
-// Whether a string of slot `s` is the id of one of the first `count` nodes, which have entered:
-// blocks of the kind `only` or, where that is 0, of any.
-pub fn known(
-    nodes: &[u32],
-    count: usize,
-    pool: &[u8],
-    heads: &[u32; MOST_NODES],
-    nexts: &[u32; MOST_NODES],
-    s: usize,
-    only: usize,
-    id: &[u8],
-) -> bool
-    requires { (s ≡ slot_of id.now) × Indexed nodes.now pool.now count heads.now nexts.now }
-    ensures { result ≡ is_among id.now (ids_before nodes.now pool.now only count) }
-{
-    let mut j = heads[s] as usize;
-    while 0 < j {
-        let i = j - 1;
-        if has_id(nodes, i, pool, only) {
-            if equal(id, string(nodes, i, KEY, pool)) {
+impl<'a> IdIndex<'a> {
+    // No node has entered.
+    pub fn new(table: Table<'a>) -> IdIndex<'a>
+        requires { table.count ≤ most_nodes }
+        ensures { (result.table ≡ table.entry) × (result.count ≡ 0) }
+    {
+        IdIndex {
+            table,
+            count: 0,
+            heads: [0; MOST_NODES],
+            nexts: [0; MOST_NODES],
+        }
+    }
+
+    // Whether a string of slot `s` is the id of such a block among the nodes that have entered.
+    #[inline(always)]
+    fn known(&self, s: usize, id: &[u8], target: Target) -> bool
+        requires { (s ≡ slot_of id.now) × (s < most_nodes) }
+        ensures { result ≡ is_among id.now (ids_before self.now.table.nodes.now self.now.table.pool.now target self.now.count) }
+    {
+        let mut j = self.heads[s] as usize;
+        while 0 < j {
+            let i = j - 1;
+            if has_id(&self.table, i, target) && id == self.table.key(i) {
                 return true;
             }
+            j = self.nexts[i] as usize;
         }
-        j = nexts[i] as usize;
+        false
     }
-    false
-}
 
-// Node `i` becomes the last of slot `s`.
-pub fn enter(heads: &mut [u32; MOST_NODES], nexts: &mut [u32; MOST_NODES], s: usize, i: usize)
-    requires { (s < most_nodes) × (i < most_nodes) }
-    ensures { (nexts.new ≡ set nexts.old i (get_or heads.old s 0))
-        × (heads.new ≡ set heads.old s (i + 1)) }
-{
-    nexts[i] = heads[s];
-    heads[s] = (i + 1) as u32;
+    // The same of any string.
+    pub fn knows(&self, id: &[u8], target: Target) -> bool
+        ensures { result ≡ is_among id.now (ids_before self.now.table.nodes.now self.now.table.pool.now target self.now.count) }
+    {
+        self.known(slot(id), id, target)
+    }
+
+    // The next node has no id, and is passed.
+    pub fn pass(&mut self)
+        requires { (self.old.count < self.old.table.count) × (holds_id (entry_of_node self.old.table.nodes.now self.old.table.pool.now self.old.count) ≡ false) }
+        ensures { (self.new.table ≡ self.old.table) × (self.new.count ≡ self.old.count + 1) }
+    {
+        self.count += 1;
+    }
+
+    // 16: whether the next node is a block whose id is on an earlier block. If not, it enters.
+    pub fn repeats(&mut self) -> bool
+        requires { self.old.count < self.old.table.count }
+        ensures { (result ≡ repeats_at self.old.table.nodes.now self.old.table.pool.now self.old.count)
+            × (self.new.table ≡ self.old.table)
+            × (result ≡ false → self.new.count ≡ self.old.count + 1) }
+    {
+        let i = self.count;
+        if !has_id(&self.table, i, Target::Block) {
+            self.pass();
+            return false;
+        }
+        let id = self.table.key(i);
+        let s = slot(id);
+        if self.known(s, id, Target::Block) {
+            return true;
+        }
+        self.nexts[i] = self.heads[s];
+        self.heads[s] = (i + 1) as u32;
+        self.count = i + 1;
+        false
+    }
 }

@@ -1,9 +1,8 @@
-// Whether one record is that of a node (document 01, "The table").
-ghost use Rattle.std.specs.Prelude.{◌≡◌, List, ℕ, ◌+◌, ◌*◌, ◌≤◌, ◌<◌, length};
+// The record of a node, and whether it is that of one (document 01, "The table").
+ghost use Rattle.std.specs.Prelude.{◌≡◌, ◌+◌, ◌*◌, ◌≤◌, ◌<◌, length, take, drop, MatchOption};
 ghost use Rattle.document.specs.rules.Record.{record_length};
-ghost use Rattle.table.specs.Stored.{word_at, Recorded};
-ghost use Rattle.validate.specs.internal.DraftWalk.{Decided, NamesStringAt, RecordAt, TextAlone, ElementAt, value_levels};
 
+use super::lent::Table;
 use kind::Kind;
 use table::{
     END, HEIGHT, KEY, KEY_LENGTH, KIND, MISSING, PARENT, RECORD, TEXT, TEXT_LENGTH, TYPE,
@@ -18,101 +17,106 @@ const FIRST_KIND: u32 = Kind::DOCUMENT.number as u32;
 
 const LAST_KIND: u32 = Kind::CELL.number as u32;
 
-// The record of node `i`, which is there, so that its words are read without a test for each.
-pub fn words<'a>(nodes: &'a [u32], i: usize) -> &'a [u32]
-    requires { record_length * i + record_length ≤ length nodes.now }
-    ensures { Recorded nodes.now i result.now × (length result.now ≡ record_length) }
-{
-    let at = RECORD * i;
-    let end = at + RECORD;
-    &nodes[at..end]
+// The record of node `number`, which is there, so that its words are read without a test for each.
+#[derive(Clone, Copy)]
+pub struct Row<'a> {
+    pub table: &'a Table<'a>,
+    pub number: usize,
+    pub words: &'a [u32; RECORD],
+    ghost within: { number < table.now.count },
+    ghost recorded: { take record_length (drop (record_length * number) table.now.nodes.now) ≡ words.now },
 }
 
-// Whether a string of two words stands at `p`, within a pool of that size.
-pub fn string_stands(offset: u32, length: u32, p: usize, size: usize) -> bool
-    requires { p ≤ size }
-    ensures { (words : List ℕ) (i j : ℕ) → offset ≡ word_at words i j → length ≡ word_at words i (j + 1)
-        → Decided (NamesStringAt words i j p size) result }
-{
-    if length == 0 {
-        return offset == 0;
-    }
-    if size - p < length as usize {
-        return false;
-    }
-    offset as usize == p
-}
+impl<'a> Row<'a> {
+    ghost use Rattle.table.specs.Stored.{word_at};
+    ghost use Rattle.validate.specs.internal.DraftWalk.{Decided, DecidesEnd, NamesStringAt, strings_end, RecordAt, TextAlone, ElementAt, value_levels};
 
-// Whether a record has this parent, and its strings stand from `p` on.
-pub fn stands(r: &[u32], size: usize, parent: usize, p: usize) -> bool
-    requires { (length r.now ≡ record_length) × (p ≤ size) }
-    ensures { (words : List ℕ) (i : ℕ) → Recorded words i r.now → Decided (RecordAt words size i parent p) result }
-{
-    if r[PARENT] as usize != parent {
-        return false;
-    }
-    if !string_stands(r[KEY], r[KEY_LENGTH], p, size) {
-        return false;
-    }
-    let type_at = p + r[KEY_LENGTH] as usize;
-    if !string_stands(r[TYPE], r[TYPE_LENGTH], type_at, size) {
-        return false;
-    }
-    let text_at = type_at + r[TYPE_LENGTH] as usize;
-    string_stands(r[TEXT], r[TEXT_LENGTH], text_at, size)
-}
-
-// Whether a record has this parent and end, a text, and no other string and no size.
-pub fn text_alone(r: &[u32], parent: usize, end: usize) -> bool
-    requires { length r.now ≡ record_length }
-    ensures { (words : List ℕ) (i : ℕ) → Recorded words i r.now → Decided (TextAlone words i parent end) result }
-{
-    (r[PARENT] as usize == parent)
-        & (r[END] as usize == end)
-        & (r[KEY] == 0)
-        & (r[KEY_LENGTH] == 0)
-        & (r[TYPE] == 0)
-        & (r[TYPE_LENGTH] == 0)
-        & (r[TEXT_LENGTH] != 0)
-        & (r[WIDTH] == MISSING_WORD)
-        & (r[HEIGHT] == MISSING_WORD)
-}
-
-// The levels of an element's values.
-pub fn value_levels(r: &[u32]) -> usize
-    requires { length r.now ≡ record_length }
-    ensures { (words : List ℕ) (i : ℕ) → Recorded words i r.now → result ≡ value_levels words i }
-{
-    if r[WIDTH] != MISSING_WORD {
-        return 1;
-    }
-    if r[KEY_LENGTH] != 0 {
-        return 1;
-    }
-    if r[TYPE_LENGTH] != 0 {
-        return 1;
-    }
-    0
-}
-
-// Whether a record may be that of an element that nests at most `left` levels; its values nest `levels`.
-pub fn element_fits(r: &[u32], levels: usize, left: usize) -> bool
-    requires { length r.now ≡ record_length }
-    ensures { (words : List ℕ) (i : ℕ) → Recorded words i r.now → levels ≡ value_levels words i → Decided (ElementAt words i left) result }
-{
-    if r[KIND] < FIRST_KIND {
-        return false;
-    }
-    if LAST_KIND < r[KIND] {
-        return false;
-    }
-    if r[TEXT_LENGTH] != 0 {
-        return false;
-    }
-    if r[WIDTH] == MISSING_WORD {
-        if r[HEIGHT] != MISSING_WORD {
-            return false;
+    // The record of node `i`, where the table has it.
+    pub fn of(table: &'a Table<'a>, i: usize) -> Option<Row<'a>>
+        ensures { MatchOption result (table.now.count ≤ i) (λ r. (r.table.now ≡ table.now) × (r.number ≡ i)) }
+    {
+        if table.count <= i {
+            return None;
         }
+        let at = RECORD * i;
+        let end = at + RECORD;
+        let words = table.nodes[at..end].first_chunk().unwrap();
+        Some(Row {
+            table,
+            number: i,
+            words,
+        })
     }
-    levels < left
+
+    // Where the string ends that words `j` and `j + 1` name, if it stands at `p` in the pool.
+    pub fn string_end(&self, j: usize, p: usize) -> Option<usize>
+        requires { (j + 1 < record_length) × (p ≤ length self.now.table.now.pool.now) }
+        ensures { DecidesEnd (NamesStringAt self.now.table.now.nodes.now self.now.number j p (length self.now.table.now.pool.now))
+            (p + word_at self.now.table.now.nodes.now self.now.number (j + 1)) result }
+    {
+        let offset = self.words[j] as usize;
+        let length = self.words[j + 1] as usize;
+        // most strings are missing
+        if length == 0 {
+            return if offset == 0 { Some(p) } else { None };
+        }
+        if offset != p {
+            return None;
+        }
+        if self.table.pool.len() - p < length {
+            return None;
+        }
+        Some(p + length)
+    }
+
+    // Where its strings end, if it has this parent and they stand from `p` on.
+    pub fn strings_end(&self, parent: usize, p: usize) -> Option<usize>
+        requires { p ≤ length self.now.table.now.pool.now }
+        ensures { DecidesEnd (RecordAt self.now.table.now.nodes.now (length self.now.table.now.pool.now) self.now.number parent p)
+            (strings_end self.now.table.now.nodes.now self.now.number p) result }
+    {
+        if self.words[PARENT] as usize != parent {
+            return None;
+        }
+        let key_end = self.string_end(KEY, p)?;
+        let type_end = self.string_end(TYPE, key_end)?;
+        self.string_end(TEXT, type_end)
+    }
+
+    // Whether it has this parent and end, a text, and no other string and no size.
+    pub fn text_alone(&self, parent: usize, end: usize) -> bool
+        ensures { Decided (TextAlone self.now.table.now.nodes.now self.now.number parent end) result }
+    {
+        let r = self.words;
+        (r[PARENT] as usize == parent)
+            & (r[END] as usize == end)
+            & (r[KEY] == 0)
+            & (r[KEY_LENGTH] == 0)
+            & (r[TYPE] == 0)
+            & (r[TYPE_LENGTH] == 0)
+            & (r[TEXT_LENGTH] != 0)
+            & (r[WIDTH] == MISSING_WORD)
+            & (r[HEIGHT] == MISSING_WORD)
+    }
+
+    // The levels of an element's values.
+    pub fn value_levels(&self) -> usize
+        ensures { result ≡ value_levels self.now.table.now.nodes.now self.now.number }
+    {
+        let r = self.words;
+        let none = (r[KEY_LENGTH] == 0) & (r[TYPE_LENGTH] == 0) & (r[WIDTH] == MISSING_WORD);
+        if none { 0 } else { 1 }
+    }
+
+    // Whether it may be that of an element that nests at most `left` levels.
+    pub fn element_fits(&self, left: usize) -> bool
+        ensures { Decided (ElementAt self.now.table.now.nodes.now self.now.number left) result }
+    {
+        let r = self.words;
+        (FIRST_KIND <= r[KIND])
+            & (r[KIND] <= LAST_KIND)
+            & (r[TEXT_LENGTH] == 0)
+            & ((r[WIDTH] != MISSING_WORD) | (r[HEIGHT] == MISSING_WORD))
+            & (self.value_levels() < left)
+    }
 }

@@ -1,15 +1,15 @@
 // The values of an element: id or target, size, type (document 01, "Elements").
-ghost use Rattle.std.specs.Prelude.{◌≡◌, ◌&&◌, List, ℕ, ◌+◌, ◌*◌, ◌≤◌, length};
-ghost use Rattle.document.specs.rules.Record.{record_length};
+ghost use Rattle.std.specs.Prelude.{◌≡◌, ◌&&◌, List, ℕ, ◌≤◌, MatchOption};
 ghost use Rattle.elements.specs.rules.Class as Class;
+ghost use Rattle.elements.specs.rules.Inside.{step, go, bad};
+ghost use Rattle.inside.specs.Machine.{state_of};
 ghost use Rattle.elements.specs.rules.Characters.{character_of};
 ghost use Rattle.characters.specs.Codes.{alphabet_number};
 ghost use Rattle.document.specs.rules.Value.{is_value, non_empty, every};
 ghost use Rattle.document.specs.rules.Canonical.{value_before, size_before};
-ghost use Rattle.validate.specs.internal.DraftWalk.{TakesValues, node_values};
+ghost use Rattle.validate.specs.internal.DraftWalk.{TakesValues, row_values};
 
-use super::OK;
-use super::record::words;
+use super::record::Row;
 use characters::{Alphabet, character};
 use inside::step;
 use kind::{Keyword, Kind};
@@ -18,11 +18,12 @@ use table::{HEIGHT, KEY, KEY_LENGTH, MISSING, TYPE, TYPE_LENGTH, WIDTH, key_clas
 // A width or a height: "at most 65,535 each".
 const MOST_SIZE: usize = 65535;
 
-// Whether what stands before the rest is taken, and the state after it.
-#[derive(Clone, Copy)]
-pub struct Taken {
-    pub ok: bool,
-    pub state: u8,
+// The state after an expression of a class, where it is taken.
+pub fn state_after(kind: u8, state: u8, class: u8) -> Option<u8>
+    ensures { MatchOption result ((fault : ℕ) × (step kind (state_of kind state) class ≡ bad fault))
+        (λ next. step kind (state_of kind state) class ≡ go (state_of kind next)) }
+{
+    step(kind, state, class).ok()
 }
 
 // Whether all bytes are characters of an alphabet.
@@ -52,67 +53,51 @@ fn sort(kind: u8, class: u8) -> Alphabet
     Alphabet::Uri
 }
 
-// A value, where it is there.
-fn take_value(kind: u8, state: u8, class: u8, bytes: &[u8]) -> Taken
+// The state after a value, where it is there.
+fn take_value(kind: u8, state: u8, class: u8, bytes: &[u8]) -> Option<u8>
     requires { (Class.id ≤ class) × (class ≤ Class.target) }
-    ensures { TakesValues kind (value_before class bytes.now) state result.ok result.state }
+    ensures { TakesValues kind (value_before class bytes.now) state result }
 {
-    if bytes.len() == 0 {
-        return Taken { ok: true, state };
+    if bytes.is_empty() {
+        return Some(state);
     }
-    let taken = step(kind, state, class);
-    if taken.fault != OK {
-        return Taken { ok: false, state };
-    }
-    Taken {
-        ok: fits(bytes, sort(kind, class)),
-        state: taken.state,
+    let next = state_after(kind, state, class)?;
+    if fits(bytes, sort(kind, class)) {
+        Some(next)
+    } else {
+        None
     }
 }
 
-// A size, where it is there.
-fn take_size(kind: u8, state: u8, width: usize, height: usize) -> Taken
-    ensures { TakesValues kind (size_before width height) state result.ok result.state }
+// The state after a size, where it is there.
+fn take_size(kind: u8, state: u8, width: usize, height: usize) -> Option<u8>
+    ensures { TakesValues kind (size_before width height) state result }
 {
     if width == MISSING {
-        return Taken { ok: true, state };
+        return Some(state);
     }
     if MOST_SIZE < width {
-        return Taken { ok: false, state };
+        return None;
     }
     if MOST_SIZE < height {
-        return Taken { ok: false, state };
+        return None;
     }
-    let taken = step(kind, state, Keyword::SIZE.number);
-    Taken {
-        ok: taken.fault == OK,
-        state: taken.state,
-    }
+    state_after(kind, state, Keyword::SIZE.number)
 }
 
-// The values of node `i` of a kind, "id before type".
-pub fn values(nodes: &[u32], pool: &[u8], i: usize, kind: u8, state: u8) -> Taken
-    requires { record_length * i + record_length ≤ length nodes.now }
-    ensures { TakesValues kind (node_values nodes.now pool.now kind i) state result.ok result.state }
+// The state after the values of an element of a kind, "id before type".
+pub fn values(row: &Row, kind: u8, state: u8) -> Option<u8>
+    ensures { TakesValues kind (row_values row.now kind) state result }
 {
-    let r = words(nodes, i);
-    let bytes = part(pool, r[KEY] as usize, r[KEY_LENGTH] as usize);
-    let key = take_value(kind, state, key_class(kind as usize), bytes);
-    if !key.ok {
-        return Taken { ok: false, state };
-    }
-    let size = take_size(kind, key.state, r[WIDTH] as usize, r[HEIGHT] as usize);
-    if !size.ok {
-        return Taken { ok: false, state };
-    }
+    let r = row.words;
+    let pool = row.table.pool;
+    let key = part(pool, r[KEY] as usize, r[KEY_LENGTH] as usize);
+    let after_key = take_value(kind, state, key_class(kind as usize), key)?;
+    let after_size = take_size(kind, after_key, r[WIDTH] as usize, r[HEIGHT] as usize)?;
     // most elements have no type
     if r[TYPE_LENGTH] == 0 {
-        return size;
+        return Some(after_size);
     }
-    take_value(
-        kind,
-        size.state,
-        Keyword::TYPE.number,
-        part(pool, r[TYPE] as usize, r[TYPE_LENGTH] as usize),
-    )
+    let typename = part(pool, r[TYPE] as usize, r[TYPE_LENGTH] as usize);
+    take_value(kind, after_size, Keyword::TYPE.number, typename)
 }

@@ -1,5 +1,5 @@
 -- Definitions that serve the contracts of private functions: what the words of a table say of its nodes, whatever words they are.
-use Rattle.std.specs.Prelude.{ℕ, zero, suc, ◌+◌, ◌<◌, ◌≡◌, Bool, not, cond, ◌&&◌, List, [], ◌∷◌, eqb}
+use Rattle.std.specs.Prelude.{ℕ, zero, suc, ◌+◌, ◌<◌, ◌≡◌, Bool, cond, ◌&&◌, List, [], ◌∷◌, eqb, Option, Some, None}
 use Rattle.elements.specs.rules.Class as Class
 use Rattle.document.specs.rules.Record as Word
 use Rattle.document.specs.rules.Document.{Node, node, Nodes, childless, child}
@@ -7,8 +7,8 @@ use Rattle.document.specs.rules.Table.{count, count_all}
 use Rattle.document.specs.reference.Check.{First, nowhere, at_node, Cells, any_number, exactly, cells_in, differs, Entry, holds_id, is_among}
 use Rattle.document.specs.rules.Visits.{child_count}
 use Rattle.table.specs.Stored.{word_at, string_at}
-use Rattle.validate.specs.declared.faults.Found.{Found}
-use Rattle.validate.specs.declared.faults.Found.TheVariants.{At, Nothing}
+use Rattle.validate.specs.declared.index.Target.{Target}
+use Rattle.validate.specs.declared.index.Target.TheVariants.{Block, Footnote}
 
 -- The id or target of node i.
 abbrev pub key_at : List ℕ → List ℕ → ℕ → List ℕ
@@ -22,32 +22,29 @@ unfoldable pub entries_from : List ℕ → List ℕ → ℕ → ℕ → List Ent
 entries_from words bytes zero i = []
 entries_from words bytes (suc n) i = entry_of_node words bytes i ∷ entries_from words bytes n (suc i)
 
--- A kind, or 0 for that of any block.
-abbrev pub wanted : ℕ → ℕ → Bool
-wanted only k = cond (eqb only 0) (Class.is_block k) (eqb only k)
+-- A target may be of kind k.
+abbrev pub wanted : Target → ℕ → Bool
+wanted Block k = Class.is_block k
+wanted Footnote k = eqb Class.footnote k
 
--- The ids of the first n nodes, the last first.
-unfoldable pub ids_before : List ℕ → List ℕ → ℕ → ℕ → List (List ℕ)
-ids_before words bytes only zero = []
-ids_before words bytes only (suc n) =
-    cond (wanted only (word_at words n Word.kind) && holds_id (entry_of_node words bytes n)) (key_at words bytes n ∷ ids_before words bytes only n)
-    (ids_before words bytes only n)
+-- The ids of such blocks among the first n nodes, the last first.
+unfoldable pub ids_before : List ℕ → List ℕ → Target → ℕ → List (List ℕ)
+ids_before words bytes target zero = []
+ids_before words bytes target (suc n) =
+    cond (wanted target (word_at words n Word.kind) && holds_id (entry_of_node words bytes n))
+    (key_at words bytes n ∷ ids_before words bytes target n) (ids_before words bytes target n)
 
 -- Node i is a block whose id is on an earlier block.
 abbrev pub repeats_at : List ℕ → List ℕ → ℕ → Bool
-repeats_at words bytes i = holds_id (entry_of_node words bytes i) && is_among (key_at words bytes i) (ids_before words bytes 0 i)
+repeats_at words bytes i = holds_id (entry_of_node words bytes i) && is_among (key_at words bytes i) (ids_before words bytes Block i)
 
--- Node i is of kind k, and its target none of these ids.
-abbrev pub dangles_at : List ℕ → List ℕ → ℕ → List (List ℕ) → ℕ → Bool
-dangles_at words bytes k ids i = eqb (word_at words i Word.kind) k && not (is_among (key_at words bytes i) ids)
+unfoldable pub found : First → Option ℕ
+found nowhere = None
+found (at_node i) = Some i
 
-unfoldable pub found : First → Found
-found nowhere = Nothing
-found (at_node i) = At i
-
-unfoldable pub cells_found : Cells → Found
-cells_found any_number = Nothing
-cells_found (exactly n) = At n
+unfoldable pub cells_found : Cells → Option ℕ
+cells_found any_number = None
+cells_found (exactly n) = Some n
 
 -- The words say the kinds, parents and ends of the node with number i, and of these nodes from number i on, children of node p.
 unfoldable mutual

@@ -1,60 +1,56 @@
 -- `draft::is_table` meets its contract.
 use native.Mathlib.Omega.{arith}
-use mathlib.Core.Path.{◌≡◌, sym, ◌∙◌}
-use mathlib.Core.Bool.{true≢false}
+use mathlib.Core.Path.{refl, sym, ◌∙◌}
 use lib.Dec.{eqb}
-use Prim.Native.Nat.{◌/◌}
-use lib.ListN.{length}
-use borrow.Author.Tests.{not-true, not-false, eqb-true, eqb-false}
-use Rattle.document.specs.rules.Record.{record_length}
-use Rattle.elements.specs.rules.Class as Class
-use Rattle.table.specs.Stored.{word_at}
-use Rattle.validate.proofs.lemmas.records.RecordTests.{word_there}
+use borrow.Author.Tests.{eqb-true, eqb-false, ne_eqb}
+use Rattle.validate.proofs.lemmas.records.Decided.{refused_none, the_numbers}
+use Rattle.validate.proofs.lemmas.records.RecordTests.{row_word}
+use Rattle.validate.proofs.lemmas.draft.ChildWalk.{node_forward, of_node, word_of_node}
 use Rattle.validate.proofs.lemmas.draft.DraftRoot.{draft_told, no_draft}
 use Rattle.validate.proofs.draft.is_table.Goals as goal
 
-pub returns-then-nodes-gt-MOST_WORDS : goal.returns-then-nodes-gt-MOST_WORDS
-returns-then-nodes-gt-MOST_WORDS c = no_draft (λ e q r. omega (arith, c.if-nodes-gt-MOST_WORDS.true, r.few_words))
+pub returns-then-table-gt-MOST_NODES : goal.returns-then-table-gt-MOST_NODES
+returns-then-table-gt-MOST_NODES c =
+    let table = c.args.table.now in
+    no_draft (λ e q r. omega (arith, c.if-table-gt-MOST_NODES.true, r.few_words, r.all_words, table.whole))
 
-pub returns-then-pool-gt-MOST_BYTES : goal.returns-then-pool-gt-MOST_BYTES
-returns-then-pool-gt-MOST_BYTES c = no_draft (λ e q r. omega (arith, c.if-pool-gt-MOST_BYTES.true, r.few_bytes))
+pub returns-in_default : goal.returns-in_default
+returns-in_default c =
+    let table = c.args.table.now in
+    no_draft (λ e q r. omega (arith, c.in_default.ensures, r.all_words, table.whole, node_forward r.root))
 
-pub returns-then-nodes-ne0 : goal.returns-then-nodes-ne0
-returns-then-nodes-ne0 c = no_draft (λ e q r. c.if-nodes-ne0.true (omega (arith, r.all_words)))
+pub returns-then-root : goal.returns-then-root
+returns-then-root c =
+    let (table, number) = c.in-Some.ensures in
+    no_draft (λ e q r. c.if-root.true (word_of_node c.in-Some.root table number 0 (omega arith) ∙ r.of_kind))
 
-pub returns-then-word : goal.returns-then-word
-returns-then-word c = no_draft (λ e q r. c.if-word.true (c.word.ensures ∙ r.of_kind))
+pub element-requires : goal.element-requires
+element-requires c = (omega arith, λ t. omega (arith, row_word c.in-Some.root 0 (omega arith), c.if-root.false))
 
-pub element-w-requires : goal.element-w-requires
-element-w-requires c = let args = c.args in
-    let word = c.word in
-    let kind : word_at args.nodes.now 0 0 ≡ Class.document = sym word.ensures ∙ c.if-word.false in
-    (omega (arith, word_there args.nodes.now 0 0 (omega arith)), omega arith, λ t. omega arith)
-
-pub returns-then-not-w : goal.returns-then-not-w
-returns-then-not-w c = no_draft (λ e q r. true≢false (sym (c.element-w.ensures.complete e q r.root).0 ∙ not-true _ c.if-not-w.true))
-
-pub returns-then-w-pool : goal.returns-then-w-pool
-returns-then-w-pool c = no_draft (λ e q r. c.if-w-pool.true ((c.element-w.ensures.complete e q r.root).2 ∙ sym r.all_bytes))
-
-pub returns : goal.returns
-returns c = let args = c.args in
-    let if1 = c.if-nodes-gt-MOST_WORDS in
-    let if2 = c.if-pool-gt-MOST_BYTES in
-    let if3 = c.if-nodes-ne0 in
-    let word = c.word in
-    let if4 = c.if-word in
-    let element = c.element-w in
-    let if5 = c.if-not-w in
-    let next = element.result.next in
-    let count = length args.nodes.now / record_length in
-    draft_told (eqb next count)
+pub returns-then-w-table : goal.returns-then-w-table
+returns-then-w-table c =
+    let lent = c.args.table.now in
+    let (table, number) = c.in-Some.ensures in
+    let w = c.in-Some-element.w in
+    let d = of_node c.in-Some.root table number c.in-Some-element.ensures in
+    draft_told (eqb w.next lent.count)
     (λ t. record {
-      root = element.ensures.sound (not-false _ if5.false);
-      of_kind = sym word.ensures ∙ if4.false;
-      all_words = omega (arith, eqb-true next count t, if3.false);
-      all_bytes = sym c.if-w-pool.false;
-      few_words = if1.false;
-      few_bytes = if2.false;
+      root = d.sound w refl;
+      of_kind = sym (word_of_node c.in-Some.root table number 0 (omega arith)) ∙ c.if-root.false;
+      all_words = omega (arith, eqb-true w.next lent.count t, lent.whole);
+      all_bytes = sym c.if-w-table.true;
+      few_words = omega (arith, c.if-table-gt-MOST_NODES.false, lent.whole);
+      few_bytes = c.if-table-gt-MOST_BYTES.false;
     })
-    (λ t e q r. eqb-false next count t ((element.ensures.complete e q r.root).1 ∙ omega (arith, r.all_words)))
+    (λ t e q r. eqb-false w.next lent.count t ((the_numbers d r.root).0 ∙ omega (arith, r.all_words, lent.whole)))
+
+pub returns-else-w-table : goal.returns-else-w-table
+returns-else-w-table c =
+    let (table, number) = c.in-Some.ensures in
+    let d = of_node c.in-Some.root table number c.in-Some-element.ensures in
+    rw (ne_eqb _ _ c.if-w-table.false) (no_draft (λ e q r. c.if-w-table.false ((the_numbers d r.root).1 ∙ sym r.all_bytes)))
+
+pub returns-in-None : goal.returns-in-None
+returns-in-None c =
+    let (table, number) = c.in-Some.ensures in
+    no_draft (λ e q r. refused_none (of_node c.in-Some.root table number c.in-None.ensures) e q r.root)

@@ -1,65 +1,40 @@
 -- `draft::text_node` meets its contract.
 use native.Mathlib.Omega.{arith}
-use Prim.Native.Nat.{◌+◌, ◌-◌}
-use mathlib.Core.Path.{◌≡◌}
-use lib.ListN.{get_or}
+use Prim.Native.Nat.{◌-◌}
+use mathlib.Core.Path.{◌≡◌, ◌∙◌, sym}
+use borrow.Author.Tests.{eq-eqb, ne_eqb}
 use Rattle.document.specs.reference.Printing.{part}
 use Rattle.table.specs.Stored.{word_at}
-use Rattle.validate.proofs.lemmas.records.Decided.{not_held, decides_none}
-use Rattle.validate.proofs.lemmas.records.RecordTests.{word_in}
-use Rattle.validate.proofs.lemmas.draft.LawfulNodes.{text_record, text_valid, text_decides}
+use Rattle.validate.proofs.lemmas.records.Decided.{not_held, no_end, the_end}
+use Rattle.validate.proofs.lemmas.records.RecordTests.{row_word, row_whole}
+use Rattle.validate.proofs.lemmas.draft.LawfulNodes.{text_valid, text_taken, text_refused}
 use Rattle.validate.proofs.draft.text_node.Goals as goal
 
 pub returns-then-not-text_alone : goal.returns-then-not-text_alone
-returns-then-not-text_alone c = let pre = c.requires in
-    let words = c.words-r in
-    let text-alone = c.text_alone in
-    λ left.
-    decides_none c.refused.ensures
-    (λ e q a. not_held (text-alone.ensures _ _ words.ensures.0) (c.if-not-text_alone.true)
-    (text_record _ _ _ _ _ pre.2 pre.1 a).0.alone)
+returns-then-not-text_alone c = λ left. text_refused _ _ _ _ _ c.requires.1 c.requires.0 (λ t. not_held c.text_alone.ensures c.if-not-text_alone.true t.alone)
 
-pub returns-then-not-string_stands : goal.returns-then-not-string_stands
-returns-then-not-string_stands c = let pre = c.requires in
-    let words = c.words-r in
-    let string_stands = c.string_stands in
-    λ left.
-    let r = words.ensures.0 in
-    let text = string_stands.ensures _ _ 7 (word_in _ _ _ 7 r (omega arith)) (word_in _ _ _ 8 r (omega arith)) in
-    decides_none c.refused-then-not-string_stands.ensures
-    (λ e q a. not_held text (c.if-not-string_stands.true) (text_record _ _ _ _ _ pre.2 pre.1 a).0.text_at)
+pub returns-in_err-end : goal.returns-in_err-end
+returns-in_err-end c = λ left.
+    rw c.from_residual.ensures (text_refused _ _ _ _ _ c.requires.1 c.requires.0 (λ t. no_end c.in_err-end.ensures t.text_at))
 
-pub overflow_cast-size : goal.overflow_cast-size
-overflow_cast-size c = omega (arith, c.shared_slice_known-5-1.given 8)
-
-pub overflow_add-end : goal.overflow_add-end
-overflow_add-end c = let words = c.words-r in
-    let string_stands = c.string_stands in
-    let r = words.ensures.0 in
-    let text = string_stands.ensures _ _ 7 (word_in _ _ _ 7 r (omega arith)) (word_in _ _ _ 8 r (omega arith)) in
-    omega (arith, word_in _ _ _ 8 r (omega arith), (text.sound (c.if-not-string_stands.false)).within)
-
-pub slice_bounds-valid_up_to-end : goal.slice_bounds-valid_up_to-end
-slice_bounds-valid_up_to-end c = let words = c.words-r in
-    let string_stands = c.string_stands in
-    let r = words.ensures.0 in
-    let text = string_stands.ensures _ _ 7 (word_in _ _ _ 7 r (omega arith)) (word_in _ _ _ 8 r (omega arith)) in
-    omega (arith, word_in _ _ _ 8 r (omega arith), (text.sound (c.if-not-string_stands.false)).within)
+pub returns-then-valid_up_to-row : goal.returns-then-valid_up_to-row
+unfolding part
+returns-then-valid_up_to-row c = λ left.
+    let row = c.args.row.now in
+    let size = row_word row 8 (omega arith) in
+    let alone = c.text_alone.ensures.sound c.if-not-text_alone.false in
+    let (text, end) = the_end c.in_ok-end.ensures in
+    let same : c.in_ok-end.end - c.args.at ≡ word_at row.table.now.nodes.now row.number 8 = omega arith in
+    let valid = text_valid _ _ _ _ _ alone text (rw same at c.valid_up_to.ensures) in
+    text_refused _ _ _ _ _ c.requires.1 c.requires.0 (not_held valid (ne_eqb _ _ (λ e. c.if-valid_up_to-row.true (e ∙ sym size))))
 
 pub returns : goal.returns
 unfolding part
-returns c = let args = c.args in
-    let pre = c.requires in
-    let words = c.words-r in
-    let text-alone = c.text_alone in
-    let if1 = c.if-not-text_alone in
-    let string_stands = c.string_stands in
-    let if2 = c.if-not-string_stands in
-    λ left.
-    let r = words.ensures.0 in
-    let size = word_in _ _ _ 8 r (omega arith) in
-    let alone = (text-alone.ensures _ _ r).sound (if1.false) in
-    let text = (string_stands.ensures _ _ 7 (word_in _ _ _ 7 r (omega arith)) size).sound (if2.false) in
-    let same : args.at + get_or words.result.now 8 0 - args.at ≡ word_at args.nodes.now args.i 8 = omega (arith, size) in
-    rw size
-    (text_decides _ _ _ _ _ pre.2 pre.1 pre.0 (text_valid _ _ _ _ _ alone text (rw same at c.valid_up_to.ensures)))
+returns c = λ left.
+    let row = c.args.row.now in
+    let size = row_word row 8 (omega arith) in
+    let alone = c.text_alone.ensures.sound c.if-not-text_alone.false in
+    let (text, end) = the_end c.in_ok-end.ensures in
+    let same : c.in_ok-end.end - c.args.at ≡ word_at row.table.now.nodes.now row.number 8 = omega arith in
+    let valid = text_valid _ _ _ _ _ alone text (rw same at c.valid_up_to.ensures) in
+    text_taken _ _ _ _ _ c.requires.1 c.requires.0 (row_whole row) (valid.sound (eq-eqb _ _ (c.if-valid_up_to-row.false ∙ size))) end

@@ -1,62 +1,41 @@
--- `validate::check_table` meets its contract.
-use Rattle.validate.proofs.lemmas.faults.FirstFault.{answer_15, answer_16, answer_17, answer_18, answer_sound}
-use Rattle.validate.proofs.lemmas.index.SlotChains.{none_entered}
+-- `faults::check_table` meets its contract: a rule that is broken is answered, and one that holds leaves the answer to the later ones.
+use mathlib.Core.Path.{◌∙◌, sym, ap}
+use Rattle.std.proofs.lemmas.Result.{err_from_is_err_and}
+use Rattle.validate.specs.declared.faults.Rule.TheVariants.{RepeatedId}
+use Rattle.validate.specs.internal.CheckNumbers.{checked}
+use Rattle.validate.proofs.lemmas.faults.FirstFault.{holds_nowhere, answer_15, answer_16, answer_17, answer_last}
 use Rattle.validate.proofs.faults.check_table.Goals as goal
 
-pub returns-in-At : goal.returns-in-At
-returns-in-At c = let first_bad_row = c.first_bad_row-row in
-    λ d h.
-    answer_15 _ _ _ d h _ first_bad_row.ensures c.in-At.i c.in-At.is
+pub returns-in_err-kept : goal.returns-in_err-kept
+returns-in_err-kept c = λ d h.
+    let p = err_from_is_err_and c.from_residual.result c.from_residual.ensures.1 in
+    rw (p.1, p.2) (answer_15 _ _ _ d h _ c.first_bad_row.ensures _ (sym c.kept.ensures ∙ c.in_err-kept.was))
 
-pub first_repeated-id-requires : goal.first_repeated-id-requires
-first_repeated-id-requires c = let pre = c.requires in
-    let args = c.args in
-    (pre.0, pre.1, none_entered args.nodes.now args.pool.now)
+pub returns-in_err-kept-2 : goal.returns-in_err-kept-2
+returns-in_err-kept-2 c = λ d h.
+    let p = err_from_is_err_and c.from_residual-in_err-kept-2.result c.from_residual-in_err-kept-2.ensures.1 in
+    rw (p.1, p.2)
+    (answer_16 _ _ _ d h _ c.first_bad_row.ensures _ (sym c.kept.ensures ∙ c.in_ok-kept.was) _
+    (rw c.new-index.ensures.0 at c.first_repeated.ensures.0) _ (sym c.kept-2.ensures ∙ c.in_err-kept-2.was))
 
-pub returns-in-At-id : goal.returns-in-At-id
-returns-in-At-id c = let first_bad_row = c.first_bad_row-row in
-    let first-repeated = c.first_repeated-id in
-    λ d h.
-    answer_16 _ _ _ d h _ first_bad_row.ensures c.in_default.is _
-    first-repeated.ensures.0 c.in-At-id.i c.in-At-id.is
-
-pub first_unknown-link-requires : goal.first_unknown-link-requires
-first_unknown-link-requires c = let pre = c.requires in
-    let first-repeated = c.first_repeated-id in
-    (pre.1, first-repeated.ensures.1 c.in_default-id.is)
-
-pub returns-in-At-link : goal.returns-in-At-link
-returns-in-At-link c = let first_bad_row = c.first_bad_row-row in
-    let first-repeated = c.first_repeated-id in
-    let first-unknown = c.first_unknown-link in
-    λ d h.
-    answer_17 _ _ _ d h _ first_bad_row.ensures c.in_default.is _
-    first-repeated.ensures.0 c.in_default-id.is _
-    first-unknown.ensures c.in-At-link.i c.in-At-link.is
-
-pub first_unknown-note-requires : goal.first_unknown-note-requires
-first_unknown-note-requires c = let pre = c.requires in
-    let first-repeated = c.first_repeated-id in
-    (pre.1, first-repeated.ensures.1 c.in_default-id.is)
-
-pub returns-in-At-note : goal.returns-in-At-note
-returns-in-At-note c = let first-unknown = c.first_unknown-link in
-    let first-unknown2 = c.first_unknown-note in
-    let first_bad_row = c.first_bad_row-row in
-    let first-repeated = c.first_repeated-id in
-    λ d h.
-    answer_18 _ _ _ d h _ first_bad_row.ensures c.in_default.is _
-    first-repeated.ensures.0 c.in_default-id.is _
-    first-unknown.ensures c.in_default-link.is _
-    first-unknown2.ensures c.in-At-note.i c.in-At-note.is
+pub returns-in_err-kept-3 : goal.returns-in_err-kept-3
+returns-in_err-kept-3 c = λ d h.
+    let p = err_from_is_err_and c.from_residual-in_err-kept-3.result c.from_residual-in_err-kept-3.ensures.1 in
+    let kept-2 = sym c.kept-2.ensures ∙ c.in_ok-kept-2.was in
+    let table = c.first_repeated.ensures.1 ∙ c.new-index.ensures.0 in
+    let count = rw c.new-index.ensures.0 at (c.first_repeated.ensures.2 (holds_nowhere RepeatedId _ _ kept-2)) in
+    rw (p.1, p.2)
+    (answer_17 _ _ _ d h _ c.first_bad_row.ensures _ (sym c.kept.ensures ∙ c.in_ok-kept.was) _
+    (rw c.new-index.ensures.0 at c.first_repeated.ensures.0) _ kept-2 _
+    (rw (table, count) at c.first_unknown.ensures) _ (sym c.kept-3.ensures ∙ c.in_err-kept-3.was))
 
 pub returns : goal.returns
-returns c = let first-unknown = c.first_unknown-link in
-    let first-unknown2 = c.first_unknown-note in
-    let first_bad_row = c.first_bad_row-row in
-    let first-repeated = c.first_repeated-id in
-    λ d h.
-    answer_sound _ _ _ d h _ first_bad_row.ensures c.in_default.is _
-    first-repeated.ensures.0 c.in_default-id.is _
-    first-unknown.ensures c.in_default-link.is _
-    first-unknown2.ensures c.in_default-note.is
+returns c = λ d h.
+    let kept-2 = sym c.kept-2.ensures ∙ c.in_ok-kept-2.was in
+    let table = c.first_repeated.ensures.1 ∙ c.new-index.ensures.0 in
+    let count = rw c.new-index.ensures.0 at (c.first_repeated.ensures.2 (holds_nowhere RepeatedId _ _ kept-2)) in
+    ap checked c.kept-4.ensures
+    ∙ answer_last _ _ _ d h _ c.first_bad_row.ensures _ (sym c.kept.ensures ∙ c.in_ok-kept.was) _
+    (rw c.new-index.ensures.0 at c.first_repeated.ensures.0) _ kept-2 _
+    (rw (table, count) at c.first_unknown.ensures) _ (sym c.kept-3.ensures ∙ c.in_ok-kept-3.was) _
+    (rw (table, count) at c.first_unknown-2.ensures)

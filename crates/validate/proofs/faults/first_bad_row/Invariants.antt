@@ -5,7 +5,4 @@ use Rattle.validate.specs.internal.TableWords.{Searched}
 use Rattle.validate.proofs.faults.first_bad_row.Given as goal
 
 abbrev pub invariant-loop-i : goal.invariant-loop-i
-invariant-loop-i l = (f : First) → Searched l.nodes l.count 0 f → Searched l.nodes (l.count - l.i) l.i f
-
-abbrev pub decreases-loop-i : goal.decreases-loop-i
-decreases-loop-i l = l.count - l.i
+invariant-loop-i l = (f : First) → Searched l.table.nodes.now l.table.count 0 f → Searched l.table.nodes.now (l.table.count - l.i) l.i f

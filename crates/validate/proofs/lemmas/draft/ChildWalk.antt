@@ -1,26 +1,34 @@
 -- The walk over an element's children: the end, one child, and the values.
 use Prim.Native.Nat.{ℕ, ◌+◌, ◌≤◌, ◌<◌}
-use mathlib.Core.Path.{◌≡◌, refl, sym, ap, ◌∙◌}
+use mathlib.Core.Path.{◌≡◌, refl, sym, ap, subst, ◌∙◌}
 use mathlib.Core.Bool.{Bool, true, false, cond, true≢false}
 use mathlib.Core.List.{List}
 use native.Mathlib.Omega.{arith}
 use lib.Dec.{T, eqb}
-use lib.ListN.{length, length-append, length-take, length-drop}
+use lib.ListN.{length, get_or, length-append, length-take, length-drop}
 use borrow.Author.Tests.{eqb-true}
+use Rattle.std.specs.Prelude.{Option, Some, None}
+use Rattle.std.proofs.lemmas.Option.{same_Some}
 use Rattle.base.proofs.Booleans.{cond_case, both, both_true, T_true, true_T}
 use Rattle.elements.specs.rules.Class as Class
 use Rattle.elements.specs.rules.Inside.{State, go, bad, step, ended}
-use Rattle.inside.specs.Machine.{state_of, step_of}
+use Rattle.inside.specs.Machine.{state_of}
 use Rattle.document.specs.rules.Document.{Tree, Trees, holds, tree_class, Node, node, Nodes, childless, child, is_node, says, say_all}
 use Rattle.document.specs.reference.RulesTest.{step_goes_on, keeps_rules, keep_rules}
+use Rattle.document.specs.rules.Record.{record_length}
 use Rattle.document.specs.rules.Table.{count, count_all, pool, pool_all}
 use Rattle.document.specs.rules.Canonical.{place_values, layout, layout_all, most_levels_in}
 use Rattle.document.proofs.NestedMeaning.{goes_on}
 use Rattle.table.specs.Stored.{word_at, Stored, StoredAll}
-use Rattle.validate.specs.internal.DraftWalk.{DecidesNext, behind_first, LawfulNodeAt, ChildrenAt, ChildTaken}
+use Rattle.validate.specs.declared.lent.Table.{Table}
+use Rattle.validate.specs.declared.record.Row.{Row}
+use Rattle.validate.specs.declared.draft.Walked.{Walked}
+use Rattle.validate.specs.declared.draft.Entered.{Entered}
+use Rattle.validate.specs.internal.DraftWalk.{DecidesNext, behind_first, LawfulNodeAt, LawfulRow, RowChildren, ChildTaken}
 use Rattle.table.proofs.Stored.{recorded_word, rows_stored}
 use Rattle.document.proofs.TableDetermines.{count_positive}
-use Rattle.validate.proofs.lemmas.records.Decided.{Same}
+use Rattle.validate.proofs.lemmas.records.RecordTests.{row_word}
+use Rattle.validate.proofs.lemmas.records.Decided.{decides_the, the_numbers, Same}
 use Rattle.validate.proofs.lemmas.draft.ValuePlaces.{layout_node}
 use Rattle.validate.proofs.lemmas.draft.LawfulNodes.{element_range}
 
@@ -62,10 +70,27 @@ unfolding place_values
 behind_child true W t ts = refl
 behind_child false W t ts = refl
 
-module _ (words bytes : List ℕ) (k i : ℕ) where
+-- What is decided of a row is decided of the node that it is of.
+pub of_node : (own : Row) {t : Table} {j : ℕ} → own.table.now ≡ t → own.number ≡ j → {parent p left : ℕ} {answer : Option Walked}
+    → DecidesNext (LawfulRow own parent p left) answer → DecidesNext (LawfulNodeAt t.nodes.now t.pool.now j parent p left) answer
+of_node own {t} {j} e f d = rw (← e, ← f) d
+
+pub word_of_node : (own : Row) {t : Table} {j : ℕ} → own.table.now ≡ t → own.number ≡ j → (n : ℕ) → n < record_length → get_or own.words.now n 0 ≡ word_at t.nodes.now j n
+word_of_node own {t} {j} e f n h = rw (← e, ← f) (row_word own n h)
+
+module _ (row : Row) (k : ℕ) where
+  abbrev words : List ℕ
+  words = row.table.now.nodes.now
+
+  abbrev bytes : List ℕ
+  bytes = row.table.now.pool.now
+
+  abbrev i : ℕ
+  i = row.number
+
   -- The nodes and the pool places of children that stand in the table.
   abbrev Kids : (Trees → Trees) → State → ℕ → ℕ → ℕ → ℕ → ℕ → ℕ → Type 0
-  Kids W s j p end left e q = ChildrenAt words bytes W k i s j p end left e q
+  Kids W s j p end left e q = RowChildren row W k s j p end left e q
 
   -- ---- the end
 
@@ -74,15 +99,22 @@ module _ (words bytes : List ℕ) (k i : ℕ) where
   no_children childless e = refl
   no_children (child n ns) e = absurd (omega (arith, count_positive n))
 
-  pub end_decides : {s : State} {j p end left : ℕ} → j ≡ end → DecidesNext (Kids (λ ts. ts) s j p end left) (ended k s) end p
+  ended_there : {s : State} {j p end left e q : ℕ} → j ≡ end → Kids (λ ts. ts) s j p end left e q → (ended k s ≡ true) × (end ≡ e) × (p ≡ q)
+  unfolding keeps_rules layout pool
+  ended_there {s} h c =
+      let none = no_children c.made (omega (arith, c.end_is)) in
+      (T_true (ended k s) (rw none at c.keep), sym c.next, omega (arith, rw none at c.after))
+
+  pub end_taken : {s : State} {j p end left : ℕ} → j ≡ end → ended k s ≡ true
+      → DecidesNext (Kids (λ ts. ts) s j p end left) (Some (record { next = end; pool = p }))
   unfolding keeps_rules StoredAll says layout count pool most_levels_in
-  end_decides {s} h =
-      record {
-        sound = λ e. record { made = childless; stored = tt; keep = true_T e; said = refl; levels = omega arith; end_is = omega arith; next = refl; after = omega arith };
-        complete = λ e q c.
-            let none = no_children c.made (omega (arith, c.end_is)) in
-            (T_true (ended k s) (rw none at c.keep), sym c.next, omega (arith, rw none at c.after));
-      }
+  end_taken {s} {j} {p} {end} {left} h t =
+      let there : Kids (λ ts. ts) s j p end left end p =
+      record { made = childless; stored = tt; keep = true_T t; said = refl; levels = omega arith; end_is = omega arith; next = refl; after = omega arith } in
+      decides_the (record { next = end; pool = p }) there (λ e q c. let (u, n, m) = ended_there h c in (n, m))
+
+  pub end_refused : {s : State} {j p end left e q : ℕ} → j ≡ end → ended k s ≡ false → Kids (λ ts. ts) s j p end left e q → ⊥
+  end_refused h f c = true≢false (sym (ended_there h c).0 ∙ f)
 
   pub end_passed : {W : Trees → Trees} {s : State} {j p end left e q : ℕ} → end ≤ j → (j ≡ end → ⊥) → Kids W s j p end left e q → ⊥
   end_passed h f c = f (omega (arith, c.end_is))
@@ -151,24 +183,27 @@ module _ (words bytes : List ℕ) (k i : ℕ) where
           after = simp length-append (omega (arith, c.rest.after, c.first.after));
         }
 
-    module _ {s : State} {j p end left : ℕ} {ok : Bool} {next place state : ℕ} (t : ChildTaken words bytes k i s j p left ok next place state) (h : j < end) where
+    module _ {s : State} {j p end left : ℕ} (h : j < end) where
       -- Where the child is taken, the others are left.
-      pub child_same : ok ≡ true → Same (Kids W (state_of k state) next place end left) (Kids W' s j p end left)
-      child_same o =
-          let (one, taken) = t.sound o in
+      pub child_same : {c : Entered} → ChildTaken row k s j p left (Some c) → Same (Kids W (state_of k c.state) c.next c.pool end left) (Kids W' s j p end left)
+      child_same {c} t =
+          let (one, taken) = t.sound c refl in
           record {
-            to = λ e q c. joined (record { state = state_of k state; next = next; place = place; first = one; taken = taken; rest = c });
-            from = λ e q c.
-                let d = first_and_rest h c in
-                let (u, n, m) = t.complete d.next d.place d.state d.first d.taken in
-                let same : d.state ≡ state_of k state = cc (taken, d.taken) in
-                rw (n, m, ← same) d.rest;
+            to = λ e q r. joined (record { state = state_of k c.state; next = c.next; place = c.pool; first = one; taken = taken; rest = r });
+            from = λ e q r.
+                let d = first_and_rest h r in
+                let (other, is, n, m) = t.complete d.next d.place d.state d.first d.taken in
+                let same : d.state ≡ state_of k c.state = cc (taken, d.taken) in
+                let next : c.next ≡ d.next = cc in
+                let pool : c.pool ≡ d.place = cc in
+                rw (next, pool, ← same) d.rest;
           }
 
-      pub child_none : ok ≡ false → (e q : ℕ) → Kids W' s j p end left e q → ⊥
-      child_none o e q c =
-          let d = first_and_rest h c in
-          true≢false (sym (t.complete d.next d.place d.state d.first d.taken).0 ∙ o)
+      pub child_none : ChildTaken row k s j p left None → (e q : ℕ) → Kids W' s j p end left e q → ⊥
+      child_none t e q r =
+          let d = first_and_rest h r in
+          let (other, is, n, m) = t.complete d.next d.place d.state d.first d.taken in
+          cc
 
   -- ---- the values
 
@@ -203,16 +238,19 @@ module _ (words bytes : List ℕ) (k i : ℕ) where
 
   -- ---- the answer of one child
 
-  module _ {s : State} {j p left : ℕ} {b : Bool} {n m : ℕ} (d : DecidesNext (LawfulNodeAt words bytes j i p left) b n m) where
-    pub child_refused : {state : ℕ} → b ≡ false → ChildTaken words bytes k i s j p left false 0 0 state
-    child_refused f =
-        record { sound = λ o. absurd (true≢false (sym o)); complete = λ e q s' a t. absurd (true≢false (sym (d.complete e q a).0 ∙ f)) }
+  module _ {s : State} {j p left : ℕ} where
+    pub child_missing : ((e q : ℕ) → LawfulNodeAt words bytes j i p left e q → ⊥) → ChildTaken row k s j p left None
+    child_missing f = record { sound = λ c e. cc; complete = λ e q s' a t. absurd (f e q a) }
 
-    pub child_stepped : (fault : ℕ) {state : ℕ} → b ≡ true → step_of k fault state ≡ step k s (word_at words j 0)
-        → ChildTaken words bytes k i s j p left (eqb fault 0) n m state
-    unfolding step_of
-    child_stepped fault {state} o = by (eqb fault 0)
-      where
-        by : (f : Bool) → cond f (go (state_of k state)) (bad fault) ≡ step k s (word_at words j 0) → ChildTaken words bytes k i s j p left f n m state
-        by true t = record { sound = λ u. (d.sound o, sym t); complete = λ e q s' a v. let h = d.complete e q a in (refl, h.1, h.2) }
-        by false t = record { sound = λ u. absurd (true≢false (sym u)); complete = λ e q s' a v. let h = d.complete e q a in (cc (t, v), h.1, h.2) }
+    pub child_stopped : (fault : ℕ) → step k s (word_at words j 0) ≡ bad fault → ChildTaken row k s j p left None
+    child_stopped fault f = record { sound = λ c e. cc; complete = λ e q s' a t. let g : bad fault ≡ go s' = sym f ∙ t in cc }
+
+    pub child_stepped : {w : Walked} {state : ℕ} → DecidesNext (LawfulNodeAt words bytes j i p left) (Some w) → step k s (word_at words j 0) ≡ go (state_of k state)
+        → ChildTaken row k s j p left (Some (record { next = w.next; pool = w.pool; state = state }))
+    child_stepped {w} {state} d t =
+        let the : Entered = record { next = w.next; pool = w.pool; state = state } in
+        let Taken : Entered → Type 0 = λ c. LawfulNodeAt words bytes j i p left c.next c.pool × (step k s (word_at words j 0) ≡ go (state_of k c.state)) in
+        record {
+          sound = λ c e. subst Taken (same_Some the c e) (d.sound w refl, t);
+          complete = λ e q s' a u. let (n, m) = the_numbers d a in (the, refl, n, m);
+        }

@@ -1,13 +1,14 @@
 -- When the node of a record is lawful: a text, and an element.
 use Prim.Native.Nat.{ℕ, ◌+◌, ◌*◌, ◌-◌, ◌≤◌, max}
 use mathlib.Core.Path.{◌≡◌, refl, sym, ap, ◌∙◌}
-use mathlib.Core.Bool.{Bool, not, cond, ◌&&◌, true≢false}
+use mathlib.Core.Bool.{not, cond, ◌&&◌, true≢false}
 use mathlib.Core.List.{List, []}
 use native.Mathlib.Omega.{arith}
 use lib.Dec.{T, eqb, leb, leb→le}
 use lib.ListN.{length}
 use borrow.Author.Tests.{eq-eqb, ne_eqb, le-leb, eqb-true}
 use Rattle.base.proofs.Booleans.{cond_case, both, both_true}
+use Rattle.std.specs.Prelude.{Some, None}
 use Rattle.elements.specs.rules.Class as Class
 use Rattle.elements.specs.rules.Rules.{rule_of}
 use Rattle.elements.specs.rules.Inside.{start}
@@ -24,7 +25,7 @@ use Rattle.table.specs.Stored.{word_at, StoredAll}
 use Rattle.table.specs.Stored.{string_at}
 use Rattle.validate.specs.internal.DraftWalk.{Decided, DecidesNext, offset_of, NamesStringAt, strings_end, RecordAt, TextAlone}
 use Rattle.validate.specs.internal.DraftWalk.{ElementAt, value_levels, node_values, LawfulWithin, LawfulNodeAt, ChildrenAt}
-use Rattle.validate.proofs.lemmas.records.Decided.{decided_by, Same}
+use Rattle.validate.proofs.lemmas.records.Decided.{decided_by, decides_none, decides_the, Same}
 use Rattle.validate.proofs.lemmas.records.NodeRecords.{node_of, missing_string, string_named, stored_node, node_stored, node_pool}
 use Rattle.validate.proofs.lemmas.records.RecordTests.{text_bytes_lem, bytes_text}
 use Rattle.validate.proofs.lemmas.draft.ValuePlaces.{levels_of, inside_say}
@@ -133,26 +134,27 @@ module _ (words bytes : List ℕ) (i parent p : ℕ) where
           n.made ∙ rw none,
         )
 
-    pub text_decides : {left : ℕ} {b : Bool} → record_length * i + record_length ≤ length words → Decided (TextAt words bytes i parent p) b
-        → DecidesNext (LawfulNodeAt words bytes i parent p left) b (i + 1) (p + word_at words i 8)
+    pub text_taken : {left : ℕ} → record_length * i + record_length ≤ length words → TextAt words bytes i parent p → {end : ℕ} → end ≡ p + word_at words i 8
+        → DecidesNext (LawfulNodeAt words bytes i parent p left) (Some (record { next = i + 1; pool = end }))
     unfolding count StoredAll node_of pool
-    text_decides {left} whole d =
+    text_taken {left} whole t {end} ends =
+        let r = text_recorded whole within t in
+        let pooled = node_pool childless words bytes i parent p r in
+        let one : LawfulNodeAt words bytes i parent p left (i + 1) end =
         record {
-          sound = λ b.
-              let t = d.sound b in
-              let r = text_recorded whole within t in
-              record {
-                made = node_of words bytes i childless;
-                stored = node_stored childless words bytes i parent p r t.alone.ends tt;
-                lawful = text_lawful left t;
-                next = refl;
-                after = omega (arith, node_pool childless words bytes i parent p r, t.alone.no_key, t.alone.no_type);
-              };
-          complete = λ m q a.
-              let (t, made) = text_record a in
-              let pooled = node_pool childless words bytes i parent p (text_recorded whole within t) in
-              (d.complete t, sym (rw made at a.next), omega (arith, rw made at a.after, pooled, t.alone.no_key, t.alone.no_type));
-        }
+          made = node_of words bytes i childless;
+          stored = node_stored childless words bytes i parent p r t.alone.ends tt;
+          lawful = text_lawful left t;
+          next = refl;
+          after = omega (arith, pooled, t.alone.no_key, t.alone.no_type);
+        } in
+        decides_the (record { next = i + 1; pool = end }) one
+        (λ m q a.
+        let made = (text_record a).1 in
+        (sym (rw made at a.next), omega (arith, rw made at a.after, pooled, t.alone.no_key, t.alone.no_type)))
+
+    pub text_refused : {left : ℕ} → (TextAt words bytes i parent p → ⊥) → DecidesNext (LawfulNodeAt words bytes i parent p left) None
+    text_refused f = decides_none (λ e q a. f (text_record a).0)
 
 -- ---- an element
 

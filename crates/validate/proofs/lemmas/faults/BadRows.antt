@@ -11,33 +11,32 @@ use Rattle.elements.specs.rules.Class as Class
 use Rattle.document.specs.rules.Document.{Nodes}
 use Rattle.document.specs.reference.Check.{First, nowhere, at_node, Cells, any_number, exactly, cells_in, differs}
 use Rattle.document.specs.rules.Visits.{child_count}
-use Rattle.validate.specs.declared.faults.Found.{Found}
-use Rattle.validate.specs.declared.faults.Found.TheVariants.{At, Nothing}
+use Rattle.std.specs.Prelude.{Option, Some, None}
 use Rattle.table.specs.Stored.{word_at}
 use Rattle.validate.specs.internal.TableWords.{found, cells_found, Family, Below, in_table, in_body, elsewhere, Binder, Spot, Searched}
 
-pub found_nothing : (f : First) → found f ≡ Nothing → f ≡ nowhere
+pub found_nothing : (f : First) → found f ≡ None → f ≡ nowhere
 unfolding found
 found_nothing nowhere e = refl
 found_nothing (at_node i) e = cc
 
-pub found_at : (f : First) (i : ℕ) → found f ≡ At i → f ≡ at_node i
+pub found_at : (f : First) (i : ℕ) → found f ≡ Some i → f ≡ at_node i
 unfolding found
 found_at nowhere i e = cc
 found_at (at_node j) i e = cc
 
-any_found : (c : Cells) → cells_found c ≡ Nothing → c ≡ any_number
+any_found : (c : Cells) → cells_found c ≡ None → c ≡ any_number
 unfolding cells_found
 any_found any_number e = refl
 any_found (exactly n) e = cc
 
-exactly_found : (c : Cells) (n : ℕ) → cells_found c ≡ At n → c ≡ exactly n
+exactly_found : (c : Cells) (n : ℕ) → cells_found c ≡ Some n → c ≡ exactly n
 unfolding cells_found
 exactly_found any_number n e = cc
 exactly_found (exactly m) n e = cc
 
 -- Below what is no body, a table's head demands a number of cells, or nothing does.
-table_binds : (words : List ℕ) (r : ℕ) (c : Cells) (v : Found) → Binder words r c → word_at words r 0 ≡ Class.table
+table_binds : (words : List ℕ) (r : ℕ) (c : Cells) (v : Option ℕ) → Binder words r c → word_at words r 0 ≡ Class.table
     → ((ns : Nodes) → Family words r ns → v ≡ cells_found (cells_in ns)) → cells_found c ≡ v
 table_binds words r c v b k h = go c b.binds
   where
@@ -66,15 +65,15 @@ module _ (words : List ℕ) (i : ℕ) (b : Bool) (s : Spot words i b) where
     unfolding differs
     spot_free t = sym (spot_row any_number (none_binds words r s.must (bind s.must (s.bound k)) t))
 
-    module _ (t : word_at words r 0 ≡ Class.table) (v : Found) (h : (ns : Nodes) → Family words r ns → v ≡ cells_found (cells_in ns)) where
+    module _ (t : word_at words r 0 ≡ Class.table) (v : Option ℕ) (h : (ns : Nodes) → Family words r ns → v ≡ cells_found (cells_in ns)) where
       must_found : cells_found s.must ≡ v
       must_found = table_binds words r s.must v (bind s.must (s.bound k)) t h
 
-      pub spot_no_head : v ≡ Nothing → false ≡ b
+      pub spot_no_head : v ≡ None → false ≡ b
       unfolding differs
       spot_no_head e = sym (spot_row any_number (any_found s.must (must_found ∙ e)))
 
-      pub spot_head : (n m : ℕ) → v ≡ At n → ((ns : Nodes) → Family words i ns → m ≡ child_count ns) → not (eqb n m) ≡ b
+      pub spot_head : (n m : ℕ) → v ≡ Some n → ((ns : Nodes) → Family words i ns → m ≡ child_count ns) → not (eqb n m) ≡ b
       unfolding differs
       spot_head n m e g =
           sym (spot_row (exactly n) (exactly_found s.must n (must_found ∙ e)) ∙ ap (λ (x : ℕ). not (eqb n x)) (sym (g s.cells s.family)))

@@ -28,6 +28,8 @@ use Rattle.document.proofs.Records.{entry_of, record_at, key_stands, table_lengt
 use Rattle.validate.specs.internal.DocumentTable.{BeginsWithTable}
 use Rattle.document.specs.reference.Printing.{part}
 use Rattle.table.specs.Stored.{word_at, string_at}
+use Rattle.validate.specs.declared.index.Target.{Target}
+use Rattle.validate.specs.declared.index.Target.TheVariants.{Block, Footnote}
 use Rattle.validate.specs.internal.TableWords.{key_at, entry_of_node, entries_from, wanted, ids_before, Shape, Shapes, Family, Below, in_table, in_body, elsewhere, Searched}
 use Rattle.validate.proofs.lemmas.index.BlockIds.{id_wanted}
 
@@ -110,24 +112,24 @@ or_swap true false c = refl
 or_swap false true c = refl
 or_swap false false c = refl
 
-module _ (words bytes s : List ℕ) (only : ℕ) where
+module _ (words bytes s : List ℕ) (target : Target) where
   ids_swap : (n i : ℕ)
-      → is_among s (ids_before words bytes only (suc i)) || is_among s (ids_where (wanted only) (entries_from words bytes n (suc i)))
-      ≡ is_among s (ids_before words bytes only i) || is_among s (ids_where (wanted only) (entries_from words bytes (suc n) i))
+      → is_among s (ids_before words bytes target (suc i)) || is_among s (ids_where (wanted target) (entries_from words bytes n (suc i)))
+      ≡ is_among s (ids_before words bytes target i) || is_among s (ids_where (wanted target) (entries_from words bytes (suc n) i))
   unfolding is_among ids_before ids_where entries_from
   ids_swap n i =
-      bool_case (id_wanted words bytes only i) (λ e. rw e (or_swap (same s (key_at words bytes i)) _ _)) (λ e. rw e)
+      bool_case (id_wanted words bytes target i) (λ e. rw e (or_swap (same s (key_at words bytes i)) _ _)) (λ e. rw e)
 
   ids_all : (i n : ℕ)
-      → is_among s (ids_before words bytes only i) || is_among s (ids_where (wanted only) (entries_from words bytes n i))
-      ≡ is_among s (ids_where (wanted only) (entries_from words bytes (i + n) 0))
+      → is_among s (ids_before words bytes target i) || is_among s (ids_where (wanted target) (entries_from words bytes n i))
+      ≡ is_among s (ids_where (wanted target) (entries_from words bytes (i + n) 0))
   unfolding is_among ids_before
   ids_all zero n = rw zero-add
   ids_all (suc i) n = ids_swap n i ∙ (ids_all i (suc n) ∙ rw (suc-add, add-suc))
 
-  ids_known : (n : ℕ) → is_among s (ids_before words bytes only n) ≡ is_among s (ids_where (wanted only) (entries_from words bytes n 0))
+  ids_known : (n : ℕ) → is_among s (ids_before words bytes target n) ≡ is_among s (ids_where (wanted target) (entries_from words bytes n 0))
   unfolding is_among ids_where entries_from
-  ids_known n = sym (or_none (is_among s (ids_before words bytes only n))) ∙ (ids_all n 0 ∙ rw add-zero)
+  ids_known n = sym (or_none (is_among s (ids_before words bytes target n))) ∙ (ids_all n 0 ∙ rw add-zero)
 
 unknown_same : (k : ℕ) (ids ids' : List (List ℕ)) (es : List Entry) → ((s : List ℕ) → is_among s ids ≡ is_among s ids')
     → found_unknown_target k ids es ≡ found_unknown_target k ids' es
@@ -136,22 +138,22 @@ unknown_same k ids ids' [] h = refl
 unknown_same k ids ids' (e ∷ es) h = rw (h e.key, unknown_same k ids ids' es h)
 
 module _ (words : List ℕ) (n : ℕ) (bytes : List ℕ) (d : Node) (holds : BeginsWithTable words n bytes d) where
-  unknown_is : (k only : ℕ)
-      → found_unknown_target k (ids_before words bytes only n) (entries_from words bytes n 0) ≡ found_unknown_target k (ids_where (wanted only) (entries 0 d))
+  unknown_is : (k : ℕ) (target : Target)
+      → found_unknown_target k (ids_before words bytes target n) (entries_from words bytes n 0) ≡ found_unknown_target k (ids_where (wanted target) (entries 0 d))
       (entries 0 d)
-  unknown_is k only =
-      unknown_same k (ids_before words bytes only n) (ids_where (wanted only) (entries_from words bytes n 0)) (entries_from words bytes n 0)
-      (λ s. ids_known words bytes s only n)
-      ∙ ap (λ (es : List Entry). found_unknown_target k (ids_where (wanted only) es) es) (entries_are words n bytes d holds)
+  unknown_is k target =
+      unknown_same k (ids_before words bytes target n) (ids_where (wanted target) (entries_from words bytes n 0)) (entries_from words bytes n 0)
+      (λ s. ids_known words bytes s target n)
+      ∙ ap (λ (es : List Entry). found_unknown_target k (ids_where (wanted target) es) es) (entries_are words n bytes d holds)
 
-  pub link_is : found_unknown_target Class.link (ids_before words bytes 0 n) (entries_from words bytes n 0) ≡ found_unknown_link (entries 0 d)
+  pub link_is : found_unknown_target Class.link (ids_before words bytes Block n) (entries_from words bytes n 0) ≡ found_unknown_link (entries 0 d)
   unfolding found_unknown_link
-  link_is = unknown_is Class.link 0
+  link_is = unknown_is Class.link Block
 
-  pub note_is : found_unknown_target Class.footnote_ref (ids_before words bytes Class.footnote n) (entries_from words bytes n 0) ≡ found_unknown_footnote
+  pub note_is : found_unknown_target Class.footnote_ref (ids_before words bytes Footnote n) (entries_from words bytes n 0) ≡ found_unknown_footnote
       (entries 0 d)
   unfolding found_unknown_footnote
-  note_is = unknown_is Class.footnote_ref Class.footnote
+  note_is = unknown_is Class.footnote_ref Footnote
 
 -- The words say the shape of the tree.
 mutual

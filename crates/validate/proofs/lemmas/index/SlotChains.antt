@@ -14,6 +14,7 @@ use Rattle.base.proofs.Booleans.{bool_case, cond_case, not_T_false}
 use Rattle.elements.specs.rules.Bytes.{same}
 use Rattle.elements.proofs.Same.{same_equal}
 use Rattle.document.specs.reference.Check.{holds_id, is_among}
+use Rattle.validate.specs.declared.index.Target.{Target}
 use Rattle.validate.specs.internal.TableWords.{key_at, entry_of_node, ids_before}
 use Rattle.validate.specs.internal.IdIndex.{mixed, slot_of, last_in, Indexed}
 use Rattle.validate.proofs.lemmas.index.BlockIds.{and_both, id_wanted}
@@ -55,31 +56,31 @@ module _ (words bytes : List ℕ) where
   last_is s (suc n) = cond_case (λ j. 0 < j → in_slot s (j - 1) ≡ true) (in_slot s n)
       (λ e l. let q : suc n - 1 ≡ n = omega arith in rw q e) (λ e. last_is s n)
 
-  module _ (only : ℕ) (id : List ℕ) where
+  module _ (target : Target) (id : List ℕ) where
     -- A node of another slot has another id.
     other_slot : (n : ℕ) → in_slot (slot_of id) n ≡ false → holds_id (entry_of_node words bytes n) ≡ true → same id (key_at words bytes n) ≡ false
     other_slot n e h =
         let f : eqb (slot_of (key_at words bytes n)) (slot_of id) ≡ false = rw h at e in
         not_T_false (same id (key_at words bytes n)) (λ t. eqb-false _ _ f (ap slot_of (sym (same_equal id (key_at words bytes n) t))))
 
-    passed : (n : ℕ) → in_slot (slot_of id) n ≡ false → is_among id (ids_before words bytes only n) ≡ is_among id (ids_before words bytes only (suc n))
+    passed : (n : ℕ) → in_slot (slot_of id) n ≡ false → is_among id (ids_before words bytes target n) ≡ is_among id (ids_before words bytes target (suc n))
     unfolding is_among ids_before
-    passed n e = bool_case (id_wanted words bytes only n) (λ h. rw (h, other_slot n e (and_both _ _ h).1)) (λ h. rw h)
+    passed n e = bool_case (id_wanted words bytes target n) (λ h. rw (h, other_slot n e (and_both _ _ h).1)) (λ h. rw h)
 
-    last_among : (n : ℕ) → is_among id (ids_before words bytes only (last_in words bytes (slot_of id) n)) ≡ is_among id (ids_before words bytes only n)
+    last_among : (n : ℕ) → is_among id (ids_before words bytes target (last_in words bytes (slot_of id) n)) ≡ is_among id (ids_before words bytes target n)
     unfolding last_in
     last_among zero = refl
     last_among (suc n) =
-        cond_case (λ j. is_among id (ids_before words bytes only j) ≡ is_among id (ids_before words bytes only (suc n))) (in_slot (slot_of id) n)
+        cond_case (λ j. is_among id (ids_before words bytes target j) ≡ is_among id (ids_before words bytes target (suc n))) (in_slot (slot_of id) n)
         (λ e. refl) (λ e. last_among n ∙ passed n e)
 
     -- What is left to look at of n nodes: those up to number j - 1, the next one in the slot.
     pub record LeftInSlot (n j : ℕ) : Type 0 where
       pub within : j ≤ n
-      pub among : is_among id (ids_before words bytes only j) ≡ is_among id (ids_before words bytes only n)
+      pub among : is_among id (ids_before words bytes target j) ≡ is_among id (ids_before words bytes target n)
       pub in_slot_lem : 0 < j → in_slot (slot_of id) (j - 1) ≡ true
 
-    left_at : (n m : ℕ) → m ≤ n → is_among id (ids_before words bytes only m) ≡ is_among id (ids_before words bytes only n)
+    left_at : (n m : ℕ) → m ≤ n → is_among id (ids_before words bytes target m) ≡ is_among id (ids_before words bytes target n)
         → LeftInSlot n (last_in words bytes (slot_of id) m)
     left_at n m l e =
         record { within = omega (arith, last_le (slot_of id) m); among = last_among m ∙ e; in_slot_lem = last_is (slot_of id) m }
@@ -89,7 +90,7 @@ module _ (words bytes : List ℕ) where
       left_first e = rw (e, x.last_in_lem (slot_of id) (slot_below id)) (left_at n n (omega arith) refl)
 
       pub left_next : (j : ℕ) → 0 < j → LeftInSlot n j
-          → is_among id (ids_before words bytes only (j - 1)) ≡ is_among id (ids_before words bytes only j) → LeftInSlot n (get_or nexts (j - 1) 0)
+          → is_among id (ids_before words bytes target (j - 1)) ≡ is_among id (ids_before words bytes target j) → LeftInSlot n (get_or nexts (j - 1) 0)
       left_next j l y e =
           let (h, s) = and_both _ _ (y.in_slot_lem l) in
           let lt : j - 1 < n = omega (arith, y.within) in

@@ -1,18 +1,19 @@
 -- The values before the trees inside an element: which are taken, and the state after them.
 use Prim.Native.Nat.{ℕ, ◌+◌, ◌≤◌, ◌<◌}
-use mathlib.Core.Path.{◌≡◌, refl, sym, ap, ◌∙◌}
+use mathlib.Core.Path.{◌≡◌, refl, ap, ◌∙◌}
 use mathlib.Core.Bool.{Bool, true, false, cond, ◌&&◌, true≢false}
 use mathlib.Core.List.{List, [], ◌∷◌}
 use native.Mathlib.Omega.{arith}
 use lib.Dec.{eqb, ltb}
 use lib.ListN.{length}
 use borrow.Author.Tests.{eqb-true, eq-eqb, ne_eqb, le-leb, lt-leb, ltb-true, ltb-false}
+use Rattle.std.specs.Prelude.{Option, Some, None, MatchOption}
 use Rattle.base.proofs.Booleans.{bool_case, and_false}
 use Rattle.elements.specs.rules.Class as Class
 use Rattle.elements.specs.rules.Characters.{id_character, uri_character, character_of}
 use Rattle.elements.specs.rules.Rules.{rule_of}
 use Rattle.elements.specs.rules.Inside.{go, bad, step, start}
-use Rattle.inside.specs.Machine.{state_of, step_of}
+use Rattle.inside.specs.Machine.{state_of}
 use Rattle.inside.proofs.Steps.{start_state}
 use Rattle.base.specs.rules.Limits.{missing}
 use Rattle.document.specs.rules.Document.{Trees, empty, holds, tree_class, Nodes, childless, child}
@@ -22,7 +23,9 @@ use Rattle.document.specs.rules.Value.{non_empty, every, names_block, target_cha
 use Rattle.document.specs.rules.Canonical.{node_first, place_values, layout, layout_all, value_before, size_before}
 use Rattle.document.proofs.TableDetermines.{count_positive}
 use Rattle.table.specs.Stored.{word_at}
-use Rattle.validate.specs.internal.DraftWalk.{TakesValues, ValuesLead, value_levels, node_values}
+use Rattle.validate.specs.declared.record.Row.{Row}
+use Rattle.validate.specs.declared.draft.Led.TheVariants.{Due, Taken}
+use Rattle.validate.specs.internal.DraftWalk.{TakesValues, ValuesLead, value_levels, node_values, row_values}
 use Rattle.validate.proofs.lemmas.records.NodeRecords.{missing_string}
 
 -- ---- the characters of a value
@@ -51,57 +54,64 @@ module _ (k c : ℕ) (s : List ℕ) where
 -- ---- a value
 
 module _ (k c state : ℕ) where
-  pub value_missing : (s : List ℕ) → length s ≡ 0 → TakesValues k (value_before c s) state true state
+  pub value_missing : (s : List ℕ) → length s ≡ 0 → TakesValues k (value_before c s) state (Some state)
   unfolding value_before
   value_missing [] e = record { taken = λ ts. refl }
   value_missing (b ∷ bs) e = absurd (omega arith)
 
-  module _ (fault next : ℕ) (e : step_of k fault next ≡ step k (state_of k state) c) where
-    pub value_fault : (s : List ℕ) {other : ℕ} → (length s ≡ 0 → ⊥) → (fault ≡ 0 → ⊥) → TakesValues k (value_before c s) state false other
-    unfolding value_before keeps_rules tree_class step_goes_on step_of
-    value_fault [] h f = absurd (h refl)
-    value_fault (b ∷ bs) h f = record { taken = λ ts. rw (← e, ne_eqb fault 0 f) (and_false (is_value k c (b ∷ bs))) }
+  pub value_fault : (fault : ℕ) → step k (state_of k state) c ≡ bad fault → (s : List ℕ) → (length s ≡ 0 → ⊥) → TakesValues k (value_before c s) state None
+  unfolding value_before keeps_rules tree_class step_goes_on
+  value_fault fault e [] h = absurd (h refl)
+  value_fault fault e (b ∷ bs) h = record { taken = λ ts. rw e (and_false (is_value k c (b ∷ bs))) }
 
-    pub value_taken : (test : ℕ → Bool) {ok : Bool} (s : List ℕ) → (length s ≡ 0 → ⊥) → fault ≡ 0 → is_value k c s ≡ non_empty s && every test s
-        → ok ≡ every test s → TakesValues k (value_before c s) state ok next
-    unfolding value_before keeps_rules tree_class step_goes_on step_of non_empty
-    value_taken test [] h f g o = absurd (h refl)
-    value_taken test (b ∷ bs) h f g o = record { taken = λ ts. rw (← e, eq-eqb fault 0 f, g, o) }
+  module _ (next : ℕ) (e : step k (state_of k state) c ≡ go (state_of k next)) (test : ℕ → Bool) (s : List ℕ) (h : length s ≡ 0 → ⊥)
+      (is : is_value k c s ≡ non_empty s && every test s) where
+    stepped : (ts : Trees) → keep_rules k (state_of k state) (value_before c s ts) ≡ every test s && keep_rules k (state_of k next) ts
+    unfolding value_before keeps_rules tree_class step_goes_on non_empty
+    stepped ts = by s h is
+      where
+        by : (s : List ℕ) → (length s ≡ 0 → ⊥) → is_value k c s ≡ non_empty s && every test s
+            → keep_rules k (state_of k state) (value_before c s ts) ≡ every test s && keep_rules k (state_of k next) ts
+        by [] h g = absurd (h refl)
+        by (b ∷ bs) h g = rw (e, g)
+
+    pub value_taken : every test s ≡ true → TakesValues k (value_before c s) state (Some next)
+    value_taken f = record { taken = λ ts. stepped ts ∙ rw f }
+
+    pub value_unfit : every test s ≡ false → TakesValues k (value_before c s) state None
+    value_unfit f = record { taken = λ ts. stepped ts ∙ rw f }
 
 -- ---- a size
 
 module _ (k state w h : ℕ) where
-  pub size_missing : w ≡ missing → TakesValues k (size_before w h) state true state
+  pub size_missing : w ≡ missing → TakesValues k (size_before w h) state (Some state)
   unfolding size_before
   size_missing e = record { taken = λ ts. rw (eq-eqb w missing e) }
 
   module _ (there : w ≡ missing → ⊥) where
-    pub size_wide : {other : ℕ} → 65535 < w → TakesValues k (size_before w h) state false other
+    pub size_wide : 65535 < w → TakesValues k (size_before w h) state None
     unfolding size_before keeps_rules is_size
     size_wide l = record { taken = λ ts. rw (ne_eqb w missing there, lt-leb w 65535 l) }
 
-    pub size_high : {other : ℕ} → w ≤ 65535 → 65535 < h → TakesValues k (size_before w h) state false other
+    pub size_high : w ≤ 65535 → 65535 < h → TakesValues k (size_before w h) state None
     unfolding size_before keeps_rules is_size
     size_high b l = record { taken = λ ts. rw (ne_eqb w missing there, le-leb w 65535 b, lt-leb h 65535 l) }
 
-    pub size_taken : (fault next : ℕ) → w ≤ 65535 → h ≤ 65535 → step_of k fault next ≡ step k (state_of k state) Class.size
-        → TakesValues k (size_before w h) state (eqb fault 0) next
-    unfolding size_before keeps_rules is_size tree_class step_goes_on step_of
-    size_taken fault next a b e =
-        record { taken = λ ts. rw (ne_eqb w missing there, le-leb w 65535 a, le-leb h 65535 b, ← e) (by (eqb fault 0) ts) }
-      where
-        by : (f : Bool) (ts : Trees) → step_goes_on (cond f (go (state_of k next)) (bad fault)) (λ s. keep_rules k s ts) ≡ f && keep_rules k (state_of k next) ts
-        by true ts = refl
-        by false ts = refl
+    pub size_taken : w ≤ 65535 → h ≤ 65535 → (answer : Option ℕ)
+        → MatchOption answer ((fault : ℕ) × (step k (state_of k state) Class.size ≡ bad fault)) (λ next. step k (state_of k state) Class.size ≡ go (state_of k next))
+        → TakesValues k (size_before w h) state answer
+    unfolding size_before keeps_rules is_size tree_class step_goes_on
+    size_taken a b None (fault, e) = record { taken = λ ts. rw (ne_eqb w missing there, le-leb w 65535 a, le-leb h 65535 b, e) }
+    size_taken a b (Some next) e = record { taken = λ ts. rw (ne_eqb w missing there, le-leb w 65535 a, le-leb h 65535 b, e) }
 
 -- ---- one after another
 
-module _ {k state : ℕ} {ok : Bool} {state' : ℕ} {W W' : Trees → Trees} (t : TakesValues k W state ok state') where
-  pub takes_then : {ok' : Bool} {state'' : ℕ} → ok ≡ true → TakesValues k W' state' ok' state'' → TakesValues k (λ ts. W (W' ts)) state ok' state''
-  takes_then e u = record { taken = λ ts. t.taken (W' ts) ∙ rw e (u.taken ts) }
+pub takes_then : {k state state' : ℕ} {W W' : Trees → Trees} {answer : Option ℕ} → TakesValues k W state (Some state') → TakesValues k W' state' answer
+    → TakesValues k (λ ts. W (W' ts)) state answer
+takes_then {W' = W'} t u = record { taken = λ ts. t.taken (W' ts) ∙ u.taken ts }
 
-  pub takes_not : {other : ℕ} → ok ≡ false → TakesValues k (λ ts. W (W' ts)) state false other
-  takes_not e = record { taken = λ ts. t.taken (W' ts) ∙ rw e }
+pub takes_not : {k state : ℕ} {W W' : Trees → Trees} → TakesValues k W state None → TakesValues k (λ ts. W (W' ts)) state None
+takes_not {W' = W'} t = record { taken = λ ts. t.taken (W' ts) }
 
 -- ---- no values
 
@@ -131,24 +141,34 @@ unfolding place_values layout count
 placed_alone W childless e = refl
 placed_alone W (child n ns) e = absurd (omega (arith, count_positive n))
 
-module _ (words bytes : List ℕ) (k i end : ℕ) where
-  pub lead_none : value_levels words i ≡ 0 → ValuesLead words bytes k i end true false 0
+module _ (row : Row) (k end : ℕ) where
+  abbrev W : Trees → Trees
+  W = row_values row k
+
+  pub lead_none : value_levels row.table.now.nodes.now row.number ≡ 0 → ValuesLead k row.number end W (Some (Taken 0))
   lead_none e =
       record {
-        taken = λ ns n. rw (placed_nothing (node_first (rule_of k).parameters) (nothing words bytes k i e) (layout_all ns), start_state k);
-        before_child = λ d. absurd (true≢false (sym d));
+        taken = λ ns n. rw (placed_nothing (node_first (rule_of k).parameters) (nothing row.table.now.nodes.now row.table.now.pool.now k row.number e) (layout_all ns), start_state k);
+        before_child = λ d. cc;
       }
 
-  pub lead_due : node_first (rule_of k).parameters ≡ true → i + 1 < end → ValuesLead words bytes k i end true true 0
+  pub lead_due : node_first (rule_of k).parameters ≡ true → row.number + 1 < end → ValuesLead k row.number end W (Some Due)
   lead_due e h = record { taken = λ ns n. rw (e, start_state k); before_child = λ d. h }
 
-  pub lead_taken : {ok : Bool} {state : ℕ} → (i + 1 < end → node_first (rule_of k).parameters ≡ false) → TakesValues k (node_values words bytes k i) 0 ok state
-      → ValuesLead words bytes k i end ok false state
-  lead_taken {ok} {state} h t = record { taken = λ ns n. by (node_first (rule_of k).parameters) h ns n ∙ t.taken (layout_all ns); before_child = λ d. absurd (true≢false (sym d)) }
-    where
-      by : (b : Bool) → (i + 1 < end → b ≡ false) → (ns : Nodes) → end ≡ i + 1 + count_all ns
-          → keep_rules k (start k) (place_values b (node_values words bytes k i) (layout_all ns)) ≡ keep_rules k (state_of k 0) (node_values words bytes k i (layout_all ns))
-      by false g ns n = unfold place_values in rw (start_state k)
-      by true g ns n =
-          bool_case (ltb (i + 1) end) (λ l. absurd (true≢false (g (ltb-true (i + 1) end l))))
-          (λ l. rw (placed_alone (node_values words bytes k i) ns (omega (arith, ltb-false (i + 1) end l)), start_state k))
+  module _ (h : row.number + 1 < end → node_first (rule_of k).parameters ≡ false) where
+    before : (ns : Nodes) → end ≡ row.number + 1 + count_all ns
+        → keep_rules k (start k) (place_values (node_first (rule_of k).parameters) W (layout_all ns)) ≡ keep_rules k (state_of k 0) (W (layout_all ns))
+    before = by (node_first (rule_of k).parameters) h
+      where
+        by : (b : Bool) → (row.number + 1 < end → b ≡ false) → (ns : Nodes) → end ≡ row.number + 1 + count_all ns
+            → keep_rules k (start k) (place_values b W (layout_all ns)) ≡ keep_rules k (state_of k 0) (W (layout_all ns))
+        by false g ns n = unfold place_values in rw (start_state k)
+        by true g ns n =
+            bool_case (ltb (row.number + 1) end) (λ l. absurd (true≢false (g (ltb-true (row.number + 1) end l))))
+            (λ l. rw (placed_alone W ns (omega (arith, ltb-false (row.number + 1) end l)), start_state k))
+
+    pub lead_taken : {state : ℕ} → TakesValues k W 0 (Some state) → ValuesLead k row.number end W (Some (Taken state))
+    lead_taken t = record { taken = λ ns n. before ns n ∙ t.taken (layout_all ns); before_child = λ d. cc }
+
+    pub lead_refused : TakesValues k W 0 None → ValuesLead k row.number end W None
+    lead_refused t = record { taken = λ ns n. before ns n ∙ t.taken (layout_all ns); before_child = λ d. cc }

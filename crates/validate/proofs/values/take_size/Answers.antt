@@ -12,7 +12,4 @@ pub returns-then-height-gt-MOST_SIZE : goal.returns-then-height-gt-MOST_SIZE
 returns-then-height-gt-MOST_SIZE c = size_high _ _ _ _ c.if-width-eq-MISSING.false c.if-width-gt-MOST_SIZE.false c.if-height-gt-MOST_SIZE.true
 
 pub returns : goal.returns
-returns c = let if1 = c.if-width-eq-MISSING in
-    let if2 = c.if-width-gt-MOST_SIZE in
-    let if3 = c.if-height-gt-MOST_SIZE in
-    size_taken _ _ _ _ if1.false _ _ if2.false if3.false c.step-taken.ensures.stands
+returns c = size_taken _ _ _ _ c.if-width-eq-MISSING.false c.if-width-gt-MOST_SIZE.false c.if-height-gt-MOST_SIZE.false _ c.state_after.ensures

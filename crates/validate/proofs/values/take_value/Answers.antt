@@ -1,18 +1,23 @@
 -- `values::take_value` meets its contract: each way out is one law of `ValueSteps`.
+use mathlib.Core.Path.{◌∙◌, sym}
+use borrow.Author.Tests.{eqb-true, eqb-false}
 use Rattle.elements.specs.rules.Characters.{character_of}
 use Rattle.characters.specs.Codes.{alphabet_number}
-use Rattle.validate.proofs.lemmas.values.ValueSteps.{value_missing, value_fault, value_taken}
+use Rattle.validate.proofs.lemmas.values.ValueSteps.{value_missing, value_fault, value_taken, value_unfit}
 use Rattle.validate.proofs.values.take_value.Goals as goal
 
-pub returns-then-bytes-eq0 : goal.returns-then-bytes-eq0
-returns-then-bytes-eq0 c = value_missing _ _ _ _ c.if-bytes-eq0.true
+pub returns-then-is_empty : goal.returns-then-is_empty
+returns-then-is_empty c = value_missing _ _ _ _ (eqb-true _ 0 (sym c.is_empty.ensures ∙ c.if-is_empty.true))
 
-pub returns-then-taken-ne-OK : goal.returns-then-taken-ne-OK
-returns-then-taken-ne-OK c = value_fault _ _ _ _ _ c.step-taken.ensures.stands _ c.if-bytes-eq0.false c.if-taken-ne-OK.true
+pub returns-in_err-next : goal.returns-in_err-next
+returns-in_err-next c =
+    let (fault, e) = c.in_err-next.ensures in
+    rw c.from_residual.ensures (value_fault _ _ _ fault e _ (eqb-false _ 0 (sym c.is_empty.ensures ∙ c.if-is_empty.false)))
 
-pub returns : goal.returns
-returns c = let if1 = c.if-bytes-eq0 in
-    let step = c.step-taken in
-    let if2 = c.if-taken-ne-OK in
-    let sort = c.sort in
-    value_taken _ _ _ _ _ step.ensures.stands (character_of (alphabet_number sort.result)) _ if1.false if2.false (sort.ensures _) c.fits.ensures
+pub returns-then-fits : goal.returns-then-fits
+returns-then-fits c =
+    value_taken _ _ _ _ c.in_ok-next.ensures (character_of (alphabet_number c.sort.result)) _ (eqb-false _ 0 (sym c.is_empty.ensures ∙ c.if-is_empty.false)) (c.sort.ensures _) (sym c.fits.ensures ∙ c.if-fits.true)
+
+pub returns-else-fits : goal.returns-else-fits
+returns-else-fits c =
+    value_unfit _ _ _ _ c.in_ok-next.ensures (character_of (alphabet_number c.sort.result)) _ (eqb-false _ 0 (sym c.is_empty.ensures ∙ c.if-is_empty.false)) (c.sort.ensures _) (sym c.fits.ensures ∙ c.if-fits.false)
