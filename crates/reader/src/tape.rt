@@ -1,5 +1,5 @@
 // The tape: an entry for each node that the judging walk meets, in the order of the nodes, for the fill. A node past 4,095 is noted nowhere.
-// (That the array behind a reference has its `MOST_NODES` elements is no fact that a proof is given: so contracts suppose it.)
+// (That the array behind a reference has its `MOST_NODES` elements is told where a function starts, and not where a loop goes on: so contracts suppose it.)
 ghost use Rattle.std.specs.Prelude.{◌≡◌, ◌≤◌, length};
 ghost use Rattle.base.specs.rules.Limits.{most_nodes};
 ghost use Rattle.reader.specs.internal.Tape.{entered, left, key_noted, type_noted, size_noted};

@@ -129,7 +129,7 @@ filled_written m exit e (a, b, c) = rw (← a, ← b, ← c)
 
 abbrev pub Fills : List ℕ → Tape → ℕ → Memory → Memory → Type 0
 Fills text tape n m exit =
-    (e : Expr) (t : Tape) → Located text e → judge_root e ≡ fine → length t ≡ 4096 → tape ≡ taped t 0 4294967295 e → n ≡ node_count e
+    (e : Expr) (t : Tape) → Located text e → judge_root e ≡ fine → tape ≡ taped t 0 4294967295 e → n ≡ node_count e
     → Filled m exit e
 
 -- ---- the ways through a read
@@ -193,7 +193,7 @@ module _ (s : Spelling) (text : List ℕ) (m : Memory) where
           exit_is : exit ≡ written m (places found.expr) (says (tree_of found.expr))
           exit_is =
               filled_written m exit found.expr
-              (fills found.expr blank_tape (form_located s text passed.es found.expr found.form passed.stands found.fine_root) found.fine_root long
+              (fills found.expr blank_tape (form_located s text passed.es found.expr found.form passed.stands found.fine_root) found.fine_root
               (tapes passed.es found.expr found.form passed.stands passed.shallow z' long)
               (found.nodes_are ∙ sym (root_places found.expr found.fine_root) ∙ nodes_places found.expr))
 
