@@ -6,14 +6,13 @@ ghost use Rattle.reader.specs.internal.Tape.{entered, left, key_noted, type_note
 ghost use Rattle.reader.specs.internal.TapeWord.{most_word};
 
 use base::limit::MOST_NODES;
-
-// What stands for a parent, a width or a height that there is not, and the largest word.
-pub const MISSING: usize = 4294967295;
+use table::MISSING;
 
 const MISSING_WORD: u32 = MISSING as u32;
 
 // What is noted of a node: its place, class and parent, the number after that of its last descendant, the places of what its id or target
-// and its type hold, 0 where there is none, and its width and height.
+// and its type hold, 0 where there is none, and its width and height, `MISSING` where there is none.
+// An `Option` of a word takes two words, and the tape is on the stack: so none is a word here.
 #[derive(Clone, Copy)]
 pub struct Entry {
     pub place: u32,
