@@ -34,64 +34,49 @@ const PART: u8 = Kind::PART.number;
 const FOOTNOTE: u8 = Kind::FOOTNOTE.number;
 
 // Title, id and type: the parameters of blocks.
+#[tactic(auto, unfolding(document::specs::rules::Spelling::is_block_parameter))]
 fn is_parameter(class: u8) -> bool
     ensures { result ≡ is_block_parameter class }
 {
-    if class == TITLE {
-        return true;
-    }
-    if class == ID {
-        return true;
-    }
-    class == TYPE
+    matches!(class, TITLE | ID | TYPE)
 }
 
 // "A command holds its parameters only": what else stands in it counts as class 0, which is allowed nowhere.
+#[tactic(auto, unfolding(crate::specs::internal::BlockWalk::command_class))]
 fn in_command(class: u8) -> u8
     ensures { result ≡ command_class class }
 {
-    if is_parameter(class) {
-        return class;
-    }
-    0
+    if is_parameter(class) { class } else { 0 }
 }
 
 // In a block's content a loose parameter and a second document are allowed nowhere.
+#[tactic(auto, unfolding(crate::specs::internal::BlockWalk::loose_class))]
 fn loose(class: u8) -> u8
     ensures { result ≡ loose_class class }
 {
-    if is_parameter(class) {
-        return 0;
+    if is_parameter(class) || class == DOCUMENT {
+        0
+    } else {
+        class
     }
-    if class == DOCUMENT {
-        return 0;
-    }
-    class
 }
 
 // A list led by a name of this class is a command; "a second document command" is none.
+#[tactic(auto, unfolding(crate::specs::internal::BlockWalk::leads_command, elements::specs::rules::Class::is_block))]
 pub fn is_command(class: u8) -> bool
     ensures { result ≡ leads_command class }
 {
-    if class < PART {
-        return false;
-    }
-    class <= FOOTNOTE
+    matches!(class, PART..=FOOTNOTE)
 }
 
 // A block ends where nothing is seen, and at a command of no lesser significance.
+#[tactic(auto, unfolding(crate::specs::internal::BlockWalk::ends_at))]
 fn ends(kind: u8, sort: u8, class: u8) -> bool
     ensures { result ≡ ends_at kind sort class }
 {
-    if sort == THE_END {
-        return true;
-    }
-    if !is_command(class) {
-        return false;
-    }
     let own = Kind { number: kind };
     let next = Kind { number: class };
-    own.significance() <= next.significance()
+    sort == THE_END || (is_command(class) && own.significance() <= next.significance())
 }
 
 // The block of a command: what follows the command's name starts at `from`, and the content follows the command's bracket.

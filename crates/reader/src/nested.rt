@@ -13,7 +13,7 @@ use super::root::{Counts, Judged, open_root};
 use super::tape::{Tape, leave};
 use super::walk::{Refused, Walked, inline, past_bracket};
 use base::Refusal;
-use lexer::{A_LIST, THE_END, look};
+use lexer::{A_LIST, Seen, THE_END, look};
 
 // Where the run of expressions from a place on ends, whatever its lists hold.
 fn run_end(text: &[u8], from: usize) -> usize
@@ -23,31 +23,23 @@ fn run_end(text: &[u8], from: usize) -> usize
     let mut depth: usize = 0;
     while i < text.len() {
         let seen = look(text, i);
-        let place = seen.place;
-        let next = seen.next;
+        let Seen { place, next, .. } = seen;
         if seen.sort == THE_END {
-            if depth == 0 {
-                return place;
-            }
-            // a list that is not closed: not where expressions stand
-            if text.len() <= place {
+            // The latter where a list is not closed: not where expressions stand.
+            if depth == 0 || text.len() <= place {
                 return place;
             }
             depth -= 1;
             i = place + 1;
-            continue;
-        }
-        // not where expressions stand, but on any bytes the loop is to end
-        if next <= i {
+        } else if next <= i {
+            // Not where expressions stand, but on any bytes the loop is to end.
             return i;
-        }
-        if seen.sort == A_LIST {
+        } else if seen.sort == A_LIST {
             depth += 1;
             i = place + 1;
-            continue;
+        } else {
+            i = next;
         }
-        i = next;
-        continue;
     }
     i
 }

@@ -82,6 +82,7 @@ pub enum Turn {
 }
 
 // 9 is placed at the element's bracket, the others at the expression itself.
+#[tactic(auto, using(crate::proofs::lemmas::walk::Refusals::is_absent), unfolding(crate::specs::internal::WalkAnswer::walked_to))]
 pub fn fault_at(refusal: Refusal, at: usize, place: usize) -> Refused
     ensures { told (Err result) ≡ walked_to 0 0 0 (Verdict.fault (Refusals.number refusal) (cond (eqb (Refusals.number refusal) Number.absent) at place)) }
 {
@@ -94,6 +95,7 @@ pub fn fault_at(refusal: Refusal, at: usize, place: usize) -> Refused
 }
 
 // At the end of a run.
+#[tactic(auto, unfolding(crate::specs::internal::WalkAnswer::walked_to))]
 pub fn at_end(element: Element, state: u8, end: Reached) -> Walked
     ensures { told result ≡ walked_to end.place end.nodes end.pool
         (cond (ended element.kind (state_of element.kind state)) Verdict.fine (Verdict.fault Number.absent element.at)) }
@@ -108,16 +110,15 @@ pub fn at_end(element: Element, state: u8, end: Reached) -> Walked
 }
 
 // A run of expressions ends at this very place, as most do: a closing bracket stands there.
+#[tactic(auto, using(lexer::proofs::Looks::seen_closing))]
 pub fn closes(text: &[u8], i: usize) -> bool
     ensures { result ≡ true → ((seen i (drop i text.now)).sort ≡ the_end) × ((seen i (drop i text.now)).place ≡ i) }
 {
-    if text.len() <= i {
-        return false;
-    }
-    ROUND_END <= byte_class(text[i])
+    i < text.len() && ROUND_END <= byte_class(text[i])
 }
 
 // What is seen from a place on, counted as an expression of this class in an element that is read so far to this state.
+#[tactic(auto, using(crate::proofs::lemmas::walk::OneTurn::step_goes), unfolding(crate::specs::internal::WalkAnswer::walked_to))]
 pub fn take_turn(
     element: Element,
     from: Reached,
@@ -160,6 +161,7 @@ pub fn take_turn(
 }
 
 // From a list's closing bracket to the place after it; that there is a bracket is known only where expressions stand.
+#[tactic(auto, unfolding(crate::specs::internal::Walk::past_bracket, crate::specs::internal::WalkAnswer::walked_to))]
 pub fn past_bracket(text: &[u8], end: Reached) -> Walked
     ensures { told result ≡ past_bracket (length text.now) (told (Ok end)) }
 {
@@ -172,12 +174,12 @@ pub fn past_bracket(text: &[u8], end: Reached) -> Walked
     }
     Ok(Reached {
         place: place + 1,
-        nodes: end.nodes,
-        pool: end.pool,
+        ..end
     })
 }
 
 // A list led by a name of this class leads an element.
+#[tactic(auto, unfolding(elements::specs::rules::Class::is_element, elements::specs::rules::Class::is_kind))]
 pub fn is_element(class: u8) -> bool
     ensures { result ≡ is_element class }
 {

@@ -1,5 +1,5 @@
 -- What a walk over the blocks of an imperative text answers. It serves the contracts of private functions.
-use Rattle.std.specs.Prelude.{ℕ, ◌+◌, ◌≤◌, ◌<◌, ◌≡◌, Bool, true, not, cond, ◌&&◌, ◌||◌, List, eqb, leb, length}
+use Rattle.std.specs.Prelude.{ℕ, ◌+◌, ◌<◌, ◌≡◌, Bool, true, not, cond, ◌&&◌, ◌||◌, List, eqb, leb, length}
 use Rattle.elements.specs.rules.Class as Class
 use Rattle.syntax.specs.rules.Byte.{Bracket, closing}
 use Rattle.syntax.specs.rules.Expression.{Expr, Exprs, none, and}
@@ -7,7 +7,7 @@ use Rattle.lexer.specs.Token.{the_end}
 use Rattle.document.specs.rules.Spelling.{is_block_parameter}
 use Rattle.document.specs.rules.Command.{join, in_command}
 use Rattle.document.specs.rules.Lead.{expr_class}
-use Rattle.document.specs.reference.Meaning.{fault, judge}
+use Rattle.document.specs.reference.Meaning.{judge}
 use Rattle.reader.specs.internal.RunStands.{Has, RunStands}
 use Rattle.reader.specs.internal.Counts.{node_count, pool_bytes}
 use Rattle.base.specs.rules.Limits.{most_nodes}

@@ -1,5 +1,5 @@
 -- What the value of a parameter is read from. It serves the contracts of private functions.
-use Rattle.std.specs.Prelude.{ℕ, ◌+◌, ◌≤◌, ◌<◌, ◌≡◌, Bool, true, false, cond, not, ◌&&◌, ◌||◌, List, [], eqb, Option, Some, None, length, drop}
+use Rattle.std.specs.Prelude.{ℕ, ◌+◌, ◌≤◌, ◌<◌, ◌≡◌, Bool, cond, not, ◌&&◌, ◌||◌, List, [], eqb, Option, Some, None, length, drop}
 use Rattle.elements.specs.rules.Class as Class
 use Rattle.syntax.specs.rules.Expression.{Expr, Exprs, none, and}
 use Rattle.atoms.specs.Atom.{atom_value}

@@ -1,5 +1,5 @@
--- One turn of a walk, and what a walk that has got somewhere still has to answer. It serves the contracts of private functions.
-use Rattle.std.specs.Prelude.{ℕ, suc, ◌+◌, ◌≤◌, ◌<◌, ◌≡◌, cond, List, eqb, leb, length}
+-- What a walk still has to answer at a place, what a step takes, and the answer of a list. It serves the contracts of private functions.
+use Rattle.std.specs.Prelude.{ℕ, suc, ◌+◌, ◌≡◌, cond, List, eqb, leb, length}
 use Rattle.base.specs.rules.Numbers as Number
 use Rattle.elements.specs.rules.Class.{is_element}
 use Rattle.elements.specs.rules.Inside.{step as stepped, start, go}
@@ -11,7 +11,7 @@ use Rattle.document.specs.reference.Meaning.{Verdict, fine, fault, finish, run, 
 use Rattle.reader.specs.internal.RunStands.{Has, RunStands}
 use Rattle.reader.specs.internal.Counts.{node_count_in, pool_bytes_in, value_size}
 use Rattle.base.specs.rules.Limits.{most_nodes}
-use Rattle.reader.specs.internal.WalkAnswer.{Walked, walked_to, PoolBound}
+use Rattle.reader.specs.internal.WalkAnswer.{Walked, walked_to}
 use Rattle.reader.specs.internal.Tape.{Tape, entered, left, noted, taped_all}
 
 -- What is to be answered of the expressions es, which end at e, in the element of kind k at `at` that is read so far to state st.
@@ -34,18 +34,6 @@ Finishes s at k i n p node t z w =
     ((es : Exprs) (e : ℕ) → RunStands s i es e → w ≡ walked_to e (n + node_count_in es) (p + pool_bytes_in es) (finish at k (run at k (start k) es)))
     × TapedFrom s i n node t z w
 
--- Of the expressions es, which end at e, those from place j on are left, and the answer and the tape are those from there, in the state and with the
--- counts and the tape there.
-pub record Remaining (s : List ℕ) (at k st n p node : ℕ) (t : Tape) (j st' n' p' : ℕ) (t' : Tape) (es : Exprs) (e : ℕ) : Type 0 where
-  pub others : Exprs
-  pub stands : RunStands s j others e
-  pub same : run_answer at k st' n' p' e others ≡ run_answer at k st n p e es
-  pub kept : length t ≡ most_nodes → taped_all t' n' node others ≡ taped_all t n node es
-
--- From place i on a walk has gone to place j.
-pub record Goes (s : List ℕ) (at k i st n p node : ℕ) (t : Tape) (j st' n' p' : ℕ) (t' : Tape) : Type 0 where
-  pub left : (es : Exprs) (e : ℕ) → RunStands s i es e → Remaining s at k st n p node t j st' n' p' t' es e
-
 -- Of the expressions es, which end at e, the first is a list at `place`, led by a name of class c that is followed by what starts at j.
 pub record NamedListFirst (s : List ℕ) (place c j : ℕ) (es : Exprs) (e : ℕ) : Type 0 where
   pub lead : Expr
@@ -62,17 +50,6 @@ pub record NamedListFirst (s : List ℕ) (place c j : ℕ) (es : Exprs) (e : ℕ
 -- In an element of kind k, an expression of class c is taken.
 abbrev pub StepTakes : ℕ → ℕ → ℕ → ℕ → Type 0
 StepTakes k st c st' = stepped k (state_of k st) c ≡ go (state_of k st')
-
--- From place i on such a list stands first, and it is taken.
-pub record TakesList (s : List ℕ) (k i st place c j st' : ℕ) : Type 0 where
-  pub taken : StepTakes k st c st'
-  pub opened : (es : Exprs) (e : ℕ) → RunStands s i es e → NamedListFirst s place c j es e
-
--- A symbol or string is taken and passed.
-pub record TakesAtom (s : List ℕ) (at k i st n p node : ℕ) (t : Tape) (j st' n' p' : ℕ) (t' : Tape) : Type 0 where
-  pub class : ℕ
-  pub taken : StepTakes k st class st'
-  pub goes : Goes s at k i st n p node t j st' n' p' t'
 
 -- What is to be answered of a list at `at` led by a name of class c, in an element of kind k, where es follow the name.
 unfoldable pub verdict_of : ℕ → ℕ → ℕ → Exprs → Verdict

@@ -1,5 +1,5 @@
 -- What the functions of a walk promise, of an element, a list and how far a walk has come. It serves the contracts of private functions.
-use Rattle.std.specs.Prelude.{ℕ, ◌+◌, ◌≤◌, ◌<◌, ◌≡◌, cond, List, Result, Ok, Err, eqb, length, drop}
+use Rattle.std.specs.Prelude.{ℕ, ◌+◌, ◌≤◌, ◌<◌, ◌≡◌, cond, List, Result, Ok, Err, eqb, length}
 use Rattle.base.specs.rules.Limits.{most_bytes, most_nodes, missing}
 use Rattle.base.specs.rules.Numbers as Number
 use Rattle.elements.specs.rules.Class as Class
@@ -91,7 +91,7 @@ pub record RootOpened (s : List ℕ) (t z : Tape) (x : Element) (r : Reached) : 
 pub data RootRefused (s : List ℕ) (w : Walked) : Type 0 where
   no_expression : (seen 0 s).sort ≡ the_end → w ≡ walked_to 0 0 0 (fault Number.not_one_expression (length s)) → RootRefused s w
   no_document : ((seen 0 s).sort ≡ the_end → ⊥) → ((seen 0 s).class ≡ Class.document → ⊥) → w ≡ walked_to 0 0 0 (fault Number.not_allowed (seen 0 s).place) → RootRefused s w
-  stuck : (seen 0 s).next ≡ 0 → w ≡ walked_to 0 0 0 (fault Number.not_allowed (seen 0 s).place) → RootRefused s w
+  stuck : ((seen 0 s).sort ≡ the_end → ⊥) → (seen 0 s).next ≡ 0 → w ≡ walked_to 0 0 0 (fault Number.not_allowed (seen 0 s).place) → RootRefused s w
 
 abbrev pub OpensRoot : List ℕ → Tape → Tape → Result (Element × Reached) Refused → Type 0
 OpensRoot s t z (Ok p) = RootOpened s t z p.0 p.1

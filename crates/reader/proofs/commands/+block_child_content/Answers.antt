@@ -1,349 +1,164 @@
--- The walks over blocks meet their contracts. The invariant of each loop is `Gone`; each way through a loop's body is one law of `BlockLoops`.
-use mathlib.Core.Path.{sym, ◌∙◌}
+-- The walks over blocks meet their contracts. The invariant of each loop is `Gone`; each way through a loop's body is one law of `BlockTurns`.
+use mathlib.Core.Path.{refl, sym, ◌∙◌}
 use native.Mathlib.Omega.{arith}
+use Rattle.reader.proofs.lemmas.walk.LoopInvariant.{past_fault}
+use Rattle.reader.proofs.lemmas.walk.Refusals.{refusal_some}
 use Rattle.reader.proofs.lemmas.commands.CommandClasses.{not_ended}
-use Rattle.reader.proofs.lemmas.commands.BlockLoops.{begun, answered, gone_on, later, place_from, place_within, past_bounded}
-use Rattle.reader.proofs.lemmas.commands.BlockLoops.{command_end, command_cut, content_end}
-use Rattle.reader.proofs.lemmas.commands.BlockLoops.{turn_fits, atom_forward, list_forward, refused_bounded, command_refused, content_refused, command_atom, content_atom}
-use Rattle.reader.proofs.lemmas.commands.BlockLoops.{taken_forward, fewer, parameter_stopped, parameter_passed, belongs, child_stopped, child_passed}
-use Rattle.reader.proofs.lemmas.commands.BlockLoops.{command_child, inside_child}
+use Rattle.reader.proofs.lemmas.commands.BlockLoops.{exit, past_bounded, not_closed, command_cut, command_child, inside_child}
+use Rattle.reader.proofs.lemmas.commands.BlockTurns.{may_turn, list_starts, content_starts, content_answers, parameter_refused, past_atom, in_parameter, past_parameter}
+use Rattle.reader.proofs.lemmas.commands.BlockTurns.{content_ended, child_refused, past_atom_child, child_belongs, in_child, past_child}
 use Rattle.reader.proofs.commands.+block_child_content.Goals as goal
 
-pub block-loop-seen-init : goal.block-loop-seen-init
-block-loop-seen-init t c = let pre = c.requires in
-    begun pre.0 pre.1 pre.2
-
-pub block-returns-then-text-end : goal.block-returns-then-text-end
-block-returns-then-text-end t c =
-    let whole = let a = command_cut c.look-seen.ensures c.if-seen-eq-THE_END.true c.if-text-end.true
-    c.refusal.ensures in
-    answered c.loop-seen.invariant a.0 a.1 in
-    record { bounded = whole.0; in_command = whole.1 }
+pub block-returns-in_err-first-clause-in_command : goal.block-returns-in_err-first-clause-in_command
+block-returns-in_err-first-clause-in_command t c =
+    rw (exit _ _ c.from_residual.ensures.1)
+    (c.loop-reached.invariant.goes _ _ (command_cut c.look-seen.ensures c.if-seen-eq-THE_END.true (not_closed _ _ _ c.in_err-first.ensures)))
 
 pub block-content-requires : goal.block-content-requires
-block-content-requires t c = let pre = c.requires in
-    let inv = c.loop-seen.invariant in
-    let h = place_from _ _ c.look-seen.ensures inv.within in (
-      omega (arith, h, c.decreases, inv.forward),
-      (
-        omega (arith, c.if-text-end.false),
-        omega (arith, h, inv.nodes_within),
-        omega (arith, h, inv.pool_within),
-        pre.3,
-        pre.4,
-      ),
-    )
+block-content-requires t c =
+    let starts = content_starts c.loop-reached.invariant c.look-seen.ensures c.in_ok-first.ensures c.requires.3 c.requires.4 in
+    (omega (arith, starts, c.decreases), starts.1)
 
 pub block-returns-then-seen-eq-THE_END : goal.block-returns-then-seen-eq-THE_END
 block-returns-then-seen-eq-THE_END t c =
-    let whole = let look = c.look-seen in
-    let inv = c.loop-seen.invariant in
-    let h = place_from _ _ look.ensures inv.within in
-    answered inv (later (omega (arith, h)) c.content.ensures.bounded)
-    (command_end look.ensures c.if-seen-eq-THE_END.true c.content.ensures.in_content) in
+    let content = c.content.ensures in
+    let whole = content_answers c.loop-reached.invariant c.look-seen.ensures c.if-seen-eq-THE_END.true c.in_ok-first.ensures content.bounded content.in_content in
     record { bounded = whole.0; in_command = whole.1 }
 
-pub block-turn_as-t-requires : goal.block-turn_as-t-requires
-block-turn_as-t-requires t c = let pre = c.requires in
-    let look = c.look-seen in
-    let inv = c.loop-seen.invariant in (
-      inv.nodes_within,
-      turn_fits _ _ look.ensures inv.within c.if-seen-eq-THE_END.false inv.pool_within,
-      omega (arith, inv.within, pre),
-      omega (
-        arith,
-        place_within _ _ look.ensures
-            inv.within,
-        pre,
-      ),
-      pre.4,
-    )
+pub block-take_turn-requires : goal.block-take_turn-requires
+block-take_turn-requires t c =
+    let may = may_turn c.loop-reached.invariant c.look-seen.ensures c.if-seen-eq-THE_END.false c.requires.3 in
+    (may.0, may.1, may.2, may.3, c.requires.4)
 
-pub block-returns-in-Done : goal.block-returns-in-Done
-block-returns-in-Done t c =
-    let whole = let inv = c.loop-seen.invariant in
-    let turned = rw (c.in-Done.is, c.in_command.ensures) at
-    c.turn_as-t.ensures in
-    answered inv (refused_bounded turned)
-    (command_refused _ _ c.look-seen.ensures inv.within
-    c.if-seen-eq-THE_END.false turned) in
-    record { bounded = whole.0; in_command = whole.1 }
+pub block-returns-in_err-passed-clause-in_command : goal.block-returns-in_err-passed-clause-in_command
+block-returns-in_err-passed-clause-in_command t c =
+    rw (exit _ _ c.from_residual-in_err-passed.ensures.1)
+    (parameter_refused c.loop-reached.invariant c.look-seen.ensures c.if-seen-eq-THE_END.false c.in_command.ensures c.in_err-passed.ensures)
 
-pub block-loop-seen-smaller-in-Atom : goal.block-loop-seen-smaller-in-Atom
-block-loop-seen-smaller-in-Atom t c = let inv = c.loop-seen.invariant in
-    let turned = rw (c.in-Atom.is, c.in_command.ensures) at
-    c.turn_as-t.ensures in
-    omega (
-      arith,
-      list_forward _ _ c.look-seen.ensures inv.within
-          c.if-seen-eq-THE_END.false turned.0,
-    )
+pub block-loop-reached-smaller-in-Atom : goal.block-loop-reached-smaller-in-Atom
+block-loop-reached-smaller-in-Atom t c =
+    let turn = rw c.in-Atom.is at c.in_ok-passed.ensures in
+    omega (arith, past_atom c.loop-reached.invariant c.look-seen.ensures c.if-seen-eq-THE_END.false c.in_command.ensures turn)
 
-pub block-loop-seen-preserved-in-Atom : goal.block-loop-seen-preserved-in-Atom
-block-loop-seen-preserved-in-Atom t c = let look = c.look-seen in
-    let if1 = c.if-seen-eq-THE_END in
-    let inv = c.loop-seen.invariant in
-    let turned = rw (c.in-Atom.is, c.in_command.ensures) at
-    c.turn_as-t.ensures in
-    gone_on inv (atom_forward _ _ look.ensures inv.within
-    if1.false turned.0 inv.nodes_within inv.pool_within turned.2 turned.3)
-    (command_atom _ _ look.ensures inv.within
-    if1.false turned.0 turned.1)
+pub block-loop-reached-preserved-in-Atom : goal.block-loop-reached-preserved-in-Atom
+block-loop-reached-preserved-in-Atom t c =
+    let turn = rw c.in-Atom.is at c.in_ok-passed.ensures in
+    (past_atom c.loop-reached.invariant c.look-seen.ensures c.if-seen-eq-THE_END.false c.in_command.ensures turn).1
 
 pub block-inside-requires : goal.block-inside-requires
-block-inside-requires t c = let pre = c.requires in
-    let look = c.look-seen in
-    let inv = c.loop-seen.invariant in
-    let turned = rw (c.in-List.is, c.in_command.ensures) at
-    c.turn_as-t.ensures in
-    let h = list_forward _ _ look.ensures inv.within
-    c.if-seen-eq-THE_END.false turned.0 in (
-      h.1,
-      omega (arith, h, inv.nodes_within),
-      omega (arith, h, inv.pool_within),
-      pre.3,
-      pre.4,
-      omega (
-        arith,
-        turned.2,
-        place_within _ _ look.ensures
-            inv.within,
-      ),
+block-inside-requires t c =
+    let turn = rw c.in-List.is at c.in_ok-passed.ensures in
+    (list_starts c.loop-reached.invariant c.look-seen.ensures c.if-seen-eq-THE_END.false turn c.requires.3 c.requires.4).1
+
+pub block-returns-in_err-end-in-List-clause-in_command : goal.block-returns-in_err-end-in-List-clause-in_command
+block-returns-in_err-end-in-List-clause-in_command t c =
+    let turn = rw c.in-List.is at c.in_ok-passed.ensures in
+    let inside = c.in_err-end-in-List.ensures in
+    let stopped = refusal_some _ in
+    rw (exit _ _ c.from_residual-in_err-end-in-List.ensures.1)
+    (in_parameter c.loop-reached.invariant c.look-seen.ensures c.if-seen-eq-THE_END.false c.in_command.ensures turn inside.bounded inside.judges_list
+    (sym (past_fault _ _ stopped)) stopped)
+
+pub block-returns-in_err-reached-in-List-clause-in_command : goal.block-returns-in_err-reached-in-List-clause-in_command
+block-returns-in_err-reached-in-List-clause-in_command t c =
+    let turn = rw c.in-List.is at c.in_ok-passed.ensures in
+    let inside = c.in_ok-end-in-List.ensures in
+    rw (exit _ _ c.from_residual-in_err-reached-in-List.ensures.1)
+    (in_parameter c.loop-reached.invariant c.look-seen.ensures c.if-seen-eq-THE_END.false c.in_command.ensures turn inside.bounded inside.judges_list
+    c.in_err-reached-in-List.ensures (refusal_some _))
+
+pub block-loop-reached-smaller : goal.block-loop-reached-smaller
+block-loop-reached-smaller t c =
+    let turn = rw c.in-List.is at c.in_ok-passed.ensures in
+    let inside = c.in_ok-end-in-List.ensures in
+    omega (
+      arith,
+      past_parameter c.loop-reached.invariant c.look-seen.ensures c.if-seen-eq-THE_END.false c.in_command.ensures turn inside.bounded
+          inside.judges_list c.in_ok-reached-in-List.ensures refl,
     )
 
-pub block-returns-then-w-ne0 : goal.block-returns-then-w-ne0
-block-returns-then-w-ne0 t c =
-    let whole = let look = c.look-seen in
-    let if1 = c.if-seen-eq-THE_END in
-    let inside = c.inside in
-    let past-bracket = c.past_bracket-w in
-    let inv = c.loop-seen.invariant in
-    let turned = rw (
-      c.in-List.is,
-      c.in_command.ensures,
-    ) at
-    c.turn_as-t.ensures in
-    let h = list_forward _ _
-    look.ensures inv.within
-    if1.false turned.0 in
-    answered inv (later (omega (arith, h)) (past_bounded inside.ensures.bounded past-bracket.ensures))
-    (parameter_stopped _ _ look.ensures
-    inv.within if1.false turned.0 turned.1
-    inside.ensures.bounded
-    (rw (turned.2, turned.3, turned.4) at inside.ensures.judges_list) past-bracket.ensures
-    c.if-w-ne0.true) in
-    record { bounded = whole.0; in_command = whole.1 }
+pub block-loop-reached-preserved : goal.block-loop-reached-preserved
+block-loop-reached-preserved t c =
+    let turn = rw c.in-List.is at c.in_ok-passed.ensures in
+    let inside = c.in_ok-end-in-List.ensures in
+    (past_parameter c.loop-reached.invariant c.look-seen.ensures c.if-seen-eq-THE_END.false c.in_command.ensures turn inside.bounded
+    inside.judges_list c.in_ok-reached-in-List.ensures refl).1
 
-pub block-loop-seen-smaller : goal.block-loop-seen-smaller
-block-loop-seen-smaller t c = let turned = rw (
-  c.in-List.is,
-  c.in_command.ensures,
-) at
-    c.turn_as-t.ensures in
-    fewer (taken_forward turned.0 (past_bounded c.inside.ensures.bounded c.past_bracket-w.ensures)
-    c.if-w-ne0.false)
+pub child-returns-in_err-end-clause-judges_child : goal.child-returns-in_err-end-clause-judges_child
+child-returns-in_err-end-clause-judges_child t c =
+    let inside = c.in_err-end.ensures in
+    rw (exit _ _ c.from_residual.ensures.1)
+    (inside_child (sym c.is_command.ensures ∙ c.if-not-is_command.true) c.requires.1 inside.bounded inside.judges_list
+    (sym (past_fault _ _ (refusal_some _))) (omega (arith, c.requires.0)))
 
-pub block-loop-seen-preserved : goal.block-loop-seen-preserved
-block-loop-seen-preserved t c = let inside = c.inside in
-    let past-bracket = c.past_bracket-w in
-    let inv = c.loop-seen.invariant in
-    let turned = rw (
-      c.in-List.is,
-      c.in_command.ensures,
-    ) at
-    c.turn_as-t.ensures in
-    gone_on inv (taken_forward turned.0 (past_bounded inside.ensures.bounded past-bracket.ensures)
-    c.if-w-ne0.false)
-    (parameter_passed _ _ c.look-seen.ensures
-    inv.within c.if-seen-eq-THE_END.false turned.0 turned.1
-    inside.ensures.bounded
-    (rw (turned.2, turned.3, turned.4) at inside.ensures.judges_list) past-bracket.ensures
-    c.if-w-ne0.false)
-
-pub child-enter-requires : goal.child-enter-requires
-child-enter-requires t c = let pre = c.requires in
-    (omega (arith, pre.0), pre.0.4, omega arith)
-
-pub child-overflow_add-nodes : goal.child-overflow_add-nodes
-child-overflow_add-nodes t c = omega (arith, c.requires.0, c.well_formed)
-
-pub child-block-w-requires : goal.child-block-w-requires
-child-block-w-requires t c = let pre = c.requires in (
-  omega (arith, c.decreases),
-  (
-    pre.0.0,
-    omega (arith, pre.0),
-    pre.0.2,
-    pre.0.3,
-    omega (arith, pre.0),
-  ),
-)
-
-pub child-leave-requires : goal.child-leave-requires
-child-leave-requires t c = λ y. omega (
-  arith,
-  c.block-w.ensures.bounded.bounds y,
-  c.requires.0,
-)
-
-pub child-returns-then-is_command : goal.child-returns-then-is_command
-child-returns-then-is_command t c = let pre = c.requires in
-    let block = c.block-w in record {
-      bounded = block.ensures.bounded;
-      judges_child = command_child (sym c.is_command.ensures
-          ∙ c.if-is_command.true)
-          pre.1
-          (omega (arith, pre.0))
-          block.ensures.bounded
-          block.ensures.in_command c.enter.ensures c.leave.ensures;
+pub child-returns-then-not-is_command : goal.child-returns-then-not-is_command
+child-returns-then-not-is_command t c =
+    let inside = c.in_ok-end.ensures in record {
+      bounded = past_bounded inside.bounded c.past_bracket.ensures;
+      judges_child = inside_child (sym c.is_command.ensures ∙ c.if-not-is_command.true)
+          c.requires.1 inside.bounded inside.judges_list c.past_bracket.ensures (omega (arith, c.requires.0));
     }
 
-pub child-inside-requires : goal.child-inside-requires
-child-inside-requires t c = c.requires.0
+pub child-returns-in_err-end-2-clause-judges_child : goal.child-returns-in_err-end-2-clause-judges_child
+child-returns-in_err-end-2-clause-judges_child t c =
+    let opened = c.opened.ensures in
+    let block = c.in_err-end-2.ensures in
+    rw (exit _ _ c.from_residual-in_err-end-2.ensures.1)
+    (command_child (sym c.is_command.ensures ∙ c.if-not-is_command.false) c.requires.1 (omega (arith, c.requires.0))
+    (rw opened.inner at block.bounded) (rw (opened.element, opened.inner) at block.in_command) opened.tape_after
+    (λ y. absurd (refusal_some _ y)))
 
-pub child-returns : goal.child-returns
-child-returns t c = let pre = c.requires in
-    let inside = c.inside in record {
-      bounded = past_bounded inside.ensures.bounded c.past_bracket.ensures;
-      judges_child = inside_child (sym c.is_command.ensures ∙ c.if-is_command.false)
-          pre.1 inside.ensures.bounded inside.ensures.judges_list
-          c.past_bracket.ensures (omega (arith, pre.0));
-    }
-
-pub content-loop-seen-init : goal.content-loop-seen-init
-content-loop-seen-init t c = let pre = c.requires in
-    begun pre.0 pre.1 pre.2
+pub child-returns-clause-judges_child : goal.child-returns-clause-judges_child
+child-returns-clause-judges_child t c =
+    let opened = c.opened.ensures in
+    let block = c.in_ok-end-2.ensures in
+    command_child (sym c.is_command.ensures ∙ c.if-not-is_command.false) c.requires.1 (omega (arith, c.requires.0))
+    (rw opened.inner at block.bounded) (rw (opened.element, opened.inner) at block.in_command) opened.tape_after
+    (λ y. rw opened.element at c.leave.ensures)
 
 pub content-returns-then-ends : goal.content-returns-then-ends
 content-returns-then-ends t c =
-    let whole = let inv = c.loop-seen.invariant in
-    let a = content_end c.look-seen.ensures inv.within inv.nodes_within inv.pool_within
-    (sym c.ends.ensures ∙ c.if-ends.true) c.at_end.ensures in
-    answered inv a.0 a.1 in
+    let whole = content_ended c.loop-seen.invariant c.look-seen.ensures (sym c.ends.ensures ∙ c.if-ends.true) c.at_end.ensures in
     record { bounded = whole.0; in_content = whole.1 }
 
-pub content-turn_as-t-requires : goal.content-turn_as-t-requires
-content-turn_as-t-requires t c = let pre = c.requires in
-    let look = c.look-seen in
-    let inv = c.loop-seen.invariant in
-    let goes_on = not_ended _ _ _ (sym c.ends.ensures ∙ c.if-ends.false) in (
-      inv.nodes_within,
-      turn_fits _ _ look.ensures inv.within goes_on.0 inv.pool_within,
-      omega (arith, inv.within, pre),
-      omega (
-        arith,
-        place_within _ _ look.ensures
-            inv.within,
-        pre,
-      ),
-      pre.4,
-    )
+pub content-take_turn-requires : goal.content-take_turn-requires
+content-take_turn-requires t c =
+    let goes_on = not_ended _ _ _ (sym c.ends.ensures ∙ c.if-ends.false) in
+    let may = may_turn c.loop-seen.invariant c.look-seen.ensures goes_on.0 c.requires.3 in
+    (may.0, may.1, may.2, may.3, c.requires.4)
 
-pub content-returns-in-Done : goal.content-returns-in-Done
-content-returns-in-Done t c =
-    let whole = let inv = c.loop-seen.invariant in
-    let goes_on = not_ended _ _ _ (sym c.ends.ensures
-    ∙ c.if-ends.false) in
-    let turned = rw (c.in-Done.is, c.loose.ensures) at
-    c.turn_as-t.ensures in
-    answered inv (refused_bounded turned)
-    (content_refused _ _ c.look-seen.ensures inv.within goes_on.0
-    goes_on.1 turned) in
-    record { bounded = whole.0; in_content = whole.1 }
+pub content-returns-in_err-passed-clause-in_content : goal.content-returns-in_err-passed-clause-in_content
+content-returns-in_err-passed-clause-in_content t c =
+    rw (exit _ _ c.from_residual.ensures.1)
+    (child_refused c.loop-seen.invariant c.look-seen.ensures (sym c.ends.ensures ∙ c.if-ends.false) c.loose.ensures c.in_err-passed.ensures)
 
 pub content-loop-seen-smaller-in-Atom : goal.content-loop-seen-smaller-in-Atom
-content-loop-seen-smaller-in-Atom t c = let inv = c.loop-seen.invariant in
-    let goes_on = not_ended _ _ _ (sym c.ends.ensures
-    ∙ c.if-ends.false) in
-    let turned = rw (c.in-Atom.is, c.loose.ensures) at
-    c.turn_as-t.ensures in
-    omega (
-      arith,
-      list_forward _ _ c.look-seen.ensures inv.within goes_on.0
-          turned.0,
-    )
+content-loop-seen-smaller-in-Atom t c =
+    let turn = rw c.in-Atom.is at c.in_ok-passed.ensures in
+    omega (arith, past_atom_child c.loop-seen.invariant c.look-seen.ensures (sym c.ends.ensures ∙ c.if-ends.false) c.loose.ensures turn)
 
 pub content-loop-seen-preserved-in-Atom : goal.content-loop-seen-preserved-in-Atom
-content-loop-seen-preserved-in-Atom t c = let look = c.look-seen in
-    let inv = c.loop-seen.invariant in
-    let goes_on = not_ended _ _ _ (sym c.ends.ensures
-    ∙ c.if-ends.false) in
-    let turned = rw (c.in-Atom.is, c.loose.ensures) at
-    c.turn_as-t.ensures in
-    gone_on inv (atom_forward _ _ look.ensures inv.within goes_on.0
-    turned.0 inv.nodes_within inv.pool_within turned.2 turned.3)
-    (content_atom _ _ look.ensures inv.within goes_on.0 turned.0
-    turned.1 turned.2 turned.3 turned.4)
+content-loop-seen-preserved-in-Atom t c =
+    let turn = rw c.in-Atom.is at c.in_ok-passed.ensures in
+    (past_atom_child c.loop-seen.invariant c.look-seen.ensures (sym c.ends.ensures ∙ c.if-ends.false) c.loose.ensures turn).1
 
-pub content-child-w-requires : goal.content-child-w-requires
-content-child-w-requires t c = let pre = c.requires in
-    let look = c.look-seen in
-    let inv = c.loop-seen.invariant in
-    let goes_on = not_ended _ _ _ (sym c.ends.ensures
-    ∙ c.if-ends.false) in
-    let turned = rw (c.in-List.is, c.loose.ensures) at
-    c.turn_as-t.ensures in
-    let h = list_forward _ _ look.ensures inv.within goes_on.0
-    turned.0 in (
-      omega (arith, h, c.decreases, inv.forward),
-      (
-        (
-          h.1,
-          omega (arith, h, inv.nodes_within),
-          omega (arith, h, inv.pool_within),
-          pre.3,
-          pre.4,
-          omega (
-            arith,
-            turned.2,
-            place_within _ _ look.ensures
-                inv.within,
-          ),
-        ),
-        rw turned.3 (belongs _ _ look.ensures inv.within
-            goes_on.0 turned.0 goes_on.1),
-      ),
-    )
+pub content-child-requires : goal.content-child-requires
+content-child-requires t c =
+    let goes_on = sym c.ends.ensures ∙ c.if-ends.false in
+    let turn = rw c.in-List.is at c.in_ok-passed.ensures in
+    let starts = list_starts c.loop-seen.invariant c.look-seen.ensures (not_ended _ _ _ goes_on).0 turn c.requires.3 c.requires.4 in
+    (omega (arith, starts, c.decreases), (starts.1, child_belongs c.loop-seen.invariant c.look-seen.ensures goes_on c.loose.ensures turn))
 
-pub content-returns-then-w-ne0 : goal.content-returns-then-w-ne0
-content-returns-then-w-ne0 t c =
-    let whole = let look = c.look-seen in
-    let child = c.child-w in
-    let inv = c.loop-seen.invariant in
-    let goes_on = not_ended _ _ _ (sym c.ends.ensures
-    ∙ c.if-ends.false) in
-    let turned = rw (
-      c.in-List.is,
-      c.loose.ensures,
-    ) at
-    c.turn_as-t.ensures in
-    let h = list_forward _ _ look.ensures
-    inv.within goes_on.0 turned.0 in
-    answered inv (later (omega (arith, h)) child.ensures.bounded)
-    (child_stopped _ _ look.ensures
-    inv.within goes_on.0 turned.0 turned.1 child.ensures.bounded
-    (rw (turned.2, turned.3, turned.4) at child.ensures.judges_child) c.if-w-ne0.true) in
-    record { bounded = whole.0; in_content = whole.1 }
-
-pub content-loop-seen-smaller : goal.content-loop-seen-smaller
-content-loop-seen-smaller t c = let turned = rw (
-  c.in-List.is,
-  c.loose.ensures,
-) at
-    c.turn_as-t.ensures in
-    fewer (taken_forward turned.0 c.child-w.ensures.bounded c.if-w-ne0.false)
+pub content-returns-in_err-reached-in-List-clause-in_content : goal.content-returns-in_err-reached-in-List-clause-in_content
+content-returns-in_err-reached-in-List-clause-in_content t c =
+    let turn = rw c.in-List.is at c.in_ok-passed.ensures in
+    let child = c.in_err-reached-in-List.ensures in
+    rw (exit _ _ c.from_residual-in_err-reached-in-List.ensures.1)
+    (in_child c.loop-seen.invariant c.look-seen.ensures (sym c.ends.ensures ∙ c.if-ends.false) c.loose.ensures turn child.bounded child.judges_child
+    (refusal_some _))
 
 pub content-loop-seen-preserved : goal.content-loop-seen-preserved
-content-loop-seen-preserved t c = let child = c.child-w in
-    let inv = c.loop-seen.invariant in
-    let goes_on = not_ended _ _ _ (sym c.ends.ensures
-    ∙ c.if-ends.false) in
-    let turned = rw (
-      c.in-List.is,
-      c.loose.ensures,
-    ) at
-    c.turn_as-t.ensures in
-    gone_on inv (taken_forward turned.0 child.ensures.bounded c.if-w-ne0.false)
-    (child_passed _ _ c.look-seen.ensures
-    inv.within goes_on.0 turned.0 turned.1 child.ensures.bounded
-    (rw (turned.2, turned.3, turned.4) at child.ensures.judges_child) c.if-w-ne0.false)
+content-loop-seen-preserved t c =
+    let turn = rw c.in-List.is at c.in_ok-passed.ensures in
+    let child = c.in_ok-reached-in-List.ensures in
+    (past_child c.loop-seen.invariant c.look-seen.ensures (sym c.ends.ensures ∙ c.if-ends.false) c.loose.ensures turn child.bounded child.judges_child refl).1

@@ -1,4 +1,4 @@
--- How the walk over the blocks of an imperative text goes on: the invariant of its loops, kept by each way through a loop's body.
+-- What a walk over the blocks of an imperative text answers, by what it answers from the next expression on.
 use Prim.Native.Nat.{ℕ, ◌+◌, ◌-◌, ◌≤◌, ◌<◌}
 use mathlib.Core.Path.{◌≡◌, refl, ap, sym, ◌∙◌}
 use mathlib.Core.Bool.{true, false, cond}
@@ -9,6 +9,9 @@ use native.Mathlib.Numerals.{add-one}
 use lib.Dec.{eqb, leb}
 use lib.ListN.{length, drop}
 use borrow.Author.Tests.{eqb-true, eqb-false, leb-true}
+use Rattle.std.specs.Prelude.{Result, Ok, Err}
+use Rattle.std.specs.Result.{IsErrAnd}
+use Rattle.std.proofs.lemmas.Result.{err_from_is_err_and}
 use Rattle.base.proofs.Booleans.{cond_case, bool_case, both, true_T, T_true}
 use Rattle.elements.specs.rules.Class as Class
 use Rattle.elements.specs.rules.Inside.{ended}
@@ -25,14 +28,17 @@ use Rattle.document.specs.reference.Meaning.{Verdict, fine, fault, finish, run, 
 use Rattle.document.proofs.BlockExpressions.{block_element}
 use Rattle.reader.specs.internal.RunStands.{Has, RunStands}
 use Rattle.reader.specs.internal.Counts.{node_count, node_count_in, pool_bytes, pool_bytes_in}
-use Rattle.reader.specs.internal.WalkAnswer.{walked_to, Bounded, PoolBound}
-use Rattle.reader.specs.internal.Tape.{entered, left, taped, taped_all}
+use Rattle.reader.specs.internal.WalkAnswer.{told, walked_to, Bounded}
+use Rattle.reader.specs.declared.walk.Reached.{Reached}
+use Rattle.reader.specs.declared.walk.Refused.{Refused}
+use Rattle.reader.specs.internal.Tape.{Tape, entered, left, taped, taped_all}
 use Rattle.document.specs.rules.Takes.{Takes, at_end, at_command, expression, a_block}
 use Rattle.reader.specs.internal.Walk.{run_answer, NamedListFirst, JudgesList, verdict_of, past_bracket, StepTakes}
 use Rattle.reader.specs.internal.BlockWalk.{command_class, loose_class, leads_command, ends_at}
 use Rattle.reader.specs.internal.Walks.{Refuses, by_step, stuck, TakenAs}
 use Rattle.reader.specs.internal.BlockWalk.{BlockAnswer, InCommand, InContent, Belongs, ChildAnswer, JudgesChild}
 use Rattle.reader.specs.internal.WalkAnswer.{Walked}
+use Rattle.reader.proofs.lemmas.walk.Refusals.{refusal_some}
 use Rattle.reader.proofs.lemmas.walk.SeenExpressions.{SeenAs, saw_end, saw_symbol, saw_string, saw_list, look_stands, seen_bounds}
 use Rattle.reader.proofs.lemmas.walk.OneTurn.{Looked, none_taken, run_bad, run_fine, run_fault, seen_forward, open_list, seen_within}
 use Rattle.reader.proofs.lemmas.tape.AfterWalk.{taped_on, element_tape_lem, taped_element}
@@ -41,47 +47,11 @@ use Rattle.document.proofs.BlockContents.{taken}
 use Rattle.reader.proofs.lemmas.commands.CommandClasses.{command_itself, parameter_class, loose_itself, loose_same, as_parameter, parameter_of_class, parameter_place}
 use Rattle.reader.proofs.lemmas.commands.CommandClasses.{first_taken, FirstSeen, first_seen, AtomSeen, atom_seen}
 
--- ---- the invariant
-
--- The walk that began at `from` has got to i, and what is the answer from there, and the tape, as `P` says, is that of the walk.
-pub record Gone (P : ℕ → ℕ → ℕ → ℕ → List ℕ → List ℕ → Walked → Type 0) (size from st₀ nodes pool : ℕ) (t₀ : List ℕ) (i st n p : ℕ)
-    (t : List ℕ) : Type 0 where
-  pub forward : from ≤ i
-  pub within : i ≤ size
-  pub nodes_within : n ≤ i
-  pub pool_within : PoolBound p i
-  pub goes : (z : List ℕ) (w : Walked) → P i st n p t z w → P from st₀ nodes pool t₀ z w
-
-module _ {P : ℕ → ℕ → ℕ → ℕ → List ℕ → List ℕ → Walked → Type 0} where
-  pub begun : {size from st nodes pool : ℕ} {t : List ℕ} → from ≤ size → nodes ≤ from → pool ≤ from
-      → Gone P size from st nodes pool t from st nodes pool t
-  begun h a b = record { forward = omega arith; within = h; nodes_within = a; pool_within = b; goes = λ z w x. x }
-
-  pub answered : {s t₀ t z : List ℕ} {from st₀ nodes pool i st n p : ℕ} {w : Walked} → Gone P (length s) from st₀ nodes pool t₀ i st n p t
-      → Bounded s i w
-      → P i st n p t z w → Bounded s from w × P from st₀ nodes pool t₀ z w
-  answered {z = z} {w = w} v b a = (record { bounds = λ y. omega (arith, b.bounds y, v.forward) }, v.goes z w a)
-
-  pub gone_on : {size from st₀ nodes pool i st n p j st' n' p' : ℕ} {t₀ t t' : List ℕ} → Gone P size from st₀ nodes pool t₀ i st n p t
-      → (i < j) × (j ≤ size) × (n' ≤ j) × (p' ≤ j) → ((z : List ℕ) (w : Walked) → P j st' n' p' t' z w → P i st n p t z w)
-      → Gone P size from st₀ nodes pool t₀ j st' n' p' t'
-  gone_on v b h =
-      record {
-        forward = omega (arith, v.forward, b);
-        within = b.1;
-        nodes_within = b.2;
-        pool_within = b.3;
-        goes = λ z w x. v.goes z w (h z w x);
-      }
-
--- The bytes left fall.
-pub fewer : {size i j n p : ℕ} → (i < j) × (j ≤ size) × (n ≤ j) × (p ≤ j) → size - j < size - i
-fewer h = omega arith
-
 -- ---- answers
 
-pub later : {s : List ℕ} {i j : ℕ} {w : Walked} → i ≤ j → Bounded s j w → Bounded s i w
-later h b = record { bounds = λ y. omega (arith, b.bounds y) }
+-- What the exit of a `?` answers is what the call answered.
+pub exit : (r : Result Reached Refused) (f : Refused) → IsErrAnd r (λ (e : Refused). e ≡ f) → told r ≡ told (Err f)
+exit r f h = let p = err_from_is_err_and r h in rw (p.1, p.2)
 
 -- What is seen is not seen before the place where it was looked for.
 pub place_from : (s : List ℕ) (i : ℕ) {sort q c j l : ℕ} → Looked s i sort q c j l → i ≤ length s → i ≤ q
@@ -119,7 +89,7 @@ module _ {s : List ℕ} {j : ℕ} {w r : Walked} (bounded : Bounded s j w) (past
 abbrev pub listed : {s : List ℕ} {q c j : ℕ} {es : Exprs} {m : ℕ} → NamedListFirst s q c j es m → Expr
 listed {q} o = list q (and o.lead o.rest)
 
-pub list_answer : {s t z : List ℕ} {q j k c n p node : ℕ} {w r : Walked} → Bounded s j w → JudgesList s q j k c n p node t z w
+list_answer : {s : List ℕ} {t z : Tape} {q j k c n p node : ℕ} {w r : Walked} → Bounded s j w → JudgesList s q j k c n p node t z w
     → r ≡ past_bracket (length s) w → 0 < j
     → {es : Exprs} {m : ℕ} (o : NamedListFirst s q c j es m)
     → (r ≡ walked_to r.next (n + node_count (listed o)) (p + pool_bytes (listed o)) (judge k (listed o))) × (r.number ≡ 0 → RunStands s r.next o.others m)
@@ -131,7 +101,7 @@ list_answer {k = k} {n = n} {p = p} {w = w} bounded judged past-it h o =
     (same, λ z. rw (next z) o.goes_on)
 
 -- The list is on the tape.
-pub list_tape : {s t z : List ℕ} {q j k c n p node : ℕ} {w r : Walked} → JudgesList s q j k c n p node t z w → r ≡ past_bracket (length s) w
+list_tape : {s : List ℕ} {t z : Tape} {q j k c n p node : ℕ} {w r : Walked} → JudgesList s q j k c n p node t z w → r ≡ past_bracket (length s) w
     → {es : Exprs} {m : ℕ} (o : NamedListFirst s q c j es m) → r.number ≡ 0 → length t ≡ 4096 → z ≡ taped t n node (listed o)
 unfolding taped
 list_tape {s = s} {w = w} {r = r} judged past-it o y full =
@@ -140,7 +110,7 @@ list_tape {s = s} {w = w} {r = r} judged past-it o y full =
 -- ---- an expression that is taken: `one` is what it counts as
 
 -- In a block's content: nothing inside it is at fault, and the answer is that of what follows; or something is, and the answer is that.
-content_passed : {s t t' z : List ℕ} {at k node st n p st' : ℕ} {es after : Exprs} {e : ℕ} {w : Walked} (one : Expr)
+content_passed : {s : List ℕ} {t t' z : Tape} {at k node st n p st' : ℕ} {es after : Exprs} {e : ℕ} {w : Walked} (one : Expr)
     → StepTakes k st (expr_class one) st'
     → judge k one ≡ fine
     → ((content rest : Exprs) → Takes (Class.significance k) after content rest → Takes (Class.significance k) es (and one content) rest)
@@ -157,7 +127,7 @@ content_passed {t = t} {t' = t'} {z = z} {at = at} {k = k} {node = node} {st = s
       goes_on = a.goes_on;
     }
 
-content_stopped : {s t z : List ℕ} {at k node st : ℕ} (st' n p : ℕ) {es : Exprs} (after : Exprs) (e : ℕ) {w : Walked} (one : Expr) (f q : ℕ)
+content_stopped : {s : List ℕ} {t z : Tape} {at k node st : ℕ} (st' n p : ℕ) {es : Exprs} (after : Exprs) (e : ℕ) {w : Walked} (one : Expr) (f q : ℕ)
     → StepTakes k st (expr_class one) st' → judge k one ≡ fault f q
     → ((content rest : Exprs) → Takes (Class.significance k) after content rest → Takes (Class.significance k) es (and one content) rest)
     → (w.number ≡ 0 → ⊥) → (m a b : ℕ) → w ≡ walked_to m a b (fault f q) → BlockAnswer s at k node st n p t z none es e w
@@ -174,7 +144,7 @@ content_stopped {at = at} {k = k} {st = st} st' n p after e {w = w} one f q u h 
     }
 
 -- In a command's bracket it is a parameter.
-command_passed : {s t t' z : List ℕ} {at k node st n p st' : ℕ} (ps : Exprs) {es : Exprs} {e : ℕ} {w : Walked} (one : Expr)
+command_passed : {s : List ℕ} {t t' z : Tape} {at k node st n p st' : ℕ} (ps : Exprs) {es : Exprs} {e : ℕ} {w : Walked} (one : Expr)
     → is_block_parameter (expr_class one) ≡ true → StepTakes k st (expr_class one) st' → judge k one ≡ fine
     → (length t ≡ 4096 → t' ≡ taped t n node one)
     → BlockAnswer s at k node st' (n + node_count one) (p + pool_bytes one) t' z (in_command ps) es e w
@@ -190,7 +160,7 @@ command_passed {t = t} {t' = t'} {z = z} {at = at} {k = k} {node = node} {st = s
       goes_on = a.goes_on;
     }
 
-command_stopped : {s t z : List ℕ} {at k node st : ℕ} (st' n p : ℕ) (ps es : Exprs) (e : ℕ) {w : Walked} (one : Expr) (f q : ℕ)
+command_stopped : {s : List ℕ} {t z : Tape} {at k node st : ℕ} (st' n p : ℕ) (ps es : Exprs) (e : ℕ) {w : Walked} (one : Expr) (f q : ℕ)
     → is_block_parameter (expr_class one) ≡ true → StepTakes k st (expr_class one) st' → judge k one ≡ fault f q → (w.number ≡ 0 → ⊥)
     → (m a b : ℕ) → w ≡ walked_to m a b (fault f q) → BlockAnswer s at k node st n p t z (in_command (and one ps)) es e w
 unfolding join in_command
@@ -208,7 +178,7 @@ command_stopped {at = at} {k = k} {st = st} st' n p ps es e {w = w} one f q i u 
 -- ---- the end
 
 -- At the end of a command's bracket the answer is that of the content after it.
-pub command_end : {s t y : List ℕ} {at k node i st n p sort q c j l : ℕ} {w : Walked} → Looked s i sort q c j l → sort ≡ 0
+pub command_end : {s : List ℕ} {t y : Tape} {at k node i st n p sort q c j l : ℕ} {w : Walked} → Looked s i sort q c j l → sort ≡ 0
     → InContent s at k node (q + 1) st n p t y w → InCommand s at k node i st n p t y w
 unfolding in_command
 command_end {s = s} {t = t} {y = y} {at = at} {k = k} {node = node} {i = i} {st = st} {n = n} {p = p} {q = q} {w = w} looked z a =
@@ -221,14 +191,27 @@ command_end {s = s} {t = t} {y = y} {at = at} {k = k} {node = node} {i = i} {st 
     by (saw_string h c l f t) z u = let o : ◌≡◌ {A = ℕ} 0 1 = cc in absurd (omega arith)
     by (saw_list x h c f t d b v) z u = let o : ◌≡◌ {A = ℕ} 0 1 = cc in absurd (omega arith)
 
--- Where a command's bracket is not closed, no expressions stand.
-pub command_cut : {s t y : List ℕ} {at k node i st n p sort q c j l : ℕ} {w : Walked} → Looked s i sort q c j l → sort ≡ 0 → length s ≤ q
-    → w ≡ walked_to 0 0 0 (fault 8 q) → Bounded s i w × InCommand s at k node i st n p t y w
+-- Past the place where a command's bracket ends: a bracket is closed there.
+pub closed_at : {m : ℕ} {end r : Reached} → told (Ok r) ≡ past_bracket m (told (Ok end))
+    → (end.place < m) × (r.place ≡ end.place + 1) × (r.nodes ≡ end.nodes) × (r.pool ≡ end.pool)
 unfolding walked_to
-command_cut {s = s} {i = i} {q = q} {w = w} looked z l g = (
-  record { bounds = λ y. omega (arith, y, ap (λ (w : Walked). w.number) g) },
-  record { answers = λ ps m x es e t h u. absurd (by (look_stands s i m ps t) (sym looked.0 ∙ z) h.inside) },
-)
+closed_at {m} {end} {r} e =
+    let h = past_none m (told (Ok end)) (told (Ok r)) e refl in
+    (h.1, ap (λ (w : Walked). w.next) h.2, ap (λ (w : Walked). w.nodes) h.2, ap (λ (w : Walked). w.pool) h.2)
+
+-- Or none is.
+pub not_closed : (m : ℕ) (end : Reached) (f : Refused) → told (Err f) ≡ past_bracket m (told (Ok end)) → m ≤ end.place
+unfolding past_bracket walked_to
+not_closed m end f e =
+    bool_case (leb m end.place)
+    (λ h. leb-true m end.place h)
+    (λ h. absurd (refusal_some f.refusal (ap (λ (w : Walked). w.number) (rw h at e))))
+
+-- Then no expressions stand.
+pub command_cut : {s : List ℕ} {t y : Tape} {at k node i st n p sort q c j l : ℕ} {w : Walked} → Looked s i sort q c j l → sort ≡ 0 → length s ≤ q
+    → InCommand s at k node i st n p t y w
+command_cut {s = s} {i = i} {q = q} {w = w} looked z l =
+    record { answers = λ ps m x es e t h u. absurd (by (look_stands s i m ps t) (sym looked.0 ∙ z) h.inside) }
   where
     by : {ps : Exprs} {m : ℕ} → SeenAs s (seen i (drop i s)) ps m → (seen i (drop i s)).sort ≡ 0 → m < length s → ⊥
     by (saw_end h) z u = omega (arith, looked.1)
@@ -261,7 +244,7 @@ end_same : (at k st n p i : ℕ) (v : Verdict) → v ≡ cond (ended k (state_of
 unfolding run_answer run finish node_count_in pool_bytes_in join
 end_same at k st n p i v d = next_same i n p v ∙ rw (add-zero n, add-zero p, ← d)
 
-pub content_end : {s t : List ℕ} {at k node i st n p sort q c j l : ℕ} {w : Walked} → Looked s i sort q c j l → i ≤ length s → n ≤ i → p ≤ i
+pub content_end : {s : List ℕ} {t : Tape} {at k node i st n p sort q c j l : ℕ} {w : Walked} → Looked s i sort q c j l → i ≤ length s → n ≤ i → p ≤ i
     → ends_at k sort c ≡ true → w ≡ walked_to i n p (cond (ended k (state_of k st)) fine (fault 9 at))
     → Bounded s i w × InContent s at k node i st n p t t w
 unfolding walked_to join taped_all
@@ -294,9 +277,6 @@ refused_number : {at i q j k st d : ℕ} {w : Walked} → Refuses at i q j d k s
 unfolding walked_to
 refused_number (by_step f z h e) y = z (sym (ap (λ (w : Walked). w.number) e) ∙ y)
 refused_number (stuck h e) y = omega (arith, y, ap (λ (w : Walked). w.number) e)
-
-pub refused_bounded : {s : List ℕ} {at i q j k st d : ℕ} {w : Walked} → Refuses at i q j d k st w → Bounded s i w
-refused_bounded r = record { bounds = λ y. absurd (refused_number r y) }
 
 -- The walk goes on after a list: r is its answer.
 pub taken_forward : {s : List ℕ} {i j d k st j' st' : ℕ} {r : Walked} → TakenAs i j d k st j' st' → Bounded s j' r → r.number ≡ 0
@@ -342,7 +322,7 @@ module _ (s : List ℕ) (i : ℕ) {sort q c j l : ℕ} (looked : Looked s i sort
   refused_first {es} {e} n p m (stuck h g) t one rest a b =
       absurd (omega (arith, (seen_bounds s i within).place_from, looked.3, seen_forward (look_stands s i e es t) (λ z. some (looked.0 ∙ z))))
 
-  pub command_refused : {at k node st n p : ℕ} {t z : List ℕ} {w : Walked} → Refuses at i q j (command_class c) k st w
+  pub command_refused : {at k node st n p : ℕ} {t z : Tape} {w : Walked} → Refuses at i q j (command_class c) k st w
       → InCommand s at k node i st n p t z w
   unfolding in_command join
   command_refused {k = k} {n = n} {p = p} {w = w} r =
@@ -362,7 +342,7 @@ module _ (s : List ℕ) (i : ℕ) {sort q c j l : ℕ} (looked : Looked s i sort
             });
       }
 
-  pub content_refused : {at k node st n p : ℕ} {t z : List ℕ} {w : Walked} → (leads_command c ≡ true → Class.significance c < Class.significance k)
+  pub content_refused : {at k node st n p : ℕ} {t z : Tape} {w : Walked} → (leads_command c ≡ true → Class.significance c < Class.significance k)
       → Refuses at i q j (loose_class c) k st w
       → InContent s at k node i st n p t z w
   unfolding join
@@ -393,16 +373,16 @@ module _ (s : List ℕ) (i : ℕ) {sort q c j l : ℕ} (looked : Looked s i sort
   to_next h t = rw (h, looked.3) t
 
   -- It is no parameter.
-  pub command_atom : {at k node st n p j' st' n' p' : ℕ} {t t' : List ℕ} → TakenAs i j (command_class c) k st j' st' → (sort ≡ 3 → ⊥)
-      → (z : List ℕ) (w : Walked) → InCommand s at k node j' st' n' p' t' z w → InCommand s at k node i st n p t z w
+  pub command_atom : {at k node st n p j' st' n' p' : ℕ} {t t' : Tape} → TakenAs i j (command_class c) k st j' st' → (sort ≡ 3 → ⊥)
+      → (z : Tape) (w : Walked) → InCommand s at k node j' st' n' p' t' z w → InCommand s at k node i st n p t z w
   unfolding command_class is_block_parameter
   command_atom {k = k} {st = st} {st' = st'} h a z w b =
       record { answers = λ ps m x es e u g v. absurd (none_taken k st st' (rw (looked.2 ∙ (atom_of a u).text) at h.taken)) }
 
-  pub content_atom : {at k node st n p j' st' n' p' : ℕ} {t t' : List ℕ} → TakenAs i j (loose_class c) k st j' st' → (sort ≡ 3 → ⊥) → n' ≡ n + 1
+  pub content_atom : {at k node st n p j' st' n' p' : ℕ} {t t' : Tape} → TakenAs i j (loose_class c) k st j' st' → (sort ≡ 3 → ⊥) → n' ≡ n + 1
       → p' ≡ p + l
       → (length t ≡ 4096 → t' ≡ entered t n q Class.text node (n + 1))
-      → (z : List ℕ) (w : Walked) → InContent s at k node j' st' n' p' t' z w → InContent s at k node i st n p t z w
+      → (z : Tape) (w : Walked) → InContent s at k node j' st' n' p' t' z w → InContent s at k node i st n p t z w
   unfolding loose_class is_block_parameter
   content_atom {k = k} {node = node} {n = n} {st' = st'} {t = t} {t' = t'} h a nodes pool stored z w b =
       record {
@@ -424,7 +404,7 @@ module _ (s : List ℕ) (i : ℕ) {sort q c j l : ℕ} (looked : Looked s i sort
       (open_list (look_stands s i e es t) (sym looked.0 ∙ z) (λ y. none_taken k st st' (rw (same ∙ looked.2 ∙ y) at h.taken)))
 
   -- A parameter: w is its answer, and r that past its closing bracket.
-  module _ {k node st n p j' st' : ℕ} {t t' : List ℕ} {w r : Walked} (taking : TakenAs i j (command_class c) k st j' st') (z : sort ≡ 3)
+  module _ {k node st n p j' st' : ℕ} {t t' : Tape} {w r : Walked} (taking : TakenAs i j (command_class c) k st j' st') (z : sort ≡ 3)
       (bounded : Bounded s j' w)
       (judged : JudgesList s q j' k (command_class c) n p node t t' w) (past-it : r ≡ past_bracket (length s) w) where
     counts : command_class c ≡ 0 → ⊥
@@ -442,7 +422,7 @@ module _ (s : List ℕ) (i : ℕ) {sort q c j l : ℕ} (looked : Looked s i sort
     by_outcome : {ps : Exprs} {m : ℕ} (o : NamedListFirst s q (command_class c) j' ps m) → ChildVerdict k n p (listed o) r
     by_outcome o = child_verdict s j' k n p (listed o) r (past_bounded bounded past-it) before (list_answer bounded judged past-it before o).0
 
-    pub parameter_stopped : {at : ℕ} {z : List ℕ} → (r.number ≡ 0 → ⊥) → InCommand s at k node i st n p t z r
+    pub parameter_stopped : {at : ℕ} {z : Tape} → (r.number ≡ 0 → ⊥) → InCommand s at k node i st n p t z r
     unfolding expr_class list_class
     parameter_stopped {at} {z = z'} y =
         record { answers = λ ps m x es e u g v. let o = opened taking same z u in rw o.made (by es e o (by_outcome o)) }
@@ -453,7 +433,7 @@ module _ (s : List ℕ) (i : ℕ) {sort q c j l : ℕ} (looked : Looked s i sort
         by es e o (stopped f v d x g) =
             command_stopped st' n p o.others es e (listed o) f v (rw (o.of_class, same) is_parameter) (rw o.of_class taking.taken) d x _ _ _ g
 
-    pub parameter_passed : {at : ℕ} → r.number ≡ 0 → (z : List ℕ) (w : Walked) → InCommand s at k node r.next st' r.nodes r.pool t' z w
+    pub parameter_passed : {at : ℕ} → r.number ≡ 0 → (z : Tape) (w : Walked) → InCommand s at k node r.next st' r.nodes r.pool t' z w
         → InCommand s at k node i st n p t z w
     unfolding expr_class list_class
     parameter_passed {at} y z' w b =
@@ -475,12 +455,12 @@ module _ (s : List ℕ) (i : ℕ) {sort q c j l : ℕ} (looked : Looked s i sort
     pub belongs : (leads_command c ≡ true → Class.significance c < Class.significance k) → Belongs k (loose_class c)
     belongs lesser = record { lesser = rw itself lesser; itself = ap loose_class itself }
 
-    module _ {n p node : ℕ} {t t' : List ℕ} {r : Walked} (z : sort ≡ 3) (bounded : Bounded s j' r)
+    module _ {n p node : ℕ} {t t' : Tape} {r : Walked} (z : sort ≡ 3) (bounded : Bounded s j' r)
         (child : JudgesChild s q j' k (loose_class c) n p node t t' r) where
       by_child : {es : Exprs} {e : ℕ} (d : ChildAnswer s k (loose_class c) n p node t t' es e r) → ChildVerdict k n p d.one r
       by_child d = child_verdict s j' k n p d.one r bounded (omega (arith, taking.forward, taking.next)) d.same
 
-      pub child_stopped : {at : ℕ} {z : List ℕ} → (r.number ≡ 0 → ⊥) → InContent s at k node i st n p t z r
+      pub child_stopped : {at : ℕ} {z : Tape} → (r.number ≡ 0 → ⊥) → InContent s at k node i st n p t z r
       child_stopped {at} {z = z'} y = record { answers = λ es e u. let d = child.counted es e (opened taking itself z u) in by d (by_child d) }
         where
           by : {es : Exprs} {e : ℕ} (d : ChildAnswer s k (loose_class c) n p node t t' es e r) → ChildVerdict k n p d.one r
@@ -488,7 +468,7 @@ module _ (s : List ℕ) (i : ℕ) {sort q c j l : ℕ} (looked : Looked s i sort
           by d (passed h x a b) = absurd (y x)
           by {e} d (stopped f v h x g) = content_stopped st' n p d.after e d.one f v (rw d.of_class taking.taken) h d.takes x _ _ _ g
 
-      pub child_passed : {at : ℕ} → r.number ≡ 0 → (z : List ℕ) (w : Walked) → InContent s at k node r.next st' r.nodes r.pool t' z w
+      pub child_passed : {at : ℕ} → r.number ≡ 0 → (z : Tape) (w : Walked) → InContent s at k node r.next st' r.nodes r.pool t' z w
           → InContent s at k node i st n p t z w
       child_passed {at} y z' w b = record { answers = λ es e u. let d = child.counted es e (opened taking itself z u) in by d (by_child d) }
         where
@@ -507,7 +487,7 @@ unfolding run_answer judge node_count pool_bytes
 block_same q c k n p m lead es e h g = rw (e, h) (g ∙ rw (start_state c, add-one n, suc-add n, ← add-suc n))
 
 -- And it is on the tape: its node is entered before the block is walked, and left after it.
-pub block_tape : {s t₁ t₂ z : List ℕ} {j : ℕ} {w : Walked} (t : List ℕ) (q c n node p m : ℕ) (lead : Expr) (es : Exprs) → lead_class lead ≡ c
+pub block_tape : {s : List ℕ} {t₁ t₂ z : Tape} {j : ℕ} {w : Walked} (t : Tape) (q c n node p m : ℕ) (lead : Expr) (es : Exprs) → lead_class lead ≡ c
     → Class.is_element c ≡ true
     → Bounded s j w → 0 < j → w ≡ run_answer q c 0 (n + 1) p m es → (length t ≡ 4096 → t₁ ≡ entered t n q c node 0)
     → (length t₁ ≡ 4096 → t₂ ≡ taped_all t₁ (n + 1) n es) → (length t₂ ≡ 4096 → z ≡ left t₂ n w.nodes) → w.number ≡ 0 → length t ≡ 4096
@@ -519,7 +499,7 @@ block_tape {t₁ = t₁} {t₂ = t₂} {z = z} {w = w} t q c n node p m lead es 
     ∙ sym (taped_element t n node q c lead es e h)
 
 -- A command's block is the child.
-pub command_child : {s t t₁ t₂ z : List ℕ} {q j k c n p node : ℕ} {w : Walked} → leads_command c ≡ true → Belongs k c → 0 < j → Bounded s j w
+pub command_child : {s : List ℕ} {t t₁ t₂ z : Tape} {q j k c n p node : ℕ} {w : Walked} → leads_command c ≡ true → Belongs k c → 0 < j → Bounded s j w
     → InCommand s q c n j 0 (n + 1) p t₁ t₂ w → (length t ≡ 4096 → t₁ ≡ entered t n q c node 0)
     → (w.number ≡ 0 → length t₂ ≡ 4096 → z ≡ left t₂ n w.nodes) → JudgesChild s q j k c n p node t z w
 unfolding leads_command is_command expr_class list_class block
@@ -544,7 +524,7 @@ command_child {t = t} {q = q} {k = k} {c = c} {n = n} {p = p} {node = node} {w =
     }
 
 -- Any other list is itself the child.
-pub inside_child : {s t z : List ℕ} {q j k c n p node : ℕ} {w r : Walked} → leads_command c ≡ false → Belongs k c → Bounded s j w
+pub inside_child : {s : List ℕ} {t z : Tape} {q j k c n p node : ℕ} {w r : Walked} → leads_command c ≡ false → Belongs k c → Bounded s j w
     → JudgesList s q j k c n p node t z w → r ≡ past_bracket (length s) w → 0 < j → JudgesChild s q j k c n p node t z r
 unfolding leads_command is_command expr_class list_class
 inside_child h b bounded judged past-it some =

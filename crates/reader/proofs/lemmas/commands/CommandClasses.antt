@@ -1,13 +1,13 @@
 -- What an expression counts as in a command and in a block's content.
-use Prim.Native.Nat.{ℕ, ◌+◌, ◌≤◌, ◌<◌}
+use Prim.Native.Nat.{ℕ, ◌+◌, ◌<◌}
 use mathlib.Core.Path.{◌≡◌, refl, sym, ◌∙◌}
 use mathlib.Core.Bool.{true, false, not, cond, ◌&&◌, ◌||◌}
 use mathlib.Core.List.{List}
 use native.Mathlib.Omega.{arith}
 use lib.Dec.{eqb, leb}
 use lib.ListN.{drop}
-use borrow.Author.Tests.{eqb-false, leb-false, le-leb, lt-leb, ne_eqb}
-use Rattle.base.proofs.Booleans.{cond_case, cond_under, bool_case, both, or_false, and_true, and_false, true_T, T_true, not-true}
+use borrow.Author.Tests.{eqb-false, leb-false}
+use Rattle.base.proofs.Booleans.{cond_case, cond_under, bool_case, both, or_false, true_T, T_true, not-true}
 use Rattle.elements.specs.rules.Class as Class
 use Rattle.syntax.specs.rules.Expression.{Expr, symbol, quoted, list, Exprs, none, and, place}
 use Rattle.atoms.specs.Atom.{atom_value}
@@ -21,23 +21,12 @@ use Rattle.document.proofs.BlockExpressions.{block_no_parameter}
 use Rattle.document.proofs.Regroup.{block_class}
 use Rattle.reader.specs.internal.RunStands.{RunStands}
 use Rattle.reader.specs.internal.Counts.{node_count, pool_bytes}
-use Rattle.reader.specs.internal.Tape.{entered, taped}
+use Rattle.reader.specs.internal.Tape.{Tape, entered, taped}
 use Rattle.document.specs.rules.Takes.{Takes, at_command, expression, a_block}
 use Rattle.reader.specs.internal.BlockWalk.{command_class, loose_class, leads_command, ends_at}
 use Rattle.reader.proofs.lemmas.walk.SeenExpressions.{SeenAs, saw_end, saw_symbol, saw_string, saw_list}
 
 -- ---- classes
-
-pub command_low : (c : ℕ) → c < 2 → leads_command c ≡ false
-unfolding leads_command Class.is_block
-command_low c h =
-    bool_case (eqb c Class.document)
-    (λ e. rw e (and_false (leb 1 c && leb c 7)))
-    (λ e. rw (lt-leb 1 c (omega (arith, eqb-false c 1 e))))
-
-pub command_high : (c : ℕ) → 2 ≤ c → leads_command c ≡ leb c 7
-unfolding leads_command Class.is_block
-command_high c h = rw (le-leb 1 c (omega arith), ne_eqb c Class.document (λ e. omega arith)) (and_true (leb c 7))
 
 -- What is no class in a command is no parameter, and what is one counts as itself.
 pub command_itself : (c : ℕ) → (command_class c ≡ 0 → ⊥) → is_block_parameter c ≡ true
@@ -52,7 +41,7 @@ pub loose_itself : (c : ℕ) → (loose_class c ≡ 0 → ⊥) → loose_class c
 unfolding loose_class
 loose_itself c h = bool_case (is_block_parameter c || eqb c Class.document) (λ e. absurd (h (rw e))) (λ e. rw e)
 
-pub command_loose : (c : ℕ) → leads_command c ≡ true → loose_class c ≡ c
+command_loose : (c : ℕ) → leads_command c ≡ true → loose_class c ≡ c
 unfolding leads_command loose_class
 command_loose c h =
     let (b, d) = both (Class.is_block c) (not (eqb c Class.document)) (true_T h) in
@@ -154,7 +143,7 @@ pub record AtomSeen (s : List ℕ) (r : Seen) (es : Exprs) (e : ℕ) : Type 0 wh
   pub judged : (k : ℕ) → judge k one ≡ fine
   pub nodes : node_count one ≡ 1
   pub bytes : pool_bytes one ≡ r.length
-  pub on_tape : (t : List ℕ) (n node : ℕ) → taped t n node one ≡ entered t n r.place Class.text node (n + 1)
+  pub on_tape : (t : Tape) (n node : ℕ) → taped t n node one ≡ entered t n r.place Class.text node (n + 1)
 
 pub atom_seen : {s : List ℕ} {r : Seen} {es : Exprs} {e : ℕ} → SeenAs s r es e → (r.sort ≡ 0 → ⊥) → (r.sort ≡ 3 → ⊥) → AtomSeen s r es e
 unfolding expr_class is_command loose is_block_parameter Class.is_block judge node_count pool_bytes taped

@@ -1,14 +1,18 @@
 -- A whole imperative text: no expression, a first one that is no document, or a document that is the block of its command.
 use Prim.Native.Nat.{ℕ, ◌+◌, ◌≤◌, ◌<◌}
-use mathlib.Core.Path.{◌≡◌, refl, ap, sym, ◌∙◌}
+use mathlib.Core.Path.{◌≡◌, refl, ap, ◌∙◌}
 use mathlib.Core.List.{List, [], ◌∷◌}
 use native.Mathlib.Nat.{zero-add}
 use native.Mathlib.Omega.{arith}
 use lib.ListN.{length}
 use borrow.Author.Tests.{le-ltb, ne_eqb}
+use Rattle.std.specs.Prelude.{Result, Err}
+use Rattle.std.specs.Result.{IsErrAnd}
+use Rattle.std.proofs.lemmas.Result.{err_from_is_err_and}
+use Rattle.base.specs.rules.Limits.{most_bytes}
 use Rattle.elements.specs.rules.Class as Class
 use Rattle.syntax.specs.rules.Expression.{Expr, Exprs, and, depth, depth_all}
-use Rattle.lexer.specs.Token.{Seen}
+use Rattle.lexer.specs.Token.{Seen, seen}
 use Rattle.document.specs.rules.Spelling.{imperative}
 use Rattle.document.specs.rules.Lead.{expr_class, list_class}
 use Rattle.document.specs.reference.Meaning.{fine, fault, judge, judge_root}
@@ -19,20 +23,30 @@ use Rattle.document.proofs.Regroup.{block_class}
 use Rattle.document.proofs.RegroupedDepth.{depth_regrouped}
 use Rattle.reader.specs.internal.RunStands.{RunStands}
 use Rattle.reader.specs.internal.Counts.{node_count, pool_bytes}
-use Rattle.reader.specs.internal.WalkAnswer.{walked_to, Bounded, read_walked}
-use Rattle.reader.specs.internal.Tape.{entered, left, taped}
+use Rattle.reader.specs.internal.WalkAnswer.{told, walked_to, Bounded, read_walked}
+use Rattle.reader.specs.internal.WalkAnswer.{judged as judged_numbers}
+use Rattle.reader.specs.internal.Tape.{Tape, entered, left, taped}
 use Rattle.document.specs.rules.Takes.{Takes}
 use Rattle.reader.specs.internal.Walk.{NamedListFirst}
 use Rattle.reader.specs.internal.BlockWalk.{InCommand}
 use Rattle.reader.specs.internal.WalkAnswer.{Walked}
+use Rattle.reader.specs.internal.Walks.{WalkStarts, RootOpened, RootRefused, no_expression, no_document, stuck}
+use Rattle.reader.specs.declared.walk.Element.{Element}
+use Rattle.reader.specs.declared.walk.Reached.{Reached}
+use Rattle.reader.specs.declared.walk.Refused.{Refused}
+use Rattle.reader.specs.declared.root.Counts.{Counts}
 use Rattle.reader.proofs.lemmas.walk.SeenExpressions.{SeenAs, saw_end, saw_symbol, saw_string, saw_list, look_stands}
-use Rattle.reader.proofs.lemmas.walk.OneTurn.{Looked, seen_forward, open_list}
+use Rattle.reader.proofs.lemmas.walk.OneTurn.{seen_forward, open_list}
 use Rattle.document.proofs.BlockContents.{takes_contents}
 use Rattle.reader.proofs.lemmas.commands.CommandClasses.{FirstSeen, first_seen, block_place}
-use Rattle.reader.proofs.lemmas.commands.BlockLoops.{ChildVerdict, passed, stopped, child_verdict, block_same, block_tape, listed}
+use Rattle.reader.proofs.lemmas.commands.BlockLoops.{ChildVerdict, passed, stopped, child_verdict, block_same, block_tape, listed, turn_within}
+
+-- What the exit of a `?` answers is what the call answered.
+pub exit_judged : (r : Result Counts Refused) (f : Refused) → IsErrAnd r (λ (e : Refused). e ≡ f) → judged_numbers r ≡ told (Err f)
+exit_judged r f h = let p = err_from_is_err_and r h in rw (p.1, p.2)
 
 -- w is the answer of a text that was scanned, and z the tape t with its document.
-abbrev pub JudgesImperative : List ℕ → List ℕ → List ℕ → Walked → Type 0
+abbrev pub JudgesImperative : List ℕ → Tape → Tape → Walked → Type 0
 JudgesImperative s t z w =
     ((es : Exprs) → RunStands s 0 es (length s) → depth_all es ≤ 59 → w ≡ read_walked (one_expression imperative (length s) es))
     × ((e : Expr) (es : Exprs) → RunStands s 0 (and e es) (length s) → depth_all (and e es) ≤ 59 → w.number ≡ 0 → length t ≡ 4096
@@ -78,7 +92,7 @@ document_opened (saw_string h c l f t) z d = absurd (omega (arith, c, d))
 document_opened (saw_list x h c f t g b u) z d = open_list (saw_list x h c f t g b u) h (λ y. omega (arith, y, d))
 
 -- A document's block: the answer is that of its nested form.
-module _ {s t₁ t₂ : List ℕ} {q j e : ℕ} {es : Exprs} {w : Walked} (o : NamedListFirst s q Class.document j es e)
+module _ {s : List ℕ} {t₁ t₂ : Tape} {q j e : ℕ} {es : Exprs} {w : Walked} (o : NamedListFirst s q Class.document j es e)
     (answer : InCommand s q Class.document 0 j 0 1 0 t₁ t₂ w) where
   abbrev nested : Expr
   nested = regroup (listed o) o.others
@@ -90,7 +104,7 @@ module _ {s t₁ t₂ : List ℕ} {q j e : ℕ} {es : Exprs} {w : Walked} (o : N
       rw (regrouped (listed o) a.takes) (block_same q 1 0 0 0 w.next o.lead _ o.of_class refl a.same)
 
   -- Its node is entered before the block is walked, and left after it.
-  document_tape : (t z : List ℕ) → Bounded s j w → 0 < j → (length t ≡ 4096 → t₁ ≡ entered t 0 q 1 4294967295 0)
+  document_tape : (t z : Tape) → Bounded s j w → 0 < j → (length t ≡ 4096 → t₁ ≡ entered t 0 q 1 4294967295 0)
       → (w.number ≡ 0 → length t₂ ≡ 4096 → z ≡ left t₂ 0 w.nodes) → w.number ≡ 0 → length t ≡ 4096 → z ≡ taped t 0 4294967295 nested
   unfolding block Class.is_element Class.is_kind Class.significance
   document_tape t z bounded some before after y full =
@@ -120,49 +134,59 @@ module _ {s t₁ t₂ : List ℕ} {q j e : ℕ} {es : Exprs} {w : Walked} (o : N
 same_regrouped : {x y : Expr} {es others : Exprs} → and y es ≡ and x others → regroup x others ≡ regroup y es
 same_regrouped {x} {y} {es} {others} e = let a : x ≡ y = cc in let b : others ≡ es = cc in rw (a, b)
 
-module _ (s t : List ℕ) {sort q c j l : ℕ} (looked : Looked s 0 sort q c j l) where
-  pub nothing_seen : {z : List ℕ} {w : Walked} → sort ≡ 0 → w ≡ walked_to 0 0 0 (fault 7 (length s)) → JudgesImperative s t z w
+module _ (s : List ℕ) (t : Tape) where
+  as_seen : {es : Exprs} → RunStands s 0 es (length s) → SeenAs s (seen 0 s) es (length s)
+  as_seen {es} u = look_stands s 0 (length s) es u
+
+  -- Where there is no root, or another than a document's, the text is refused.
+  pub root_refused : {z : Tape} {w : Walked} → RootRefused s w → JudgesImperative s t z w
   unfolding walked_to
-  nothing_seen z g = (
-    λ es u d. g ∙ none_judged (length s) (look_stands s 0 (length s) es u) (sym looked.0 ∙ z),
+  root_refused (no_expression e g) = (
+    λ es u d. g ∙ none_judged (length s) (as_seen u) e,
     λ e es u d y full. absurd (omega (arith, y, ap (λ (w : Walked). w.number) g)),
   )
+  root_refused (no_document some h g) = (
+    λ es u d. g ∙ other_judged (length s) (first_seen (as_seen u) some) h,
+    λ e es u d y full. absurd (omega (arith, y, ap (λ (w : Walked). w.number) g)),
+  )
+  root_refused (stuck some h g) = (
+    λ es u d. absurd (omega (arith, seen_forward (as_seen u) some)),
+    λ e es u d y full. absurd (omega (arith, seen_forward (as_seen u) some)),
+  )
 
-  module _ (some : sort ≡ 0 → ⊥) where
-    pub no_document : {z : List ℕ} {w : Walked} → (c ≡ Class.document → ⊥) → w ≡ walked_to 0 0 0 (fault 8 q) → JudgesImperative s t z w
-    unfolding walked_to
-    no_document h g = (
-      λ es u d.
-          g ∙ rw looked.1 (other_judged (length s) (first_seen (look_stands s 0 (length s) es u) (λ z. some (looked.0 ∙ z)))
-          (rw looked.2 at h)),
-      λ e es u d y full. absurd (omega (arith, y, ap (λ (w : Walked). w.number) g)),
+  -- Where it is opened, its content may be walked.
+  pub root_starts : {t₁ : Tape} {x : Element} {from : Reached} → RootOpened s t t₁ x from → length s ≤ most_bytes → WalkStarts s from x.node
+  root_starts root h =
+      rw (root.inner, root.element)
+      (turn_within s 0 (refl, refl, refl, refl, refl) (omega arith) root.is_seen (rw root.inner at root.forward), rw root.inner at root.forward, omega arith, h, omega arith)
+
+  -- It is opened, and w is the answer of its block.
+  module _ {t₁ t₂ : Tape} {x : Element} {from : Reached} {w : Walked} (root : RootOpened s t t₁ x from) (bounded : Bounded s from.place w)
+      (answer : InCommand s x.at x.kind x.node from.place 0 from.nodes from.pool t₁ t₂ w) where
+    opened : {es : Exprs} → RunStands s 0 es (length s) → NamedListFirst s (seen 0 s).place Class.document (seen 0 s).next es (length s)
+    opened {es} u = rw root.is_document at (document_opened (as_seen u) root.is_seen root.is_document)
+
+    forward : 0 < (seen 0 s).next
+    forward = rw root.inner at root.forward
+
+    within : Bounded s (seen 0 s).next w
+    within = rw root.inner at bounded
+
+    answers : InCommand s (seen 0 s).place Class.document 0 (seen 0 s).next 0 1 0 t₁ t₂ w
+    answers = rw (root.element, root.inner) at answer
+
+    pub document_fault : {z : Tape} → (w.number ≡ 0 → ⊥) → JudgesImperative s t z w
+    document_fault y = (
+      λ es u d. let o = opened u in document_stopped o answers (length s) (by_outcome o answers within forward) y,
+      λ e es u d x full. absurd (y x),
     )
 
-    forward_some : {es : Exprs} → RunStands s 0 es (length s) → j < 1 → ⊥
-    forward_some {es} u h = omega (arith, looked.3, seen_forward (look_stands s 0 (length s) es u) (λ z. some (looked.0 ∙ z)))
-
-    pub nothing_passed : {z : List ℕ} {w : Walked} → j < 1 → JudgesImperative s t z w
-    nothing_passed h = (λ es u d. absurd (forward_some u h), λ e es u d y full. absurd (forward_some u h))
-
-    -- A document is seen, and w is the answer of its block.
-    module _ {t₁ t₂ : List ℕ} {w : Walked} (h : c ≡ Class.document) (forward : 0 < j) (bounded : Bounded s j w)
-        (answer : InCommand s q Class.document 0 j 0 1 0 t₁ t₂ w) where
-      opened : {es : Exprs} → RunStands s 0 es (length s) → NamedListFirst s q c j es (length s)
-      opened {es} u =
-          rw (looked.1, looked.2, looked.3) (document_opened (look_stands s 0 (length s) es u) (λ z. some (looked.0 ∙ z)) (sym looked.2 ∙ h))
-
-      pub document_fault : {z : List ℕ} → (w.number ≡ 0 → ⊥) → JudgesImperative s t z w
-      document_fault y = (
-        λ es u d. let o = rw h at (opened u) in document_stopped o answer (length s) (by_outcome o answer bounded forward) y,
-        λ e es u d x full. absurd (y x),
-      )
-
-      pub document_fine : {z : List ℕ} → w.number ≡ 0 → (length t ≡ 4096 → t₁ ≡ entered t 0 q 1 4294967295 0)
-          → (w.number ≡ 0 → length t₂ ≡ 4096 → z ≡ left t₂ 0 w.nodes)
-          → JudgesImperative s t z (record { number = 0; place = 0; next = 0; nodes = w.nodes; pool = w.pool })
-      document_fine {z} y before after = (
-        λ es u d. let o = rw h at (opened u) in document_passed o answer (length s) (by_outcome o answer bounded forward) y d,
-        λ e es u d x full.
-            let o = rw h at (opened u) in
-            document_tape o answer t z bounded forward before after y full ∙ ap (taped t 0 4294967295) (same_regrouped o.made),
-      )
+    pub document_fine : {z : Tape} → w.number ≡ 0 → (length t₂ ≡ 4096 → z ≡ left t₂ x.node w.nodes)
+        → JudgesImperative s t z (record { number = 0; place = 0; next = 0; nodes = w.nodes; pool = w.pool })
+    document_fine {z} y after = (
+      λ es u d. let o = opened u in document_passed o answers (length s) (by_outcome o answers within forward) y d,
+      λ e es u d v full.
+          let o = opened u in
+          document_tape o answers t z within forward root.on_tape (λ y. rw root.element at after) y full
+          ∙ ap (taped t 0 4294967295) (same_regrouped o.made),
+    )

@@ -10,22 +10,26 @@ use Rattle.elements.specs.rules.Class as Class
 use Rattle.elements.specs.rules.Inside.{start}
 use Rattle.syntax.specs.rules.Byte.{Bracket, closing}
 use Rattle.syntax.specs.rules.Expression.{Expr, symbol, quoted, list, Exprs, none, and, place}
-use Rattle.lexer.specs.Token.{Seen}
+use Rattle.lexer.specs.Token.{Seen, seen}
 use Rattle.document.specs.rules.Spelling.{nested}
 use Rattle.document.specs.rules.Lead.{lead_class, list_class, expr_class}
 use Rattle.document.specs.reference.Meaning.{Verdict, fine, fault, finish, run, judge, judge_root}
 use Rattle.document.specs.reference.Outcome.{judged, is_too_deep, one_expression}
 use Rattle.reader.specs.internal.RunStands.{Has, RunStands}
-use Rattle.reader.specs.internal.Walk.{NamedListFirst, Finishes, past_bracket}
+use Rattle.reader.specs.internal.Walk.{NamedListFirst, AnswersFrom, Finishes, past_bracket}
+use Rattle.reader.specs.internal.Walks.{WalkStarts, RootOpened, RootRefused, no_expression, no_document}
+use Rattle.reader.specs.declared.walk.Element.{Element}
+use Rattle.reader.specs.declared.walk.Reached.{Reached}
 use Rattle.reader.specs.internal.FirstExpressions.{first_place, second_place, FirstJudged}
 use Rattle.reader.specs.internal.Counts.{node_count, node_count_in, pool_bytes, pool_bytes_in}
 use Rattle.reader.specs.internal.WalkAnswer.{walked_to, Bounded, read_walked}
-use Rattle.reader.specs.internal.Tape.{entered, left, taped}
+use Rattle.reader.specs.internal.Tape.{Tape, left, taped}
 use Rattle.reader.specs.internal.WalkAnswer.{Walked}
 use Rattle.reader.proofs.lemmas.walk.SeenExpressions.{seen_bounds, SeenAs, saw_end, saw_symbol, saw_string, saw_list, look_stands, stands_within}
 use Rattle.reader.proofs.lemmas.walk.OneTurn.{Looked}
 use Rattle.reader.proofs.lemmas.tape.AfterWalk.{element_tape_lem, taped_element}
-use Rattle.reader.proofs.lemmas.walk.LoopInvariant.{past_none, nodes_counted}
+use Rattle.reader.proofs.lemmas.value.TextValues.{seen_ends}
+use Rattle.reader.proofs.lemmas.walk.LoopInvariant.{past_none, nodes_counted, to_start}
 use Rattle.reader.proofs.lemmas.commands.BlockLoops.{past_by}
 
 -- ---- what was seen, by its number
@@ -42,12 +46,12 @@ record ListFirst (s : List ℕ) (q : ℕ) (es : Exprs) (e : ℕ) : Type 0 where
   goes_on : RunStands s (end + 1) others e
 
 -- The first of these expressions is at q and of class c.
-pub record FirstExpression (q c : ℕ) (es : Exprs) : Type 0 where
-  pub first : Expr
-  pub others : Exprs
-  pub made : es ≡ and first others
-  pub placed : place first ≡ q
-  pub of_class : expr_class first ≡ c
+record FirstExpression (q c : ℕ) (es : Exprs) : Type 0 where
+  first : Expr
+  others : Exprs
+  made : es ≡ and first others
+  placed : place first ≡ q
+  of_class : expr_class first ≡ c
 
 record AtomFirst (s : List ℕ) (j : ℕ) (es : Exprs) (e : ℕ) : Type 0 where
   first : Expr
@@ -56,12 +60,6 @@ record AtomFirst (s : List ℕ) (j : ℕ) (es : Exprs) (e : ℕ) : Type 0 where
   goes_on : RunStands s j others e
 
 module _ {s : List ℕ} {r : Seen} where
-  seen_end_lem : {es : Exprs} {e : ℕ} → SeenAs s r es e → r.sort ≡ 0 → (es ≡ none) × (r.place ≡ e)
-  seen_end_lem (saw_end h) z = (refl, refl)
-  seen_end_lem (saw_symbol h c l f t) z = let w : ◌≡◌ {A = ℕ} 0 1 = cc in absurd (omega arith)
-  seen_end_lem (saw_string h c l f t) z = let w : ◌≡◌ {A = ℕ} 0 1 = cc in absurd (omega arith)
-  seen_end_lem (saw_list x h c f t d b u) z = let w : ◌≡◌ {A = ℕ} 0 1 = cc in absurd (omega arith)
-
   seen_first_lem : {es : Exprs} {e : ℕ} → SeenAs s r es e → (r.sort ≡ 0 → ⊥) → FirstExpression r.place r.class es × (r.place < r.next)
   unfolding place expr_class
   seen_first_lem (saw_end h) z = absurd (z h)
@@ -107,10 +105,10 @@ module _ {s : List ℕ} {r : Seen} where
 
 -- The same, of what was looked at.
 module _ {s : List ℕ} {i sort q c j l : ℕ} (looked : Looked s i sort q c j l) where
-  pub looked_end : {es : Exprs} {e : ℕ} → RunStands s i es e → sort ≡ 0 → (es ≡ none) × (q ≡ e)
-  looked_end {es} {e} t z = let r = seen_end_lem (look_stands s i e es t) (sym looked.0 ∙ z) in (r.0, looked.1 ∙ r.1)
+  looked_end : {es : Exprs} {e : ℕ} → RunStands s i es e → sort ≡ 0 → (es ≡ none) × (q ≡ e)
+  looked_end {es} {e} t z = let r = seen_ends (look_stands s i e es t) (sym looked.0 ∙ z) in (r.0, looked.1 ∙ r.1)
 
-  pub looked_first : {es : Exprs} {e : ℕ} → RunStands s i es e → (sort ≡ 0 → ⊥) → FirstExpression q c es × (q < j)
+  looked_first : {es : Exprs} {e : ℕ} → RunStands s i es e → (sort ≡ 0 → ⊥) → FirstExpression q c es × (q < j)
   looked_first {es} {e} t z = rw (looked.1, looked.2, looked.3) (seen_first_lem (look_stands s i e es t) (λ h. z (looked.0 ∙ h)))
 
   looked_atom : {es : Exprs} {e : ℕ} → RunStands s i es e → (sort ≡ 0 → ⊥) → (sort ≡ 3 → ⊥) → AtomFirst s j es e
@@ -333,53 +331,72 @@ judge_no_document : (x : Expr) → (expr_class x ≡ 1 → ⊥) → judge_root x
 unfolding judge_root
 judge_no_document x c = rw (ne_eqb (expr_class x) 1 c)
 
-pub refused_number : (f q : ℕ) {w : Walked} → w ≡ walked_to 0 0 0 (fault f q) → 0 < f → w.number ≡ 0 → ⊥
+refused_number : (f q : ℕ) {w : Walked} → w ≡ walked_to 0 0 0 (fault f q) → 0 < f → w.number ≡ 0 → ⊥
 unfolding walked_to
 refused_number f q e h y = omega (arith, y, ap (λ (w : Walked). w.number) e)
 
--- The ways out of the judging of the first expression.
-module _ {s : List ℕ} {sort q c j l : ℕ} (looked : Looked s 0 sort q c j l) where
-  pub first_none : sort ≡ 0 → (es : Exprs) → RunStands s 0 es (length s) → FirstJudged s es (walked_to 0 0 0 (fault 7 (length s)))
-  first_none z es t = rw (looked_end looked t z).0 refl
+-- What is seen at the front of a text.
+front : (s : List ℕ) → Looked s 0 (seen 0 s).sort (seen 0 s).place (seen 0 s).class (seen 0 s).next (seen 0 s).length
+front s = (refl, refl, refl, refl, refl)
 
-  module _ (some : sort ≡ 0 → ⊥) where
-    pub first_other : (c ≡ 1 → ⊥) → (es : Exprs) → RunStands s 0 es (length s) → FirstJudged s es (walked_to 0 0 0 (fault 8 q))
-    unfolding walked_to
-    first_other d es t =
-        let f = (looked_first looked t some).0 in
-        rw f.made (rw (judge_no_document f.first (λ e. d (sym f.of_class ∙ e)), f.placed) refl, λ z. absurd (omega (arith, z)))
+-- The ways out of the judging of the first expression: there is no document,
+module _ {s : List ℕ} {w : Walked} where
+  pub first_refused : RootRefused s w → (es : Exprs) → RunStands s 0 es (length s) → FirstJudged s es w
+  unfolding walked_to
+  first_refused (no_expression z e) es t = rw (e, (looked_end (front s) t z).0) refl
+  first_refused (no_document some d e) es t =
+      let f = (looked_first (front s) t some).0 in
+      rw (e, f.made) (rw (judge_no_document f.first (λ g. d (sym f.of_class ∙ g)), f.placed) refl, λ z. absurd (omega (arith, z)))
+  first_refused (RootRefused.stuck some h e) es t = absurd (omega (arith, (looked_first (front s) t some).1))
 
-    pub first_stuck : (w : Walked) → j ≡ 0 → (es : Exprs) → RunStands s 0 es (length s) → FirstJudged s es w
-    first_stuck w h es t = absurd (omega (arith, (looked_first looked t some).1))
+  pub root_refused : RootRefused s w → w.number ≡ 0 → ⊥
+  root_refused (no_expression z e) = refused_number 7 _ e (omega arith)
+  root_refused (no_document some d e) = refused_number 8 _ e (omega arith)
+  root_refused (RootRefused.stuck some h e) = refused_number 8 _ e (omega arith)
 
-    -- w is the walk's answer, and r that past the closing bracket. The root's node is entered before the walk, and left after it.
-    module _ (t₁ t₂ : List ℕ) (d : c ≡ 1) {w r : Walked} (h : 0 < j) (walked : Bounded s j w × Finishes s q 1 j 1 0 0 t₁ t₂ w)
-        (past : r ≡ past_bracket (length s) w) where
-      pub first_root : (es : Exprs) → RunStands s 0 es (length s) → FirstJudged s es r
-      first_root es t =
-          let o = looked_document looked t some d in
-          let root : lead_class o.lead ≡ 1 = o.of_class ∙ d in
-          let e = past_by walked.0 past o.end (1 + node_count_in o.rest) (0 + pool_bytes_in o.rest) _ (walked.1.0 o.rest o.end o.follows)
-          o.closed.inside h in
-          rw o.made (
-            rw (judge_document q o.lead o.rest root, document_nodes q o.lead o.rest root, document_bytes q o.lead o.rest root)
-                e.0,
-            λ z. rw (e.1 z) o.goes_on,
-          )
+-- or a walk starts in it,
+pub root_starts : {s : List ℕ} {t z : Tape} {x : Element} {i : Reached} → RootOpened s t z x i → length s ≤ 65536 → WalkStarts s i x.node
+root_starts {s} root long =
+    let b = (seen_bounds s 0 (omega arith)).forward root.is_seen (omega (arith, root.forward, ap (λ (i : Reached). i.place) root.inner)) in
+    rw (root.element, root.inner) (b.1, omega (arith, b), omega arith, long, omega arith)
 
-      pub first_tape : (t : List ℕ) {z : List ℕ} → (length t ≡ 4096 → t₁ ≡ entered t 0 q 1 4294967295 0)
-          → (w.number ≡ 0 → length t₂ ≡ 4096 → z ≡ left t₂ 0 w.nodes)
-          → (x : Expr) (es : Exprs) → RunStands s 0 (and x es) (length s) → r.number ≡ 0 → length t ≡ 4096 → z ≡ taped t 0 4294967295 x
-      unfolding Class.is_element Class.is_kind
-      first_tape t {z} before after x es u y full =
-          let o = looked_document looked u some d in
-          let fine-walk : w.number ≡ 0 = (past_none (length s) w r past y).0 in
-          let counted = nodes_counted o.end (1 + node_count_in o.rest) (0 + pool_bytes_in o.rest) _ walked.0 h
-          (walked.1.0 o.rest o.end o.follows) fine-walk in
-          let same : list q (and o.lead o.rest) ≡ x = cc o.made in
-          element_tape_lem t t₁ t₂ z 0 4294967295 q 1 w.nodes o.rest before (walked.1.1 o.rest o.end o.follows fine-walk)
-          (after fine-walk) counted full
-          ∙ sym (taped_element t 0 4294967295 q 1 o.lead o.rest (o.of_class ∙ d) refl) ∙ ap (taped t 0 4294967295) same
+-- or w is the walk's answer in it, and r that past the closing bracket. The root's node is entered before the walk, and left after it.
+module _ {s : List ℕ} {t t₁ t₂ : Tape} {x : Element} {i : Reached} (root : RootOpened s t t₁ x i) {w r : Walked}
+    (walk : Bounded s i.place w × AnswersFrom s x.at x.kind i.place 0 i.nodes i.pool x.node t₁ t₂ w) (past : r ≡ past_bracket (length s) w) where
+  walked : Bounded s (seen 0 s).next w × Finishes s (seen 0 s).place 1 (seen 0 s).next 1 0 0 t₁ t₂ w
+  walked = to_start (rw (root.element, root.inner) at walk)
+
+  forward : 0 < (seen 0 s).next
+  forward = omega (arith, root.forward, ap (λ (i : Reached). i.place) root.inner)
+
+  pub first_root : (es : Exprs) → RunStands s 0 es (length s) → FirstJudged s es r
+  first_root es u =
+      let o = looked_document (front s) u root.is_seen root.is_document in
+      let named : lead_class o.lead ≡ 1 = o.of_class ∙ root.is_document in
+      let e = past_by walked.0 past o.end (1 + node_count_in o.rest) (0 + pool_bytes_in o.rest) _ (walked.1.0 o.rest o.end o.follows)
+      o.closed.inside forward in
+      rw o.made (
+        rw (
+          judge_document (seen 0 s).place o.lead o.rest named,
+          document_nodes (seen 0 s).place o.lead o.rest named,
+          document_bytes (seen 0 s).place o.lead o.rest named,
+        )
+            e.0,
+        λ z. rw (e.1 z) o.goes_on,
+      )
+
+  pub first_tape : {z : Tape} → (w.number ≡ 0 → length t₂ ≡ 4096 → z ≡ left t₂ x.node w.nodes)
+      → (e : Expr) (es : Exprs) → RunStands s 0 (and e es) (length s) → r.number ≡ 0 → length t ≡ 4096 → z ≡ taped t 0 4294967295 e
+  unfolding Class.is_element Class.is_kind
+  first_tape {z} after e es u y full =
+      let o = looked_document (front s) u root.is_seen root.is_document in
+      let fine-walk : w.number ≡ 0 = (past_none (length s) w r past y).0 in
+      let counted = nodes_counted o.end (1 + node_count_in o.rest) (0 + pool_bytes_in o.rest) _ walked.0 forward
+      (walked.1.0 o.rest o.end o.follows) fine-walk in
+      let same : list (seen 0 s).place (and o.lead o.rest) ≡ e = cc o.made in
+      element_tape_lem t t₁ t₂ z 0 4294967295 (seen 0 s).place 1 w.nodes o.rest root.on_tape (walked.1.1 o.rest o.end o.follows fine-walk)
+      (rw root.element at (after fine-walk)) counted full
+      ∙ sym (taped_element t 0 4294967295 (seen 0 s).place 1 o.lead o.rest (o.of_class ∙ root.is_document) refl) ∙ ap (taped t 0 4294967295) same
 
 -- The ways out of the judging of a text, where `other` is the place of the second expression.
 module _ {s : List ℕ} {other : ℕ} (w : Walked) (first : (es : Exprs) → RunStands s 0 es (length s) → FirstJudged s es w)

@@ -1,11 +1,11 @@
 -- The value of a size: its two numbers, as they are seen.
-use Prim.Native.Nat.{ℕ, ◌+◌, ◌*◌, ◌≤◌, ◌<◌}
+use Prim.Native.Nat.{ℕ, ◌+◌, ◌≤◌, ◌<◌}
 use mathlib.Core.Path.{◌≡◌, refl, sym, ◌∙◌}
 use mathlib.Core.Bool.{true, false}
 use mathlib.Core.List.{List, [], ◌∷◌}
 use native.Mathlib.Omega.{arith}
 use lib.Dec.{eqb, leb}
-use lib.ListN.{length, take, drop, set, length-set}
+use lib.ListN.{length, take, drop}
 use lib.Seq.{drop-drop}
 use borrow.Author.Tests.{ne_eqb, le-leb, lt-leb}
 use Rattle.base.proofs.Booleans.{and_false}
@@ -17,17 +17,17 @@ use Rattle.characters.proofs.Symbols.{run_part}
 use Rattle.document.specs.rules.Value.{is_size, is_decimal, non_empty}
 use Rattle.document.specs.rules.Document.{width_or, height_or}
 use Rattle.document.specs.reference.RulesTest.{keeps_rules}
-use Rattle.document.specs.reference.Meaning.{number_of, symbol_bytes, size_tree, judge_value, fault}
+use Rattle.document.specs.reference.Meaning.{number_of, symbol_bytes, size_tree, judge_value}
 use Rattle.reader.specs.internal.RunStands.{RunStands}
-use Rattle.reader.specs.internal.WalkAnswer.{walked_to, Bounded}
-use Rattle.reader.specs.internal.Tape.{noted}
-use Rattle.reader.specs.internal.ParameterValue.{BeginsWithNumber, Unfit, ReadsNumber, Notes}
+use Rattle.std.specs.Prelude.{Ok, Err}
+use Rattle.reader.specs.internal.WalkAnswer.{told, walked_to, Bounded}
+use Rattle.reader.specs.internal.Tape.{Tape, size_noted, noted}
+use Rattle.reader.specs.internal.ParameterValue.{BeginsWithNumber, Begins, Unfit, Notes}
 use Rattle.reader.specs.internal.WalkAnswer.{Walked}
 use Rattle.reader.specs.declared.value.Number.{Number}
 use Rattle.reader.proofs.lemmas.walk.SeenExpressions.{SeenAs, saw_end, saw_symbol, saw_string, saw_list, look_stands, seen_bounds}
 use Rattle.reader.proofs.lemmas.walk.OneTurn.{Looked, seen_within}
-use Rattle.reader.proofs.lemmas.tape.AfterWalk.{two_stores}
-use Rattle.reader.proofs.lemmas.value.TextValues.{stuck, seen_ends, seen_more, refused_within, refused_as_lem, refused_notes}
+use Rattle.reader.proofs.lemmas.value.TextValues.{stuck, seen_ends, seen_more, malformed, refused_as}
 
 -- ---- the bytes of a symbol
 
@@ -83,35 +83,34 @@ module _ {s : List ℕ} {r : Seen} where
   symbol_seen (saw_string h k l p t) z = absurd (omega arith)
   symbol_seen (saw_list x h k p t d b u) z = absurd (omega arith)
 
+-- Nothing that stands from place i on begins with a number of a size.
+abbrev pub BeginsUnfit : List ℕ → ℕ → Type 0
+BeginsUnfit s i = (es : Exprs) (m : ℕ) → RunStands s i es m → Unfit es
+
 module _ (s : List ℕ) (i : ℕ) {sort q k j l : ℕ} (looked : Looked s i sort q k j l) (within : i ≤ length s) where
-  none_read : ((es : Exprs) (m : ℕ) → RunStands s i es m → Unfit es) → ReadsNumber s i (record { number = 65536; next = i })
-  none_read h = record { within = λ e. absurd (omega arith); begins = λ e. absurd (omega arith); unfit = λ e. h }
+  pub read_other : (sort ≡ 1 → ⊥) → BeginsUnfit s i
+  read_other z es m t = unfit_seen (look_stands s i m es t) (λ e. z (looked.0 ∙ e))
 
-  pub read_other : (sort ≡ 1 → ⊥) → ReadsNumber s i (record { number = 65536; next = i })
-  read_other z = none_read (λ es m t. unfit_seen (look_stands s i m es t) (λ e. z (looked.0 ∙ e)))
+  pub read_stuck : sort ≡ 1 → j ≤ i → BeginsUnfit s i
+  read_stuck a h es m t = absurd (stuck s i looked within (omega arith) h t)
 
-  module _ (a : sort ≡ 1) where
-    pub read_stuck : j ≤ i → ReadsNumber s i (record { number = 65536; next = i })
-    read_stuck h = none_read (λ es m t. absurd (stuck s i looked within (omega arith) h t))
+  module _ (a : sort ≡ 1) (h : i < j) where
+    pub read_within : q + l ≤ length s
+    read_within = let b = (seen_bounds s i within).forward (λ e. omega (arith, looked.0)) (rw looked.3 at h) in omega (arith, b, looked.1, looked.4)
 
-    module _ (h : i < j) where
-      pub read_within : q + l ≤ length s
-      read_within = let b = (seen_bounds s i within).forward (λ e. omega (arith, looked.0)) (rw looked.3 at h) in omega (arith, b, looked.1, looked.4)
+    begins_with : {n : ℕ} → n ≡ number_of (symbol q (take l (drop q s))) → (es : Exprs) (m : ℕ) → RunStands s i es m → BeginsWithNumber s es m n j
+    begins_with e es m t =
+        let (others, made, stands) = symbol_seen (look_stands s i m es t) (sym looked.0 ∙ a) in
+        let spelt = symbol_spelt s i (sym looked.0 ∙ a) in
+        record { first = symbol _ _; others = others; made = made; is = rw spelt (rw (looked.1, looked.4) at (sym e)); stands = rw looked.3 stands }
 
-      begins_with : {n : ℕ} → n ≡ number_of (symbol q (take l (drop q s))) → (es : Exprs) (m : ℕ) → RunStands s i es m → BeginsWithNumber s es m n j
-      begins_with e es m t =
-          let (others, made, stands) = symbol_seen (look_stands s i m es t) (sym looked.0 ∙ a) in
-          let spelt = symbol_spelt s i (sym looked.0 ∙ a) in
-          record { first = symbol _ _; others = others; made = made; is = rw spelt (rw (looked.1, looked.4) at (sym e)); stands = rw looked.3 stands }
+    pub read_unfit : {n : ℕ} → n ≡ number_of (symbol q (take l (drop q s))) → 65535 < n → BeginsUnfit s i
+    read_unfit e f es m t = let x = begins_with e es m t in rw x.made (omega (arith, x.is))
 
-      pub read_number : {n : ℕ} → n ≡ number_of (symbol q (take l (drop q s))) → ReadsNumber s i (record { number = n; next = j })
-      read_number e =
-          let b = seen_within s i looked within (omega arith) h in
-          record {
-            within = λ f. (omega arith, b.0);
-            begins = λ f. begins_with e;
-            unfit = λ f es m t. let x = begins_with e es m t in rw x.made (omega (arith, x.is));
-          }
+    pub read_number : {n : ℕ} → n ≡ number_of (symbol q (take l (drop q s))) → n ≤ 65535 → Begins s i (record { number = n; next = j })
+    read_number e f =
+        let b = seen_within s i looked within (omega arith) h in
+        record { small = f; within = (omega arith, b.0); begins = begins_with e }
 
 -- ---- the ways through `size`
 
@@ -136,67 +135,56 @@ unfit_third : (k : ℕ) (e e' e'' : Expr) (es : Exprs) → keeps_rules k (size_t
 unfolding keeps_rules size_tree is_size
 unfit_third k e e' e'' es = refl
 
--- The two numbers are noted.
-size_notes : (t m z : List ℕ) (node a b : ℕ) (e e' : Expr) → number_of e ≡ a → number_of e' ≡ b → length t ≡ 4096
-    → (length t ≡ 4096 → m ≡ set t (8 * node + 6) a) → (length m ≡ 4096 → z ≡ set m (8 * node + 7) b) → z ≡ noted t node 29 (and e (and e' none))
-unfolding noted size_tree width_or height_or
-size_notes t m z node a b e e' f g full p q =
-    let long : length m ≡ 4096 = rw (p full, length-set) full in
-    rw (f, g) (two_stores t m z (8 * node + 6) (8 * node + 6) (8 * node + 7) a b (p full) (q long) refl (omega arith))
+-- w is the answer of a size in an element of kind k, whatever stands from place i on.
+abbrev pub SizeJudged : List ℕ → ℕ → ℕ → ℕ → ℕ → ℕ → Walked → Type 0
+SizeJudged s i at k n p w = (es : Exprs) (m : ℕ) → RunStands s i es m → w ≡ walked_to m n p (judge_value k at (size_tree es))
 
--- Whatever stands from place i on, r is the answer of a size in an element of kind k, and z the tape t with the size.
-abbrev pub SizeAnswers : List ℕ → ℕ → ℕ → ℕ → ℕ → ℕ → ℕ → List ℕ → Walked → List ℕ → Type 0
-SizeAnswers s at i k n p node t r z =
-    Bounded s i r × (((es : Exprs) (m : ℕ) → RunStands s i es m → r ≡ walked_to m n p (judge_value k at (size_tree es))) × Notes s i 29 node t r z)
-
-module _ {s : List ℕ} {i node : ℕ} {t z : List ℕ} (at k n p : ℕ) where
-  size_bad : ((es : Exprs) (m : ℕ) → RunStands s i es m → keeps_rules k (size_tree es) ≡ false)
-      → SizeAnswers s at i k n p node t (walked_to 0 0 0 (fault 10 at)) z
+module _ {s : List ℕ} {i : ℕ} (at k n p : ℕ) where
+  size_bad : ((es : Exprs) (m : ℕ) → RunStands s i es m → keeps_rules k (size_tree es) ≡ false) → SizeJudged s i at k n p (told (Err (malformed at)))
   unfolding judge_value
-  size_bad h = (refused_within s i at, (λ es m u. rw (h es m u) (refused_as_lem at m n p), refused_notes s i 29 node at t z))
+  size_bad h es m u = rw (h es m u) (refused_as at m n p)
 
-  module _ {w : Number} (width : ReadsNumber s i w) where
-    pub size_unfit : 65535 < w.number → SizeAnswers s at i k n p node t (walked_to 0 0 0 (fault 10 at)) z
-    size_unfit f = size_bad (λ es m t. unfit_width k es (width.unfit f es m t))
+  pub size_unfit : BeginsUnfit s i → SizeJudged s i at k n p (told (Err (malformed at)))
+  size_unfit f = size_bad (λ es m u. unfit_width k es (f es m u))
 
-    module _ (f : w.number ≤ 65535) {h : Number} (height : ReadsNumber s w.next h) where
-      pub size_unfit_height : 65535 < h.number → SizeAnswers s at i k n p node t (walked_to 0 0 0 (fault 10 at)) z
-      size_unfit_height g =
-          size_bad (λ es m t.
-          let x = width.begins f es m t in
-          rw x.made (unfit_height k x.first x.others (height.unfit g x.others m x.stands)))
+  module _ {w : Number} (width : Begins s i w) where
+    pub size_unfit_height : BeginsUnfit s w.next → SizeJudged s i at k n p (told (Err (malformed at)))
+    size_unfit_height f =
+        size_bad (λ es m u.
+        let x = width.begins es m u in
+        rw x.made (unfit_height k x.first x.others (f x.others m x.stands)))
 
-      module _ (g : h.number ≤ 65535) {sort q c j l : ℕ} (last : Looked s h.next sort q c j l) where
-        pub size_unfit_third : (sort ≡ 0 → ⊥) → SizeAnswers s at i k n p node t (walked_to 0 0 0 (fault 10 at)) z
-        size_unfit_third y =
-            size_bad (λ es m u.
-            let x = width.begins f es m u in
-            let v = height.begins g x.others m x.stands in
-            let (e, others, made) = seen_more (look_stands s h.next m v.others v.stands) (λ e. y (last.0 ∙ e)) in
-            rw (x.made, v.made, made) (unfit_third k x.first v.first e others))
+    module _ {h : Number} (height : Begins s w.next h) {sort q c j l : ℕ} (last : Looked s h.next sort q c j l) where
+      pub size_unfit_third : (sort ≡ 0 → ⊥) → SizeJudged s i at k n p (told (Err (malformed at)))
+      size_unfit_third y =
+          size_bad (λ es m u.
+          let x = width.begins es m u in
+          let v = height.begins x.others m x.stands in
+          let (e, others, made) = seen_more (look_stands s h.next m v.others v.stands) (λ e. y (last.0 ∙ e)) in
+          rw (x.made, v.made, made) (unfit_third k x.first v.first e others))
 
-        pub size_good : sort ≡ 0 → n ≤ i → p ≤ i → {t' : List ℕ} → (length t ≡ 4096 → t' ≡ set t (8 * node + 6) w.number)
-            → (length t' ≡ 4096 → z ≡ set t' (8 * node + 7) h.number)
-            → SizeAnswers s at i k n p node t (record { number = 0; place = 0; next = q; nodes = n; pool = p }) z
-        unfolding walked_to judge_value
-        size_good y nodes pool {t'} stored stored' =
-            let a = width.within f in
-            let b = height.within g in
-            let d = seen_bounds s h.next b.1 in (
-              record { bounds = λ e. omega (arith, a, b, d.place_from, d.place_within, last.1) },
-              (
-                λ es m u.
-                    let x = width.begins f es m u in
-                    let v = height.begins g x.others m x.stands in
-                    let (made, ends) = seen_ends (look_stands s h.next m v.others v.stands) (sym last.0 ∙ y) in
-                    rw (x.made, v.made, made, small_size k x.first v.first (omega (arith, x.is)) (omega (arith, v.is)), last.1, ends),
-                record {
-                  notes = λ es m u e full.
-                      let x = width.begins f es m u in
-                      let v = height.begins g x.others m x.stands in
-                      let (made, ends) = seen_ends (look_stands s h.next m v.others v.stands) (sym last.0 ∙ y) in
-                      rw (x.made, v.made, made) (size_notes t t' z node w.number h.number x.first v.first x.is
-                      v.is full stored stored');
-                },
-              ),
-            )
+      pub size_good : sort ≡ 0 → SizeJudged s i at k n p (told (Ok (record { place = q; nodes = n; pool = p })))
+      unfolding walked_to judge_value
+      size_good y es m u =
+          let x = width.begins es m u in
+          let v = height.begins x.others m x.stands in
+          let (made, ends) = seen_ends (look_stands s h.next m v.others v.stands) (sym last.0 ∙ y) in
+          rw (x.made, v.made, made, small_size k x.first v.first (omega (arith, x.is, width.small)) (omega (arith, v.is, height.small)), last.1, ends)
+
+module _ {s : List ℕ} {i : ℕ} {w h : Number} (width : Begins s i w) (height : Begins s w.next h) {sort q c j l : ℕ} (last : Looked s h.next sort q c j l) where
+  pub size_within : {n p : ℕ} → n ≤ i → p ≤ i → Bounded s i (told (Ok (record { place = q; nodes = n; pool = p })))
+  size_within nodes pool =
+      let d = seen_bounds s h.next height.within.1 in
+      record { bounds = λ e. omega (arith, width.within, height.within, d.place_from, d.place_within, last.1) }
+
+  -- The two numbers are noted.
+  pub size_notes : {node : ℕ} {t z : Tape} {r : Walked} → sort ≡ 0 → (length t ≡ 4096 → z ≡ size_noted t node w.number h.number) → Notes s i 29 node t r z
+  unfolding noted size_tree width_or height_or
+  size_notes y stored =
+      record {
+        notes = λ es m u e full.
+            let x = width.begins es m u in
+            let v = height.begins x.others m x.stands in
+            let (made, ends) = seen_ends (look_stands s h.next m v.others v.stands) (sym last.0 ∙ y) in
+            rw (x.made, v.made, made, x.is, v.is) (stored full);
+      }

@@ -1,14 +1,16 @@
 -- The value of an id, a target or a type: what is seen of it, and what makes it one.
-use Prim.Native.Nat.{ℕ, ◌+◌, ◌*◌, ◌≤◌, ◌<◌}
+use Prim.Native.Nat.{ℕ, ◌+◌, ◌≤◌, ◌<◌}
 use mathlib.Core.Path.{◌≡◌, refl, sym, ◌∙◌}
 use mathlib.Core.Bool.{Bool, true, false, cond, not, ◌&&◌}
 use mathlib.Core.List.{List, [], ◌∷◌}
 use native.Mathlib.Omega.{arith}
 use lib.Dec.{eqb}
-use lib.ListN.{length, drop, set, length-append}
+use lib.ListN.{length, drop, length-append}
 use native.Mathlib.Nat.{add-zero}
 use borrow.Author.Tests.{ne_eqb, eqb-true, eqb-false, not-true, not-false}
-use Rattle.base.proofs.Booleans.{cond_case, bool_case, and_true, and_false}
+use Rattle.std.specs.Prelude.{Option, None, Result, Ok, Err, IsErrAnd}
+use Rattle.std.specs.Option.{ok_or}
+use Rattle.base.proofs.Booleans.{bool_case, and_true, and_false}
 use Rattle.elements.specs.rules.Class as Class
 use Rattle.elements.specs.rules.Characters.{type_character, id_character, uri_character, character_of}
 use Rattle.syntax.specs.rules.Expression.{Expr, symbol, quoted, list, Exprs, none, and, place}
@@ -23,15 +25,18 @@ use Rattle.document.specs.reference.RulesTest.{keeps_rules}
 use Rattle.document.specs.reference.Meaning.{only_one, text_bytes, symbol_bytes, size_tree, value_tree, judge_value, fine, fault}
 use Rattle.reader.specs.internal.RunStands.{RunStands, ended, after_blank, after_line_end, a_symbol, a_string, a_list}
 use Rattle.reader.specs.internal.Counts.{value_size}
-use Rattle.reader.specs.internal.WalkAnswer.{walked_to, Bounded}
-use Rattle.reader.specs.internal.Tape.{value_place, noted}
-use Rattle.reader.specs.internal.ParameterValue.{holds_sort, held_bytes, Alone, HoldsOne, Notes}
+use Rattle.reader.specs.internal.WalkAnswer.{told, walked_to}
+use Rattle.reader.specs.internal.Tape.{Tape, value_place, key_noted, type_noted, noted}
+use Rattle.reader.specs.internal.ParameterValue.{holds_sort, held_bytes, Alone, Holds, Notes}
 use Rattle.reader.specs.internal.WalkAnswer.{Walked}
 use Rattle.reader.specs.declared.value.One.{One}
+use Rattle.reader.specs.declared.walk.Refused.{Refused}
+use Rattle.base.specs.declared.refusal.Refusal.TheVariants.{Malformed}
 use Rattle.reader.proofs.lemmas.walk.FirstToken.{symbol_here, string_here}
 use Rattle.reader.proofs.lemmas.walk.SeenExpressions.{SeenAs, saw_end, saw_symbol, saw_string, saw_list, look_stands, seen_bounds}
 use Rattle.reader.proofs.lemmas.walk.OneTurn.{Looked, seen_forward, seen_within}
 use Rattle.reader.proofs.lemmas.walk.Counts.{size_tree_lem}
+use Rattle.reader.proofs.lemmas.walk.Refusals.{passed_up}
 
 -- ---- characters
 
@@ -214,60 +219,54 @@ stuck s i {es = es} {m = m} looked within some h t =
 
 -- ---- the ways through `only`
 
+-- A parameter of class c holds nothing that counts from place i on.
+abbrev pub HoldsNone : List ℕ → ℕ → ℕ → Type 0
+HoldsNone s i c = (es : Exprs) (m : ℕ) → RunStands s i es m → held_bytes c es ≡ []
+
 module _ {s : List ℕ} {i sort q k j l : ℕ} (c : ℕ) (looked : Looked s i sort q k j l) (within : i ≤ length s) where
-  pub only_nothing : holds_sort c sort ≡ false → HoldsOne s i c (record { good = false; place = 0; length = 0; end = 0 })
-  only_nothing f =
-      record {
-        within = λ e. let z : ◌≡◌ {A = ℕ} 0 1 = cc in absurd (omega arith);
-        nothing = λ e es m t. held_not c (look_stands s i m es t) (rw (← looked.0) f);
-        alone = λ e. let z : ◌≡◌ {A = ℕ} 0 1 = cc in absurd (omega arith);
-      }
+  pub only_nothing : holds_sort c sort ≡ false → HoldsNone s i c
+  only_nothing f es m t = held_not c (look_stands s i m es t) (rw (← looked.0) f)
 
   module _ (f : holds_sort c sort ≡ true) where
-    pub only_stuck : j ≤ i → HoldsOne s i c (record { good = false; place = 0; length = 0; end = 0 })
-    only_stuck h =
-        record {
-          within = λ e. let z : ◌≡◌ {A = ℕ} 0 1 = cc in absurd (omega arith);
-          nothing = λ e es m t. absurd (stuck s i looked within (holds_atom c sort f).0 h t);
-          alone = λ e. let z : ◌≡◌ {A = ℕ} 0 1 = cc in absurd (omega arith);
-        }
+    pub only_stuck : j ≤ i → HoldsNone s i c
+    only_stuck h es m t = absurd (stuck s i looked within (holds_atom c sort f).0 h t)
 
     first_of : (es : Exprs) (m : ℕ) → RunStands s i es m → FirstHeld s c q j (atom_value (drop q s)) es m × (l ≡ length (atom_value (drop q s)))
     first_of es m t = rw (looked.1, looked.3, looked.4) (held_first c (first_some t) (look_stands s i m es t) (rw (← looked.0) f))
 
     -- After it `sort'` is seen at `q'`.
-    pub only_one_lem : {sort' q' k' j' l' : ℕ} → i < j → Looked s j sort' q' k' j' l'
-        → HoldsOne s i c (record { good = eqb sort' 0; place = q; length = l; end = q' })
-    unfolding value_place
-    only_one_lem {sort'} {q'} h last =
-        let (fits, long) = seen_within s i looked within (holds_atom c sort f).0 h in
-        let after = seen_bounds s j fits in
-        record {
-          within = λ e. (
-            omega (arith, after.place_from, last.1),
-            omega (arith, after.place_within, last.1),
-            omega (arith, (seen_bounds s i within).place_within, looked.1),
-          );
-          nothing = λ e es m t. let (x, more) = first_of es m t in nothing' e m x;
-          alone = λ e es m t. let (x, more) = first_of es m t in alone' (eqb-true sort' 0 e) m x more;
-        }
-      where
-        nothing' : eqb sort' 0 ≡ false → {es : Exprs} (m : ℕ) → FirstHeld s c q j (atom_value (drop q s)) es m → held_bytes c es ≡ []
-        nothing' e m x =
-            let (e', es', made) = seen_more (look_stands s j m x.others x.stands) (λ z. eqb-false sort' 0 e (last.0 ∙ z)) in
-            rw (x.made, made) (held_two c x.first e' es')
+    module _ {sort' q' k' j' l' : ℕ} (h : i < j) (last : Looked s j sort' q' k' j' l') where
+      pub only_two : (sort' ≡ 0 → ⊥) → HoldsNone s i c
+      only_two some es m t =
+          let (x, more) = first_of es m t in
+          let (e', es', made) = seen_more (look_stands s j m x.others x.stands) (λ z. some (last.0 ∙ z)) in
+          rw (x.made, made) (held_two c x.first e' es')
 
-        alone' : sort' ≡ 0 → {es : Exprs} (m : ℕ) → FirstHeld s c q j (atom_value (drop q s)) es m → l ≡ length (atom_value (drop q s))
-            → Alone c es m q (atom_value (drop q s)) l q'
-        alone' e m x long =
-            let (made, ends) = seen_ends (look_stands s j m x.others x.stands) (sym last.0 ∙ e) in
-            record {
-              placed = rw x.made x.placed;
-              bytes = rw (x.made, made) (held_one c x.first ∙ x.bytes);
-              some = x.some;
-              long = long;
-              ends = last.1 ∙ ends;
-            }
+      pub only_one_lem : sort' ≡ 0 → Holds s i c (record { place = q; length = l; end = q' })
+      unfolding value_place
+      only_one_lem e =
+          let (fits, long) = seen_within s i looked within (holds_atom c sort f).0 h in
+          let after = seen_bounds s j fits in
+          record {
+            within = (
+              omega (arith, after.place_from, last.1),
+              omega (arith, after.place_within, last.1),
+              omega (arith, (seen_bounds s i within).place_within, looked.1),
+            );
+            alone = λ es m t. let (x, more) = first_of es m t in alone m x more;
+          }
+        where
+          alone : {es : Exprs} (m : ℕ) → FirstHeld s c q j (atom_value (drop q s)) es m → l ≡ length (atom_value (drop q s))
+              → Alone c es m q (atom_value (drop q s)) l q'
+          alone m x long =
+              let (made, ends) = seen_ends (look_stands s j m x.others x.stands) (sym last.0 ∙ e) in
+              record {
+                placed = rw x.made x.placed;
+                bytes = rw (x.made, made) (held_one c x.first ∙ x.bytes);
+                some = x.some;
+                long = long;
+                ends = last.1 ∙ ends;
+              }
 
 -- ---- the ways through `value`
 
@@ -291,78 +290,52 @@ no_value : (k c : ℕ) → is_value k c [] ≡ false
 unfolding is_value non_empty
 no_value k c = refl
 
--- A value that is refused.
-pub refused_within : (s : List ℕ) (i at : ℕ) → Bounded s i (walked_to 0 0 0 (fault 10 at))
-unfolding walked_to
-refused_within s i at = record { bounds = λ e. absurd (omega (arith, e)) }
+-- What refuses a parameter's list at `at`.
+abbrev pub malformed : ℕ → Refused
+malformed at = record { refusal = Malformed; place = at }
 
-pub refused_as_lem : (at m n p : ℕ) → walked_to 0 0 0 (fault 10 at) ≡ walked_to m n p (fault 10 at)
-unfolding walked_to
-refused_as_lem at m n p = refl
+-- A value that is not there is refused.
+pub not_there : {X A : Type 0} (o : Option X) {r : Result A Refused} {at : ℕ} {f : Refused} → IsErrAnd r (λ (g : Refused). g ≡ f)
+    → Err f ≡ ok_or o (malformed at) → o ≡ None → r ≡ Err (malformed at)
+not_there o {r} is e h = cc (passed_up r is, rw h at e)
 
--- A refused value is noted nowhere.
-pub refused_notes : (s : List ℕ) (i c node at : ℕ) (t z : List ℕ) → Notes s i c node t (walked_to 0 0 0 (fault 10 at)) z
+pub refused_as : (at m n p : ℕ) → told (Err (malformed at)) ≡ walked_to m n p (fault 10 at)
 unfolding walked_to
-refused_notes s i c node at t z = record { notes = λ es m u h full. absurd (omega (arith, h)) }
+refused_as at m n p = refl
 
-pub word_small : (c : ℕ) {w : ℕ} → w ≡ cond (eqb c Class.type) 5 4 → w < 8
-word_small c e = rw e (cond_case (λ (w : ℕ). w < 8) (eqb c Class.type) (λ h. omega arith) (λ h. omega arith))
+-- w is the answer of the value of a parameter of class c in an element of kind k, whatever stands from place i on.
+abbrev pub ValueJudged : List ℕ → ℕ → ℕ → ℕ → ℕ → ℕ → ℕ → Walked → Type 0
+ValueJudged s i at k c n p w =
+    (es : Exprs) (m : ℕ) → RunStands s i es m → w ≡ walked_to m n (p + value_size c es) (judge_value k at (value_tree c es))
+
+module _ {s : List ℕ} {i c : ℕ} (at k n p : ℕ) where
+  pub size_judged : c ≡ 29 → {w : Walked} → ((es : Exprs) (m : ℕ) → RunStands s i es m → w ≡ walked_to m n p (judge_value k at (size_tree es)))
+      → ValueJudged s i at k c n p w
+  unfolding value_size value_tree key_of type_of
+  size_judged h judged es m u = let (x, y, made) = size_tree_lem es in rw (h, made, add-zero p) (rw made at (judged es m u))
+
+  module _ (h : c ≡ 29 → ⊥) where
+    pub value_nothing : HoldsNone s i c → ValueJudged s i at k c n p (told (Err (malformed at)))
+    value_nothing nothing es m u = rw (value_judged k at c es h, nothing es m u, no_value k c) (refused_as at m n (p + value_size c es))
+
+    module _ {o : One} (holds : Holds s i c o) {r : Bool}
+        (fits : non_empty (atom_value (drop o.place s)) && r ≡ is_value k c (atom_value (drop o.place s))) where
+      pub value_bad : r ≡ false → ValueJudged s i at k c n p (told (Err (malformed at)))
+      value_bad e es m u =
+          let v = atom_value (drop o.place s) in
+          let bad : is_value k c v ≡ false = sym fits ∙ rw e (and_false (non_empty v)) in
+          rw (value_judged k at c es h, (holds.alone es m u).bytes, bad) (refused_as at m n (p + value_size c es))
+
+      pub value_good : r ≡ true → ValueJudged s i at k c n p (told (Ok (record { place = o.end; nodes = n; pool = p + o.length })))
+      unfolding walked_to
+      value_good e es m u =
+          let v = atom_value (drop o.place s) in
+          let a = holds.alone es m u in
+          let good : is_value k c v ≡ true = sym fits ∙ rw (e, some_non_empty v a.some) in
+          rw (value_judged k at c es h, value_long c es h, a.bytes, good, a.long, a.ends)
 
 -- The place of what a parameter holds is noted.
-held_notes : (t z : List ℕ) (node c w q : ℕ) (es : Exprs) → (c ≡ 29 → ⊥) → w ≡ cond (eqb c Class.type) 5 4 → value_place es ≡ q
-    → z ≡ set t (8 * node + w) q → z ≡ noted t node c es
+pub value_noted : {s : List ℕ} {i c node : ℕ} {t z : Tape} {w : Walked} {o : One} → (c ≡ 29 → ⊥) → Holds s i c o
+    → (length t ≡ 4096 → z ≡ cond (eqb c Class.type) (type_noted t node o.place) (key_noted t node o.place)) → Notes s i c node t w z
 unfolding noted
-held_notes t z node c w q es h e f g = rw (ne_eqb c 29 h, f, ← e) g
-
--- Whatever stands from place i on, r is the answer of the value of a parameter of class c in an element of kind k, and z the tape t with the value.
-abbrev pub ValueAnswers : List ℕ → ℕ → ℕ → ℕ → ℕ → ℕ → ℕ → ℕ → List ℕ → Walked → List ℕ → Type 0
-ValueAnswers s at i k c n p node t r z =
-    Bounded s i r × (((es : Exprs) (m : ℕ) → RunStands s i es m → r ≡ walked_to m n (p + value_size c es) (judge_value k at (value_tree c es)))
-    × Notes s i c node t r z)
-
-module _ {s : List ℕ} {i c node : ℕ} {t z : List ℕ} (at k n p : ℕ) where
-  pub value_size_lem : c ≡ 29 → {r : Walked}
-      → Bounded s i r × (((es : Exprs) (m : ℕ) → RunStands s i es m → r ≡ walked_to m n p (judge_value k at (size_tree es))) × Notes s i 29 node t r z)
-      → ValueAnswers s at i k c n p node t r z
-  unfolding value_size value_tree key_of type_of
-  value_size_lem h (bounded, (answers, notes)) =
-      (bounded, (λ es m u. let (x, y, made) = size_tree_lem es in rw (h, made, add-zero p) (rw made at (answers es m u)), rw h notes))
-
-  module _ (h : c ≡ 29 → ⊥) {o : One} (holds : HoldsOne s i c o) where
-    pub value_nothing : o.good ≡ false → ValueAnswers s at i k c n p node t (walked_to 0 0 0 (fault 10 at)) z
-    value_nothing g = (
-      refused_within s i at,
-      (
-        λ es m u. rw (value_judged k at c es h, holds.nothing g es m u, no_value k c) (refused_as_lem at m n (p + value_size c es)),
-        refused_notes s i c node at t z,
-      ),
-    )
-
-    pub value_bad : {r : Bool} → o.good ≡ true → r ≡ false → non_empty (atom_value (drop o.place s)) && r ≡ is_value k c (atom_value (drop o.place s))
-        → ValueAnswers s at i k c n p node t (walked_to 0 0 0 (fault 10 at)) z
-    value_bad g e f = (
-      refused_within s i at,
-      (
-        λ es m u.
-            let v = atom_value (drop o.place s) in
-            let bad : is_value k c v ≡ false = sym f ∙ rw e (and_false (non_empty v)) in
-            rw (value_judged k at c es h, (holds.alone g es m u).bytes, bad) (refused_as_lem at m n (p + value_size c es)),
-        refused_notes s i c node at t z,
-      ),
-    )
-
-    pub value_good : {r : Bool} → o.good ≡ true → r ≡ true → non_empty (atom_value (drop o.place s)) && r ≡ is_value k c (atom_value (drop o.place s))
-        → n ≤ i → p ≤ i → {w : ℕ} → w ≡ cond (eqb c Class.type) 5 4 → (length t ≡ 4096 → z ≡ set t (8 * node + w) o.place)
-        → ValueAnswers s at i k c n p node t (record { number = 0; place = 0; next = o.end; nodes = n; pool = p + o.length }) z
-    unfolding walked_to
-    value_good g e f nodes pool {w} word stored = (
-      record { bounds = λ z. omega (arith, holds.within g) },
-      (
-        λ es m u.
-            let v = atom_value (drop o.place s) in
-            let a = holds.alone g es m u in
-            let good : is_value k c v ≡ true = sym f ∙ rw (e, some_non_empty v a.some) in
-            rw (value_judged k at c es h, value_long c es h, a.bytes, good, a.long, a.ends),
-        record { notes = λ es m u y full. held_notes t z node c w o.place es h word (holds.alone g es m u).placed (stored full) },
-      ),
-    )
+value_noted {c = c} h holds stored = record { notes = λ es m u y full. rw (ne_eqb c 29 h, (holds.alone es m u).placed) (stored full) }

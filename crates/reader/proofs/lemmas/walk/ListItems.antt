@@ -28,9 +28,6 @@ Bare (holding ks) = Unit {0}
 abbrev pub IsList : ℕ → Type 0
 IsList k = (k ≡ 16) ⊎ (k ≡ 17)
 
-pub is_list : (k : ℕ) → 16 ≤ k → k < 18 → IsList k
-is_list k a b = bool_case (eqb k 16) (λ e. inl (eqb-true k 16 e)) (λ e. inr (omega (arith, eqb-false k 16 e)))
-
 list_content : (k : ℕ) → IsList k → (rule_of k).content ≡ alternatives ((Class.item ∷ []) ∷ [])
 unfolding rule_of rule_in rules
 list_content k h = ⊎_elim (λ e. rw e) (λ e. rw e) h

@@ -1,9 +1,8 @@
 -- How a walk goes on: the invariant of its loop, kept by each way through the loop's body.
 use Prim.Native.Nat.{ℕ, ◌+◌, ◌≤◌, ◌<◌}
 use mathlib.Core.Path.{◌≡◌, refl, ap, sym, ◌∙◌}
-use mathlib.Core.Bool.{true, false}
+use mathlib.Core.Bool.{true, false, cond}
 use mathlib.Core.List.{List}
-use mathlib.Core.Logic.{⊎_elim}
 use native.Mathlib.Omega.{arith}
 use native.Mathlib.Numerals.{add-one}
 use native.Mathlib.Nat.{suc-add, add-suc, add-zero}
@@ -11,33 +10,42 @@ use lib.Dec.{eqb, leb}
 use lib.ListN.{length}
 use borrow.Author.Tests.{ne_eqb, lt-leb, eqb-true, eqb-false, leb-false}
 use Rattle.base.proofs.Booleans.{bool_case}
+use Rattle.base.specs.rules.Limits.{most_bytes}
 use Rattle.elements.specs.rules.Class as Class
 use Rattle.elements.specs.rules.Class.{is_element}
-use Rattle.elements.specs.rules.Inside.{start}
+use Rattle.elements.specs.rules.Inside.{start, ended}
+use Rattle.inside.specs.Machine.{state_of}
+use Rattle.lexer.specs.Token.{a_list}
 use Rattle.inside.proofs.Steps.{start_state}
 use Rattle.syntax.specs.rules.Expression.{Expr, list, Exprs, and}
 use Rattle.document.specs.rules.Lead.{expr_class, list_class}
 use Rattle.document.specs.reference.Meaning.{Verdict, fine, fault, finish, run, judge, judge_value, value_tree}
 use Rattle.reader.specs.internal.RunStands.{RunStands}
 use Rattle.reader.specs.internal.Counts.{node_count, node_count_in, pool_bytes, pool_bytes_in, value_size}
-use Rattle.reader.specs.internal.WalkAnswer.{walked_to, Bounded, PoolBound}
-use Rattle.reader.specs.internal.Tape.{entered, left, taped}
+use Rattle.reader.specs.declared.walk.Reached.{Reached}
+use Rattle.reader.specs.declared.walk.Element.{Element}
+use Rattle.reader.specs.internal.WalkAnswer.{Walked, walked_to, Bounded, PoolBound}
+use Rattle.reader.specs.internal.Walks.{Refuses, TakenAs}
+use Rattle.reader.specs.internal.Tape.{Tape, entered, left, taped}
 use Rattle.reader.specs.internal.ParameterValue.{Notes}
-use Rattle.reader.specs.internal.Walk.{run_answer, AnswersFrom, Finishes, Remaining, Goes, NamedListFirst, TakesList, TakesAtom, JudgesList, verdict_of, past_bracket}
-use Rattle.reader.specs.internal.WalkAnswer.{Walked}
-use Rattle.reader.proofs.lemmas.walk.ListItems.{IsList}
+use Rattle.reader.specs.internal.Walk.{run_answer, AnswersFrom, Finishes, NamedListFirst, JudgesList, verdict_of, past_bracket}
 use Rattle.reader.proofs.lemmas.tape.AfterWalk.{kept_full, taped_first, element_tape_lem}
-use Rattle.reader.proofs.lemmas.walk.OneTurn.{run_fine, run_fault}
+use Rattle.reader.proofs.lemmas.walk.SeenExpressions.{seen_bounds}
+use Rattle.reader.proofs.lemmas.walk.OneTurn.{Remaining, Goes, TakesList, run_fine, run_fault, Looked, seen_within, turn_end, turn_refused, turn_atom, turn_list}
 
 -- The invariant: the walk that began at `from` has got to i, and the tape t₀ is t.
-pub record Walking (s : List ℕ) (at k node from nodes pool : ℕ) (t₀ : List ℕ) (i st n p : ℕ) (t : List ℕ) : Type 0 where
+pub record Walking (s : List ℕ) (at k node from nodes pool : ℕ) (t₀ : Tape) (i st n p : ℕ) (t : Tape) : Type 0 where
   pub forward : from ≤ i
   pub within : i ≤ length s
   pub nodes_within : n ≤ i
   pub pool_within : PoolBound p i
   pub goes : Goes s at k from 0 nodes pool node t₀ i st n p t
 
-pub begun : {s t : List ℕ} {at k node from nodes pool : ℕ} → from ≤ length s → nodes ≤ from → pool ≤ from
+-- The same of an element and how far the walk has come.
+abbrev pub WalkingIn : List ℕ → Element → Reached → Tape → Reached → ℕ → Tape → Type 0
+WalkingIn s x from t₀ r st t = Walking s x.at x.kind x.node from.place from.nodes from.pool t₀ r.place st r.nodes r.pool t
+
+pub begun : {s : List ℕ} {t : Tape} {at k node from nodes pool : ℕ} → from ≤ length s → nodes ≤ from → pool ≤ from
     → Walking s at k node from nodes pool t from 0 nodes pool t
 begun h a b =
     record {
@@ -49,7 +57,7 @@ begun h a b =
     }
 
 -- The answer from where a walk has got to is the answer of the walk.
-pub answered : {s t₀ t z : List ℕ} {at k node from nodes pool i st n p : ℕ} {w : Walked} → Walking s at k node from nodes pool t₀ i st n p t
+answered : {s : List ℕ} {t₀ t z : Tape} {at k node from nodes pool i st n p : ℕ} {w : Walked} → Walking s at k node from nodes pool t₀ i st n p t
     → Bounded s i w × AnswersFrom s at k i st n p node t z w → Bounded s from w × AnswersFrom s at k from 0 nodes pool node t₀ z w
 answered {t₀ = t₀} {t = t} {node = node} {nodes = nodes} {n = n} v a = (
   record { bounds = λ y. omega (arith, a.0.bounds y, v.forward) },
@@ -63,7 +71,7 @@ answered {t₀ = t₀} {t = t} {node = node} {nodes = nodes} {n = n} v a = (
 )
 
 -- A walk goes on.
-gone_on : {s t₀ t t' : List ℕ} {at k node from nodes pool i st n p j st' n' p' : ℕ} → Walking s at k node from nodes pool t₀ i st n p t
+gone_on : {s : List ℕ} {t₀ t t' : Tape} {at k node from nodes pool i st n p j st' n' p' : ℕ} → Walking s at k node from nodes pool t₀ i st n p t
     → (i < j) × (j ≤ length s) × (n' ≤ j) × (p' ≤ j) → Goes s at k i st n p node t j st' n' p' t'
     → Walking s at k node from nodes pool t₀ j st' n' p' t'
 gone_on {t₀ = t₀} {t = t} {node = node} {nodes = nodes} {n = n} v b h =
@@ -84,12 +92,6 @@ gone_on {t₀ = t₀} {t = t} {node = node} {nodes = nodes} {n = n} v b h =
             };
       };
     }
-
--- It goes on after a symbol or string.
-pub passed : {s t₀ t t' : List ℕ} {at k node from nodes pool i st n p j st' n' p' : ℕ} → Walking s at k node from nodes pool t₀ i st n p t
-    → ((i < j) × (j ≤ length s) × (n' ≤ j) × (p' ≤ j)) × TakesAtom s at k i st n p node t j st' n' p' t'
-    → Walking s at k node from nodes pool t₀ j st' n' p' t'
-passed v u = gone_on v u.0 u.1.goes
 
 -- Past a list's closing bracket with no fault: there was none before, and the bracket is within the text.
 pub past_none : (m : ℕ) (w r : Walked) → r ≡ past_bracket m w → r.number ≡ 0
@@ -117,17 +119,16 @@ unfolding walked_to
 nodes_counted e n p fine b h g y = ap (λ (w : Walked). w.nodes) g
 nodes_counted e n p (fault f q) b h g y = absurd (omega (arith, b.bounds y, ap (λ (w : Walked). w.next) g))
 
-pub to_start : {s t z : List ℕ} {at k i n p node : ℕ} {w : Walked} → Bounded s i w × AnswersFrom s at k i 0 n p node t z w
+pub to_start : {s : List ℕ} {t z : Tape} {at k i n p node : ℕ} {w : Walked} → Bounded s i w × AnswersFrom s at k i 0 n p node t z w
     → Bounded s i w × Finishes s at k i n p node t z w
 unfolding run_answer
 to_start {k = k} h = (h.0, (λ es e u. h.1.answers es e u ∙ rw (start_state k), h.1.tapes))
 
--- An element's answer is that of the list that it is. Its node is entered before its content is walked, and left after it.
-pub element_judges : {s t t₁ t₂ z : List ℕ} {at k c j n p node : ℕ} {w : Walked} → is_element c ≡ true → 0 < j
+element_lem : {s : List ℕ} {t t₁ t₂ z : Tape} {at k c j n p node : ℕ} {w : Walked} → is_element c ≡ true → 0 < j
     → Bounded s j w × Finishes s at c j (n + 1) p n t₁ t₂ w → (length t ≡ 4096 → t₁ ≡ entered t n at c node 0)
     → (w.number ≡ 0 → length t₂ ≡ 4096 → z ≡ left t₂ n w.nodes) → Bounded s j w × JudgesList s at j k c n p node t z w
 unfolding verdict_of
-element_judges {t = t} {t₁ = t₁} {t₂ = t₂} {z = z} {at = at} {c = c} {n = n} {p = p} {node = node} {w = w} e some h before after = (
+element_lem {t = t} {t₁ = t₁} {t₂ = t₂} {z = z} {at = at} {c = c} {n = n} {p = p} {node = node} {w = w} e some h before after = (
   h.0,
   record {
     judged = λ es m u. rw e (h.1.0 es m u ∙ rw (add-one n, suc-add n, ← add-suc n));
@@ -138,22 +139,25 @@ element_judges {t = t} {t₁ = t₁} {t₂ = t₂} {z = z} {at = at} {c = c} {n 
   },
 )
 
-pub item_judges : {s t t₁ t₂ z : List ℕ} {at k c j n p node : ℕ} {w : Walked} → c ≡ 18 → 0 < j
-    → Bounded s j w × AnswersFrom s at 18 j 0 (n + 1) p n t₁ t₂ w
-    → (length t ≡ 4096 → t₁ ≡ entered t n at 18 node 0) → (w.number ≡ 0 → length t₂ ≡ 4096 → z ≡ left t₂ n w.nodes)
+-- An element's answer is that of the list that it is. Its node is entered before its content is walked, and left after it.
+pub element_judges : {s : List ℕ} {t t₁ t₂ z : Tape} {at k c j n p node : ℕ} {w : Walked} (x : Element) (inner : Reached)
+    → x ≡ record { at = at; kind = c; node = n } → inner ≡ record { place = j; nodes = n + 1; pool = p }
+    → is_element c ≡ true → 0 < j → Bounded s inner.place w × Finishes s x.at x.kind inner.place inner.nodes inner.pool x.node t₁ t₂ w
+    → (length t ≡ 4096 → t₁ ≡ entered t n at c node 0) → (w.number ≡ 0 → length t₂ ≡ 4096 → z ≡ left t₂ x.node w.nodes)
     → Bounded s j w × JudgesList s at j k c n p node t z w
-unfolding is_element Class.is_kind
-item_judges e some h before after = rw e (element_judges refl some (to_start h) before after)
+element_judges {s} {t} {t₁} {t₂} {z} {at} {k} {c} {j} {n} {p} {node} {w} x inner f g e some h before after =
+    element_lem e some (rw (f, g) at h) before (rw f at after)
 
-pub list_judges : {s t t₁ t₂ z : List ℕ} {at k c j n p node : ℕ} {w : Walked} → IsList c → 0 < j
-    → Bounded s j w × AnswersFrom s at c j 0 (n + 1) p n t₁ t₂ w
-    → (length t ≡ 4096 → t₁ ≡ entered t n at c node 0) → (w.number ≡ 0 → length t₂ ≡ 4096 → z ≡ left t₂ n w.nodes)
+pub item_judges : {s : List ℕ} {t t₁ t₂ z : Tape} {at k c j n p node : ℕ} {w : Walked} (x : Element) (inner : Reached)
+    → x ≡ record { at = at; kind = c; node = n } → inner ≡ record { place = j; nodes = n + 1; pool = p }
+    → c ≡ 18 → 0 < j → Bounded s inner.place w × AnswersFrom s x.at x.kind inner.place 0 inner.nodes inner.pool x.node t₁ t₂ w
+    → (length t ≡ 4096 → t₁ ≡ entered t n at c node 0) → (w.number ≡ 0 → length t₂ ≡ 4096 → z ≡ left t₂ x.node w.nodes)
     → Bounded s j w × JudgesList s at j k c n p node t z w
 unfolding is_element Class.is_kind
-list_judges l some h before after = element_judges (⊎_elim (λ e. rw e) (λ e. rw e) l) some (to_start h) before after
+item_judges x inner f g e some h before after = element_judges x inner f g (rw e) some (to_start h) before after
 
 -- And so is a value's.
-pub value_judges : {s t z : List ℕ} {at k c j n p node : ℕ} {w : Walked} → is_element c ≡ false
+pub value_judges : {s : List ℕ} {t z : Tape} {at k c j n p node : ℕ} {w : Walked} → is_element c ≡ false
     → Bounded s j w × (((es : Exprs) (m : ℕ) → RunStands s j es m → w ≡ walked_to m n (p + value_size c es) (judge_value k at (value_tree c es)))
     × Notes s j c node t w z)
     → Bounded s j w × JudgesList s at j k c n p node t z w
@@ -163,11 +167,52 @@ value_judges {n = n} e h = (
   record { judged = λ es m u. rw (e, add-zero n) (h.1.0 es m u); tapes = λ es m u y full. rw e (h.1.1.notes es m u y full) },
 )
 
+-- A walk that has got to i takes a list, of which j is the place after its name.
+pub record ListTaken (s : List ℕ) (at k node from nodes pool : ℕ) (t₀ : Tape) (i st n p : ℕ) (t : Tape) (place c j st' : ℕ) : Type 0 where
+  pub walking : Walking s at k node from nodes pool t₀ i st n p t
+  pub within : (i < j) × (j ≤ length s) × (place ≤ length s)
+  pub takes : TakesList s k i st place c j st'
+
+-- What is seen where a walk has got to: the run ends there, or it is refused, or it is passed.
+module _ {s : List ℕ} {t₀ t : Tape} {at k node from nodes pool i st n p sort q c j l : ℕ}
+    (walking : Walking s at k node from nodes pool t₀ i st n p t) (looked : Looked s i sort q c j l) where
+  -- It may be passed.
+  pub may_turn : (sort ≡ 0 → ⊥) → length s ≤ most_bytes → (n ≤ i) × (i < j → PoolBound (p + l) j) × (i ≤ most_bytes) × (q ≤ most_bytes)
+  may_turn some short = (
+    walking.nodes_within,
+    λ h. omega (arith, seen_within s i looked walking.within some h, walking.pool_within),
+    omega (arith, walking.within),
+    omega (arith, (seen_bounds s i walking.within).place_within, looked.1),
+  )
+
+  pub end_answered : sort ≡ 0 → {w : Walked} → w ≡ walked_to q n p (cond (ended k (state_of k st)) fine (fault 9 at))
+      → Bounded s from w × AnswersFrom s at k from 0 nodes pool node t₀ t w
+  end_answered z e = answered walking (rw e (turn_end looked walking.within walking.nodes_within walking.pool_within z))
+
+  pub refusal_answered : (sort ≡ 0 → ⊥) → {z : Tape} {w : Walked} → Refuses at i q j c k st w
+      → Bounded s from w × AnswersFrom s at k from 0 nodes pool node t₀ z w
+  refusal_answered some r = answered walking (turn_refused looked walking.within some r)
+
+  module _ (some : sort ≡ 0 → ⊥) {j' st' n' p' : ℕ} {t' : Tape} where
+    -- It goes on after a symbol or string.
+    pub passed : TakenAs i j c k st j' st' × (sort ≡ a_list → ⊥) × (n' ≡ n + 1) × (p' ≡ p + l)
+        × (length t ≡ 4096 → t' ≡ entered t n q Class.text node (n + 1))
+        → Walking s at k node from nodes pool t₀ j' st' n' p' t'
+    passed (taking, a, g, b, stored) =
+        let turn = turn_atom looked walking.within some taking walking.nodes_within walking.pool_within a g b stored in
+        gone_on walking turn.0 turn.1
+
+    -- A list is opened, and nothing else has changed.
+    pub list_taken : {q' c' : ℕ} → TakenAs i j c k st j' st' × (sort ≡ a_list) × (q' ≡ q) × (c' ≡ c) × (n' ≡ n) × (p' ≡ p) × (t' ≡ t)
+        → ListTaken s at k node from nodes pool t₀ i st n' p' t' q' c' j' st'
+    list_taken (taking, a, f, g, x, y, z) =
+        let turn = turn_list looked walking.within some taking a f g in
+        record { walking = rw (x, y, z) walking; within = turn.0; takes = turn.1 }
+
 -- A list that is taken, in a walk that has got to i: w is its answer, r that past its closing bracket, and t' the tape with it.
-module _ {s t₀ t t₁ t' : List ℕ} {at k node from nodes pool i st n p place c j st' : ℕ} {w r : Walked}
-    (walking : Walking s at k node from nodes pool t₀ i st n p t)
-    (turn : ((i < j) × (j ≤ length s) × (place ≤ length s)) × (TakesList s k i st place c j st' × (t₁ ≡ t)))
-    (child : Bounded s j w × JudgesList s place j k c n p node t₁ t' w)
+module _ {s : List ℕ} {t₀ t t' : Tape} {at k node from nodes pool i st n p place c j st' : ℕ} {w r : Walked}
+    (opened : ListTaken s at k node from nodes pool t₀ i st n p t place c j st')
+    (child : Bounded s j w × JudgesList s place j k c n p node t t' w)
     (e : r ≡ past_bracket (length s) w) where
   abbrev listed : {es : Exprs} {m : ℕ} → NamedListFirst s place c j es m → Expr
   listed o = list place (and o.lead o.rest)
@@ -188,7 +233,7 @@ module _ {s t₀ t t₁ t' : List ℕ} {at k node from nodes pool i st n p place
   unfolding walked_to
   after_fault o f q h =
       let g = rw h at (by_verdict o) in
-      let z : w.number ≡ 0 → ⊥ = λ z. omega (arith, child.0.bounds z, turn.0, ap (λ (w : Walked). w.next) g) in
+      let z : w.number ≡ 0 → ⊥ = λ z. omega (arith, child.0.bounds z, opened.within, ap (λ (w : Walked). w.next) g) in
       let kept = e ∙ past_fault (length s) w z in
       (λ y. z (rw kept at y), kept ∙ g)
 
@@ -198,14 +243,14 @@ module _ {s t₀ t t₁ t' : List ℕ} {at k node from nodes pool i st n p place
   unfolding walked_to expr_class list_class
   fault_inside z o fine h = absurd (z (ap (λ (w : Walked). w.number) (after_fine o h)))
   fault_inside z {m} o (fault f q) h =
-      (after_fault o f q h).1 ∙ run_fault at k st n p m (listed o) o.others st' f q 0 0 0 (rw o.of_class turn.1.0.taken) h
+      (after_fault o f q h).1 ∙ run_fault at k st n p m (listed o) o.others st' f q 0 0 0 (rw o.of_class opened.takes.taken) h
 
   pub list_answered : (r.number ≡ 0 → ⊥) → Bounded s from r × AnswersFrom s at k from 0 nodes pool node t₀ t' r
   list_answered z =
-      answered walking (
+      answered opened.walking (
         record { bounds = λ x. absurd (z x) },
         record {
-          answers = λ es m u. let o = turn.1.0.opened es m u in rw o.made (fault_inside z o (judge k (listed o)) refl);
+          answers = λ es m u. let o = opened.takes.opened es m u in rw o.made (fault_inside z o (judge k (listed o)) refl);
           tapes = λ es m u y full. absurd (z y);
         },
       )
@@ -214,8 +259,7 @@ module _ {s t₀ t t₁ t' : List ℕ} {at k node from nodes pool i st n p place
   list_tape : r.number ≡ 0 → {es : Exprs} {m : ℕ} (o : NamedListFirst s place c j es m) → length t ≡ 4096 → t' ≡ taped t n node (listed o)
   unfolding taped
   list_tape z o full =
-      let same : t₁ ≡ t = turn.1.1 in
-      rw o.of_class (rw same at (child.1.tapes o.rest o.end o.follows (past_none (length s) w r e z).0 (rw same full)))
+      rw o.of_class (child.1.tapes o.rest o.end o.follows (past_none (length s) w r e z).0 full)
 
   -- Nothing inside the list is at fault, and the walk goes on after it.
   fine_inside : r.number ≡ 0 → {es : Exprs} {m : ℕ} (o : NamedListFirst s place c j es m) (v : Verdict) → judge k (listed o) ≡ v
@@ -226,7 +270,7 @@ module _ {s t₀ t t₁ t' : List ℕ} {at k node from nodes pool i st n p place
       (record {
         others = o.others;
         stands = o.goes_on;
-        same = run_fine at k st n p m (listed o) o.others st' (rw o.of_class turn.1.0.taken) h;
+        same = run_fine at k st n p m (listed o) o.others st' (rw o.of_class opened.takes.taken) h;
         kept = λ full. taped_first t t' n node (listed o) o.others (list_tape z o full);
       })
   fine_inside z o (fault f q) h = absurd ((after_fault o f q h).0 z)
@@ -235,9 +279,15 @@ module _ {s t₀ t t₁ t' : List ℕ} {at k node from nodes pool i st n p place
   unfolding walked_to
   list_forward z =
       let h = past_none (length s) w r e z in
-      rw h.2 (omega (arith, child.0.bounds h.0, turn.0, h.1))
+      rw h.2 (omega (arith, child.0.bounds h.0, opened.within, h.1))
 
   pub list_gone_on : r.number ≡ 0 → Walking s at k node from nodes pool t₀ r.next st' r.nodes r.pool t'
   list_gone_on z =
-      gone_on walking (list_forward z)
-      (record { left = λ es m u. let o = turn.1.0.opened es m u in rw o.made (fine_inside z o (judge k (listed o)) refl) })
+      gone_on opened.walking (list_forward z)
+      (record { left = λ es m u. let o = opened.takes.opened es m u in rw o.made (fine_inside z o (judge k (listed o)) refl) })
+
+-- The list is refused itself.
+pub child_refused : {s : List ℕ} {t₀ t t' : Tape} {at k node from nodes pool i st n p place c j st' : ℕ} {w : Walked}
+    → ListTaken s at k node from nodes pool t₀ i st n p t place c j st' → Bounded s j w × JudgesList s place j k c n p node t t' w
+    → (w.number ≡ 0 → ⊥) → Bounded s from w × AnswersFrom s at k from 0 nodes pool node t₀ t' w
+child_refused {s} {w = w} opened child z = list_answered opened child (sym (past_fault (length s) w z)) z

@@ -9,6 +9,7 @@ use lib.Dec.{T, eqb, ltb}
 use lib.ListN.{length, drop}
 use borrow.Author.Tests.{ne_eqb}
 use Rattle.base.proofs.Booleans.{cond_case, both}
+use Rattle.base.specs.rules.Limits.{most_nodes}
 use Rattle.elements.specs.rules.Class as Class
 use Rattle.elements.specs.rules.Rules.{Slot, must, may, id_type, rule_of}
 use Rattle.elements.specs.rules.Inside.{State, expecting, holding, Step, go, bad, step as stepped, ended}
@@ -20,11 +21,30 @@ use Rattle.document.specs.rules.Faults.{Begun, Taken, Allowed}
 use Rattle.document.specs.reference.Meaning.{Verdict, fine, fault, stopped, fault_at, advance, finish, run, judge}
 use Rattle.document.proofs.RuleClasses.{all_lead, leads, Leading, start_leading, next_leads, allowed_child, chosen_allowed}
 use Rattle.document.proofs.ElementSteps.{begun_of, stepped as step-says}
+use Rattle.reader.specs.internal.RunStands.{RunStands}
 use Rattle.reader.specs.internal.Counts.{node_count, node_count_in, pool_bytes, pool_bytes_in}
-use Rattle.reader.specs.internal.WalkAnswer.{walked_to, Bounded}
-use Rattle.reader.specs.internal.Tape.{entered, taped, taped_all}
-use Rattle.reader.specs.internal.Walk.{run_answer, AnswersFrom, Remaining, NamedListFirst, TakesList, StepTakes, TakesAtom}
+use Rattle.reader.specs.internal.WalkAnswer.{Walked, walked_to, Bounded}
+use Rattle.reader.specs.internal.Walks.{Refuses, by_step, stuck, TakenAs}
+use Rattle.reader.specs.internal.Tape.{Tape, entered, taped, taped_all}
+use Rattle.reader.specs.internal.Walk.{run_answer, AnswersFrom, NamedListFirst, StepTakes}
 use Rattle.reader.proofs.lemmas.walk.SeenExpressions.{seen_bounds, SeenAs, saw_end, saw_symbol, saw_string, saw_list, look_stands}
+
+-- Of the expressions es, which end at e, those from place j on are left, and the answer and the tape are those from there, in the state and with the
+-- counts and the tape there.
+pub record Remaining (s : List ℕ) (at k st n p node : ℕ) (t : Tape) (j st' n' p' : ℕ) (t' : Tape) (es : Exprs) (e : ℕ) : Type 0 where
+  pub others : Exprs
+  pub stands : RunStands s j others e
+  pub same : run_answer at k st' n' p' e others ≡ run_answer at k st n p e es
+  pub kept : length t ≡ most_nodes → taped_all t' n' node others ≡ taped_all t n node es
+
+-- From place i on a walk has gone to place j.
+pub record Goes (s : List ℕ) (at k i st n p node : ℕ) (t : Tape) (j st' n' p' : ℕ) (t' : Tape) : Type 0 where
+  pub left : (es : Exprs) (e : ℕ) → RunStands s i es e → Remaining s at k st n p node t j st' n' p' t' es e
+
+-- From place i on a list led by a name stands first, and it is taken.
+pub record TakesList (s : List ℕ) (k i st place c j st' : ℕ) : Type 0 where
+  pub taken : StepTakes k st c st'
+  pub opened : (es : Exprs) (e : ℕ) → RunStands s i es e → NamedListFirst s place c j es e
 
 -- A step that is no fault leads to a state; any other is the fault.
 pub step_goes : (k f st : ℕ) (r : Step) → f ≡ 0 → step_of k f st ≡ r → r ≡ go (state_of k st)
@@ -129,7 +149,7 @@ module _ {s : List ℕ} {r : Seen} where
   seen_forward (saw_string h c l f t) z = f
   seen_forward (saw_list x h c f t d b u) z = f
 
-  pass_atom : (at k st n p node : ℕ) (t : List ℕ) (st' : ℕ) (t' : List ℕ) {es : Exprs} {e : ℕ} → SeenAs s r es e → (r.sort ≡ 0 → ⊥)
+  pass_atom : (at k st n p node : ℕ) (t : Tape) (st' : ℕ) (t' : Tape) {es : Exprs} {e : ℕ} → SeenAs s r es e → (r.sort ≡ 0 → ⊥)
       → (r.sort ≡ 3 → ⊥)
       → StepTakes k st r.class st' → (length t ≡ 4096 → t' ≡ entered t n r.place Class.text node (n + 1))
       → Remaining s at k st n p node t r.next st' (n + 1) (p + r.length) t' es e
@@ -152,19 +172,12 @@ module _ {s : List ℕ} {r : Seen} where
   pass_atom at k st n p node t st' t' (saw_list x h c f u d b v) z a g y = absurd (a h)
 
   -- Nothing stands where nothing is seen, and the tape is as it was.
-  tapes_end : (n node : ℕ) (t : List ℕ) {es : Exprs} {e : ℕ} → SeenAs s r es e → r.sort ≡ 0 → t ≡ taped_all t n node es
+  tapes_end : (n node : ℕ) (t : Tape) {es : Exprs} {e : ℕ} → SeenAs s r es e → r.sort ≡ 0 → t ≡ taped_all t n node es
   unfolding taped_all
   tapes_end n node t (saw_end h) z = refl
   tapes_end n node t (saw_symbol h c l f u) z = let o : ◌≡◌ {A = ℕ} 0 1 = cc in absurd (omega arith)
   tapes_end n node t (saw_string h c l f u) z = let o : ◌≡◌ {A = ℕ} 0 1 = cc in absurd (omega arith)
   tapes_end n node t (saw_list x h c f u d b v) z = let o : ◌≡◌ {A = ℕ} 0 1 = cc in absurd (omega arith)
-
-  -- No symbol and no string is an item.
-  item_list : {es : Exprs} {e : ℕ} → SeenAs s r es e → (r.sort ≡ 0 → ⊥) → r.class ≡ Class.item → r.sort ≡ 3
-  item_list (saw_end h) z a = absurd (z h)
-  item_list (saw_symbol h c l f t) z a = absurd (omega (arith, sym c ∙ a))
-  item_list (saw_string h c l f t) z a = absurd (omega (arith, sym c ∙ a))
-  item_list (saw_list x h c f t d b u) z a = h
 
   pub open_list : {es : Exprs} {e : ℕ} → SeenAs s r es e → r.sort ≡ 3 → (r.class ≡ 0 → ⊥) → NamedListFirst s r.place r.class r.next es e
   open_list (saw_end h) z a = let w : ◌≡◌ {A = ℕ} 0 1 = cc in absurd (omega arith)
@@ -195,7 +208,7 @@ seen_within s i looked within some h =
 
 -- The ways through a turn.
 module _ {s : List ℕ} {k i st sort q c j l : ℕ} (looked : Looked s i sort q c j l) (within : i ≤ length s) where
-  pub turn_end : {at n p node : ℕ} {t : List ℕ} → n ≤ i → p ≤ i → sort ≡ 0
+  pub turn_end : {at n p node : ℕ} {t : Tape} → n ≤ i → p ≤ i → sort ≡ 0
       → Bounded s i (walked_to q n p (cond (ended k (state_of k st)) fine (fault 9 at)))
       × AnswersFrom s at k i st n p node t t (walked_to q n p (cond (ended k (state_of k st)) fine (fault 9 at)))
   unfolding walked_to
@@ -210,71 +223,50 @@ module _ {s : List ℕ} {k i st sort q c j l : ℕ} (looked : Looked s i sort q 
         },
       )
 
-  -- Nothing is passed: not where expressions stand.
-  pub turn_stuck : {at n p node : ℕ} {t z : List ℕ} → (sort ≡ 0 → ⊥) → j ≤ i
-      → Bounded s i (walked_to 0 0 0 (fault 8 q)) × AnswersFrom s at k i st n p node t z (walked_to 0 0 0 (fault 8 q))
+  -- It is refused, or nothing is passed: not where expressions stand.
+  pub turn_refused : {at n p node : ℕ} {t z : Tape} {w : Walked} → (sort ≡ 0 → ⊥) → Refuses at i q j c k st w
+      → Bounded s i w × AnswersFrom s at k i st n p node t z w
   unfolding walked_to
-  turn_stuck some h = (
-    record { bounds = λ e. omega (arith, e) },
+  turn_refused {at} {n} {p} some (by_step f h e g) = rw g (
+    record { bounds = λ y. absurd (h y) },
     record {
-      answers = λ es e u.
-          absurd (omega (arith, (seen_bounds s i within).place_from, looked.3, seen_forward (look_stands s i e es u) (λ e. some (looked.0 ∙ e))));
-      tapes = λ es e u y full. absurd (omega (arith, y));
+      answers = λ es m u. rw looked.1 (answer_fault at k st n p f (look_stands s i m es u) (λ z. some (looked.0 ∙ z)) (rw looked.2 at e));
+      tapes = λ es m u y full. absurd (h y);
+    },
+  )
+  turn_refused some (stuck h g) = rw g (
+    record { bounds = λ y. omega (arith, y) },
+    record {
+      answers = λ es m u.
+          absurd (omega (arith, (seen_bounds s i within).place_from, looked.3, seen_forward (look_stands s i m es u) (λ z. some (looked.0 ∙ z))));
+      tapes = λ es m u y full. absurd (omega (arith, y));
     },
   )
 
-  -- A step was tried.
-  module _ (f st' : ℕ) (step : step_of k f st' ≡ stepped k (state_of k st) c) (some : sort ≡ 0 → ⊥) where
-    pub turn_fault : {at n p node : ℕ} {t z : List ℕ} → (f ≡ 0 → ⊥)
-        → Bounded s i (walked_to 0 0 0 (fault f (cond (eqb f 9) at q)))
-        × AnswersFrom s at k i st n p node t z (walked_to 0 0 0 (fault f (cond (eqb f 9) at q)))
-    unfolding walked_to
-    turn_fault {at} {n} {p} h = (
-      record { bounds = λ e. absurd (h e) },
+  -- It is taken.
+  module _ {j' st' : ℕ} (some : sort ≡ 0 → ⊥) (taking : TakenAs i j c k st j' st') where
+    pub turn_atom : {at n p node n' p' : ℕ} {t t' : Tape} → n ≤ i → p ≤ i → (sort ≡ 3 → ⊥) → n' ≡ n + 1 → p' ≡ p + l
+        → (length t ≡ 4096 → t' ≡ entered t n q Class.text node (n + 1))
+        → ((i < j') × (j' ≤ length s) × (n' ≤ j') × (p' ≤ j')) × Goes s at k i st n p node t j' st' n' p' t'
+    turn_atom {at} {n} {p} {node} {t = t} {t' = t'} nodes pool a g b stored = (
+      omega (arith, seen_within s i looked within some taking.forward, taking),
       record {
-        answers = λ es e u.
-            rw looked.1 (answer_fault at k st n p f (look_stands s i e es u) (λ e. some (looked.0 ∙ e))
-            (rw looked.2 at (step_bad k f st' _ h step)));
-        tapes = λ es e u y full. absurd (h y);
+        left = λ es e u.
+            rw (taking.next, looked.3, g, b, looked.4)
+            (pass_atom at k st n p node t st' t' (look_stands s i e es u) (λ e. some (looked.0 ∙ e)) (λ e. a (looked.0 ∙ e))
+            (rw looked.2 at taking.taken)
+            (rw looked.1 at stored));
       },
     )
 
-    pub turn_atom : {at n p node : ℕ} {t t' : List ℕ} → n ≤ i → p ≤ i → f ≡ 0 → i < j → (sort ≡ 3 → ⊥)
-        → (length t ≡ 4096 → t' ≡ entered t n q Class.text node (n + 1))
-        → ((i < j) × (j ≤ length s) × (n + 1 ≤ j) × (p + l ≤ j)) × TakesAtom s at k i st n p node t j st' (n + 1) (p + l) t'
-    turn_atom {at} {n} {p} {node} {t} {t'} nodes pool h v a stored =
-        let taken = step_goes k f st' _ h step in (
-          omega (arith, seen_within s i looked within some v),
-          record {
-            class = c;
-            taken = taken;
-            goes = record {
-              left = λ es e u.
-                  rw (looked.3, looked.4)
-                  (pass_atom at k st n p node t st' t' (look_stands s i e es u) (λ e. some (looked.0 ∙ e)) (λ e. a (looked.0 ∙ e))
-                  (rw looked.2 at taken)
-                  (rw looked.1 at stored));
-            };
-          },
-        )
-
-    -- A list is taken; where what is taken is an item, it is one.
-    opened_list : ((es : Exprs) (e : ℕ) → SeenAs s (seen i (drop i s)) es e → (seen i (drop i s)).sort ≡ 3) → f ≡ 0 → i < j
-        → ((i < j) × (j ≤ length s) × (q ≤ length s)) × TakesList s k i st q c j st'
-    opened_list a h v =
-        let taken = step_goes k f st' _ h step in (
-          omega (arith, seen_within s i looked within some v, (seen_bounds s i within).place_within, looked.1),
-          record {
-            taken = taken;
-            opened = λ es e u.
-                let first = look_stands s i e es u in
-                rw (looked.1, looked.2, looked.3)
-                (open_list first (a es e first) (λ e. none_taken k st st' (rw (looked.2 ∙ e) at taken)));
-          },
-        )
-
-    pub turn_list : f ≡ 0 → i < j → sort ≡ 3 → ((i < j) × (j ≤ length s) × (q ≤ length s)) × TakesList s k i st q c j st'
-    turn_list h v a = opened_list (λ es e first. sym looked.0 ∙ a) h v
-
-    pub turn_item : f ≡ 0 → i < j → c ≡ Class.item → ((i < j) × (j ≤ length s) × (q ≤ length s)) × TakesList s k i st q c j st'
-    turn_item h v a = opened_list (λ es e first. item_list first (λ z. some (looked.0 ∙ z)) (sym looked.2 ∙ a)) h v
+    pub turn_list : {q' c' : ℕ} → sort ≡ 3 → q' ≡ q → c' ≡ c
+        → ((i < j') × (j' ≤ length s) × (q' ≤ length s)) × TakesList s k i st q' c' j' st'
+    turn_list a f g = (
+      omega (arith, seen_within s i looked within some taking.forward, (seen_bounds s i within).place_within, looked.1, taking),
+      record {
+        taken = rw g taking.taken;
+        opened = λ es e u.
+            rw (f, g, taking.next, looked.1, looked.2, looked.3)
+            (open_list (look_stands s i e es u) (sym looked.0 ∙ a) (λ e. none_taken k st st' (rw (looked.2 ∙ e) at taking.taken)));
+      },
+    )

@@ -1,15 +1,18 @@
--- A refusal by its number: none has the number 0, and `Absent` is told by its own.
-use Prim.Native.Nat.{◌+◌, ◌<◌}
-use mathlib.Core.Path.{◌≡◌, refl}
+-- A refusal by its number, of which none is 0, and what a `?` hands on.
+use Prim.Native.Nat.{◌<◌}
+use mathlib.Core.Path.{◌≡◌, refl, ap, ◌∙◌}
 use native.Mathlib.Omega.{arith}
 use lib.Dec.{eqb}
-use denote.Enum.Declared.{tag_of}
 use denote.Enum.Bare.{sameb}
+use Rattle.std.specs.Prelude.{Result, Err}
+use Rattle.std.specs.Result.{IsErrAnd}
+use Rattle.std.proofs.lemmas.Result.{err_from_is_err_and}
 use Rattle.base.specs.rules.Numbers as Number
 use Rattle.base.specs.Refusals.{number}
 use Rattle.base.specs.contracts.refusal.Refusal.{the_type}
 use Rattle.base.specs.declared.refusal.Refusal.{Refusal}
 use Rattle.base.specs.declared.refusal.Refusal.TheVariants.{TextTooLong, NotUtf8, ForbiddenCharacter, BadString, UnpairedBracket, TooDeep, NotOneExpression, NotAllowed, Absent, Malformed, OtherSort, Include, NodesShort, PoolShort, RowLength, RepeatedId, UnknownTarget, UnknownFootnote, NestedTooDeep, NotATable, OutputShort}
+use Rattle.reader.specs.declared.walk.Refused.{Refused}
 
 told_apart : (r : Refusal) → (0 < number r) × (eqb (number r) Number.absent ≡ sameb the_type r Absent)
 told_apart TextTooLong = (omega arith, refl)
@@ -39,3 +42,7 @@ refusal_some r e = omega (arith, told_apart r)
 
 pub is_absent : (r : Refusal) → eqb (number r) Number.absent ≡ sameb the_type r Absent
 is_absent r = (told_apart r).1
+
+-- What a `?` hands on.
+pub passed_up : {T : Type 0} (r : Result T Refused) {f : Refused} → IsErrAnd r (λ e. e ≡ f) → r ≡ Err f
+passed_up r h = let e = err_from_is_err_and r h in e.1 ∙ ap Err e.2

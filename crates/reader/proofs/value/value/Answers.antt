@@ -1,63 +1,39 @@
 -- `value` meets its contract: each way out is one law of `TextValues`.
-use native.Mathlib.Omega.{arith}
-use borrow.Author.Tests.{not-true, not-false}
-use Rattle.reader.proofs.lemmas.value.TextValues.{ValueAnswers, value_size_lem, value_nothing, value_bad, value_good, word_small}
+use mathlib.Core.Path.{◌≡◌, ◌∙◌}
+use mathlib.Core.Bool.{cond}
+use lib.Dec.{eqb}
+use lib.ListN.{length}
+use borrow.Author.Tests.{eq-eqb, ne_eqb}
+use Rattle.reader.specs.internal.Tape.{type_noted, key_noted}
+use Rattle.reader.proofs.lemmas.value.TextValues.{size_judged, value_nothing, value_bad, value_good, value_noted, not_there}
 use Rattle.reader.proofs.value.value.Goals as goal
+use Rattle.reader.proofs.value.value.Goals.{then-list-eq-TYPE_NAME, else-list-eq-TYPE_NAME}
 
-pub returns-then-class-eq-SIZE : goal.returns-then-class-eq-SIZE
-returns-then-class-eq-SIZE c =
+pub returns-then-list-eq-SIZE-clause-value : goal.returns-then-list-eq-SIZE-clause-value
+returns-then-list-eq-SIZE-clause-value c = size_judged _ _ _ _ c.if-list-eq-SIZE.true c.size.ensures.value
+
+pub returns-in_err-one-clause-value : goal.returns-in_err-one-clause-value
+returns-in_err-one-clause-value c =
+    let is = c.in_err-one.ensures in
+    rw (not_there c.only.result c.from_residual.ensures.1 is.value is.ok_part)
+    (value_nothing _ _ _ _ c.if-list-eq-SIZE.false (rw is.ok_part at c.only.ensures))
+
+pub returns-then-not-is_value-clause-value : goal.returns-then-not-is_value-clause-value
+returns-then-not-is_value-clause-value c =
+    value_bad _ _ _ _ c.if-list-eq-SIZE.false (rw c.in_ok-one.ensures.ok_part at c.only.ensures) c.is_value.ensures c.if-not-is_value.true
+
+pub returns-clause-value : goal.returns-clause-value
+returns-clause-value c =
+    value_good _ _ _ _ c.if-list-eq-SIZE.false (rw c.in_ok-one.ensures.ok_part at c.only.ensures) c.is_value.ensures c.if-not-is_value.false
+
+pub returns-clause-notes : goal.returns-clause-notes
+returns-clause-notes c =
     let a = c.args in
-    let whole = value_size_lem a.at a.kind a.nodes a.pool c.if-class-eq-SIZE.true
-    (c.size.ensures.bounded, (c.size.ensures.value, c.size.ensures.notes)) in
-    record { bounded = whole.0; value = whole.1.0; notes = whole.1.1 }
-
-pub returns-then-not-one : goal.returns-then-not-one
-returns-then-not-one c =
-    let a = c.args in
-    let whole : ValueAnswers a.text.now a.at a.from a.kind a.class a.nodes a.pool a.node a.tape.now c.refusal.result a.tape.now
-    = rw c.refusal.ensures
-    (value_nothing _ _ _ _ c.if-class-eq-SIZE.false c.only-one.ensures
-    (not-true _ c.if-not-one.true)) in
-    record { bounded = whole.0; value = whole.1.0; notes = whole.1.1 }
-
-pub returns-then-not-is_value : goal.returns-then-not-is_value
-returns-then-not-is_value c =
-    let a = c.args in
-    let whole : ValueAnswers a.text.now a.at a.from a.kind a.class a.nodes a.pool a.node a.tape.now c.refusal-then-not-is_value.result a.tape.now
-    = rw c.refusal-then-not-is_value.ensures
-    (value_bad _ _ _ _ c.if-class-eq-SIZE.false c.only-one.ensures
-    (not-false _ c.if-not-one.false) (c.if-not-is_value.true) c.is_value.ensures) in
-    record { bounded = whole.0; value = whole.1.0; notes = whole.1.1 }
-
-pub note-requires : goal.note-requires
-note-requires c = (
-  word_small c.args.class
-      c.word_of.ensures,
-  omega (
-    arith,
-    c.only-one.ensures.within
-        (not-false _ c.if-not-one.false),
-    c.requires,
-  ),
-)
-
-pub overflow_add-result : goal.overflow_add-result
-overflow_add-result c = omega (
-  arith,
-  c.only-one.ensures.within
-      (not-false _ c.if-not-one.false),
-  c.requires,
-)
-
-pub returns : goal.returns
-returns c =
-    let a = c.args in
-    let pre = c.requires in
-    let whole = value_good a.at a.kind a.nodes a.pool c.if-class-eq-SIZE.false
-    c.only-one.ensures
-    (not-false _ c.if-not-one.false) (c.if-not-is_value.false)
-    c.is_value.ensures
-    pre.1
-    pre.2 c.word_of.ensures
-    c.note.ensures in
-    record { bounded = whole.0; value = whole.1.0; notes = whole.1.1 }
+    let o = c.in_ok-one.one in
+    let stored : length a.tape.now ≡ 4096 → c.if-list-eq-TYPE_NAME.tape ≡ cond (eqb a.list.class 27) (type_noted a.tape.now a.parent.node o.place)
+    (key_noted a.tape.now a.parent.node o.place)
+    = λ full. elim c.if-list-eq-TYPE_NAME.branch [
+      | then-list-eq-TYPE_NAME w ↦ rw (eq-eqb _ 27 w.if-list-eq-TYPE_NAME.true) (w.tape-is ∙ w.note_type.ensures full)
+      | else-list-eq-TYPE_NAME w ↦ rw (ne_eqb _ 27 w.if-list-eq-TYPE_NAME.false) (w.tape-is ∙ w.note_key.ensures full)
+    ] in
+    value_noted c.if-list-eq-SIZE.false (rw c.in_ok-one.ensures.ok_part at c.only.ensures) stored
