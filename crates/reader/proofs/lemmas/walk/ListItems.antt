@@ -1,15 +1,14 @@
 -- A list holds items and nothing else.
-use Prim.Native.Nat.{ℕ, ◌≤◌, ◌<◌}
+use Prim.Native.Nat.{ℕ}
 use mathlib.Core.Path.{◌≡◌, refl, ap}
 use mathlib.Core.Bool.{false, ◌||◌}
 use native.Mathlib.Omega.{arith}
 use lib.ListN.{length}
 use mathlib.Core.List.Memᴰ
 use mathlib.Core.List.{List, [], ◌∷◌}
-use mathlib.Core.Logic.{◌⊎◌, inl, inr, ⊎_elim}
-use borrow.Author.Tests.{eqb-true, eqb-false}
+use mathlib.Core.Logic.{◌⊎◌, ⊎_elim}
 use lib.Dec.{T, eqb, eqb→eq}
-use Rattle.base.proofs.Booleans.{bool_case, or_true}
+use Rattle.base.proofs.Booleans.{or_true}
 use Rattle.elements.specs.rules.Bytes.{among}
 use Rattle.elements.specs.rules.Class as Class
 use Rattle.elements.specs.rules.Rules.{Slot, Content, alternatives, rules, rule_in, rule_of}
