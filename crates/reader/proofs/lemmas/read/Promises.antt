@@ -1,12 +1,10 @@
 -- From what the parts of a read ensure to what the read promises, way by way.
-use Prim.Native.Nat.{ℕ, ◌*◌, ◌/◌, ◌≤◌, min}
-use mathlib.Core.Path.{◌≡◌, refl, sym, ◌∙◌}
-use mathlib.Core.Bool.{Bool, true, false, cond}
+use Prim.Native.Nat.{ℕ, ◌*◌, ◌≤◌}
+use mathlib.Core.Path.{◌≡◌, sym, ◌∙◌}
 use mathlib.Core.List.{List, []}
 use native.Mathlib.Nat.{zero-add}
 use native.Mathlib.Omega.{arith}
-use borrow.Author.Tests.{ltb-false}
-use lib.Dec.{ltb}
+use Rattle.std.proofs.lemmas.Bool.Decides.{nat_tests}
 use lib.ListN.{length, replicate, length-replicate}
 use lib.Seq.{sets, sets-eq}
 use Rattle.base.specs.rules.Limits.{most_nodes}
@@ -41,12 +39,7 @@ module _ (words places bytes n p : ℕ) where
   -- Where there is room, the nodes are few and fit what is lent.
   pub room_fits : room_number words places bytes n p ≡ 0 → (n ≤ most_nodes) × (record_length * n ≤ words) × (n ≤ places)
   unfolding room_number
-  room_fits = go (ltb (min 4096 (min (words / record_length) places)) n) refl
-    where
-      go : (a : Bool) → ltb (min 4096 (min (words / record_length) places)) n ≡ a → ◌≡◌ {A = ℕ} (cond a 13 (cond (ltb bytes p) 14 0)) 0
-          → (n ≤ most_nodes) × (record_length * n ≤ words) × (n ≤ places)
-      go true e z = absurd (omega arith)
-      go false e z = let h = ltb-false (min 4096 (min (words / record_length) places)) n e in (omega (arith, h), omega (arith, h), omega (arith, h))
+  room_fits h = grind (arith, nat_tests)
 
 -- ---- the lent memory once it is filled
 
@@ -63,25 +56,11 @@ module _ (text : List ℕ) (m : Memory) (ps : List ℕ) (d : Node) where
 
   stored_full : (full ≡ 0 → ⊥) → stored text m ps d ≡ record { answer = answer_at text full 0 (count d) (length (pool d)); memory = m }
   unfolding stored node_room room_number no_room
-  stored_full = go (ltb (node_room m) (count d)) (ltb (length m.pool) (length (pool d)))
-    where
-      go : (a b : Bool) → (◌≡◌ {A = ℕ} (cond a 13 (cond b 14 0)) 0 → ⊥)
-          → cond a (no_room text m 13 d) (cond b (no_room text m 14 d) (filled text m ps d))
-          ≡ record { answer = answer_at text (cond a 13 (cond b 14 0)) 0 (count d) (length (pool d)); memory = m }
-      go true b h = refl
-      go false true h = refl
-      go false false h = absurd (h refl)
+  stored_full h = grind (arith, nat_tests)
 
   stored_fits : full ≡ 0 → (stored text m ps d ≡ filled text m ps d) × (count d ≤ node_room m) × (length (pool d) ≤ length m.pool)
   unfolding stored node_room room_number
-  stored_fits = go (ltb (node_room m) (count d)) refl (ltb (length m.pool) (length (pool d))) refl
-    where
-      go : (a : Bool) → ltb (node_room m) (count d) ≡ a → (b : Bool) → ltb (length m.pool) (length (pool d)) ≡ b → ◌≡◌ {A = ℕ} (cond a 13 (cond b 14 0)) 0
-          → (cond a (no_room text m 13 d) (cond b (no_room text m 14 d) (filled text m ps d)) ≡ filled text m ps d)
-          × (count d ≤ node_room m) × (length (pool d) ≤ length m.pool)
-      go true e b f z = absurd (omega arith)
-      go false e true f z = absurd (omega arith)
-      go false e false f z = (refl, ltb-false (node_room m) (count d) e, ltb-false (length m.pool) (length (pool d)) f)
+  stored_fits h = grind (arith, nat_tests)
 
   module _ (room : count d ≤ node_room m) (bytes : length (pool d) ≤ length m.pool) (one_each : length ps ≡ count d) where
     written_over : written m ps d ≡ record { nodes = over (table_of d) m.nodes; places = over ps m.places; pool = over (pool d) m.pool }
