@@ -42,6 +42,8 @@ struct Lent<'a> {
 
 impl Lent<'_> {
     // Puts into the pool what stands at the place that a word of the tape says, or nothing where it says none.
+    // (A call for each of a row's three strings costs a read of short texts a tenth of its instructions.)
+    #[inline(always)]
     fn put(&mut self, text: &[u8], place: u32) -> Span
         requires { (length text.now ≤ most_bytes) × (self.old.bytes + most_bytes ≤ missing) }
         ensures put { PutString (held_at text.now place) self.old self.new result }
