@@ -162,7 +162,7 @@ pub fn judge_imperative(text: &[u8], tape: &mut Tape) -> Judged
     ensures value { (es : Exprs) → RunStands text.now 0 es (length text.now) → depth_all es ≤ imperative_levels
         → judged result ≡ read_walked (one_expression Spelling.imperative (length text.now) es) }
     ensures tape_after { (e : Expr) (es : Exprs) → RunStands text.now 0 (and e es) (length text.now) → depth_all (and e es) ≤ imperative_levels
-        → (judged result).number ≡ 0 → length tape.old ≡ most_nodes → tape.new ≡ taped tape.old 0 missing (regroup e es) }
+        → (judged result).number ≡ 0 → tape.new ≡ taped tape.old 0 missing (regroup e es) }
 {
     let (root, from) = open_root(text, tape)?;
     let end = block(text, root, from, tape)?;

@@ -209,7 +209,7 @@ pub fn opened(parent: usize, list: Opening, from: Reached, tape: &mut Tape) -> (
     requires { (list.at ≤ most_word) × (parent ≤ most_word) × (from.nodes < most_word) }
     ensures element { result.0 ≡ record { at = list.at; kind = list.class; node = from.nodes } }
     ensures inner { result.1 ≡ record { place = from.place; nodes = from.nodes + 1; pool = from.pool } }
-    ensures tape_after { length tape.old ≡ most_nodes → tape.new ≡ entered tape.old from.nodes list.at list.class parent 0 }
+    ensures tape_after { tape.new ≡ entered tape.old from.nodes list.at list.class parent 0 }
 {
     let node = from.nodes;
     let kind = list.class;

@@ -5,7 +5,7 @@ use mathlib.Core.List.{List, []}
 use native.Mathlib.Nat.{zero-add}
 use native.Mathlib.Omega.{arith}
 use Rattle.std.proofs.lemmas.Bool.Decides.{nat_tests}
-use lib.ListN.{length, replicate, length-replicate}
+use lib.ListN.{length, replicate}
 use lib.Seq.{sets, sets-eq}
 use Rattle.base.specs.rules.Limits.{most_nodes}
 use Rattle.syntax.specs.rules.Expression.{Expr}
@@ -26,7 +26,6 @@ use Rattle.reader.specs.internal.JudgedText.{JudgesText, TapeOfText}
 use Rattle.reader.specs.internal.FirstGroups.{group_number, group_place, room_number}
 use Rattle.reader.specs.Read.{SameAnswer, Reads}
 use Rattle.reader.specs.internal.Counts.{node_count}
-use Rattle.reader.specs.declared.tape.Entry.{Entry}
 use Rattle.reader.specs.internal.Tape.{Tape, not_met, taped, Located}
 use Rattle.reader.proofs.lemmas.walk.Counts.{nodes_places}
 use Rattle.reader.proofs.lemmas.read.Located.{form_located}
@@ -91,9 +90,6 @@ module _ (s : Spelling) (text : List ℕ) (n p : ℕ) (group : (n ≡ group_numb
 -- The tape that a read lends.
 abbrev pub blank_tape : Tape
 blank_tape = replicate 4096 not_met
-
-long : length blank_tape ≡ 4096
-long = length-replicate {A = Entry} 4096 not_met
 
 -- What the fill of this many nodes from a tape ensures.
 abbrev Filled : Memory → Memory → Expr → Type 0
@@ -173,7 +169,7 @@ module _ (s : Spelling) (text : List ℕ) (m : Memory) where
           exit_is =
               filled_written m exit found.expr
               (fills found.expr blank_tape (form_located s text passed.es found.expr found.form passed.stands found.fine_root) found.fine_root
-              (tapes passed.es found.expr found.form passed.stands passed.shallow z' long)
+              (tapes passed.es found.expr found.form passed.stands passed.shallow z')
               (found.nodes_are ∙ sym (root_places found.expr found.fine_root) ∙ nodes_places found.expr))
 
           -- 0.
