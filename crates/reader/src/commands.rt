@@ -1,7 +1,7 @@
 // The judging walk over the blocks of an imperative text (document 01, "Imperative"). A command closes before its content, which follows up to the
 // next command that ends the block; what stands in a command and in its content is walked as in the nested spelling.
 ghost use Rattle.std.specs.Prelude.{◌≡◌, ◌≤◌, length};
-ghost use Rattle.base.specs.rules.Limits.{most_bytes, most_nodes, imperative_levels, missing};
+ghost use Rattle.base.specs.rules.Limits.{most_bytes, imperative_levels, missing};
 ghost use Rattle.document.specs.rules.Spelling.{is_block_parameter};
 ghost use Rattle.syntax.specs.rules.Expression.{Expr, Exprs, and, depth_all};
 ghost use Rattle.document.specs.rules.Spelling.{Spelling};

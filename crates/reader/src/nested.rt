@@ -1,6 +1,6 @@
 // Judging a nested text that was scanned: first 7, for no expression or a second one, then 8 to 12 of the one there is.
 ghost use Rattle.std.specs.Prelude.{◌≡◌, ℕ, ◌≤◌, length};
-ghost use Rattle.base.specs.rules.Limits.{most_bytes, most_nodes, missing};
+ghost use Rattle.base.specs.rules.Limits.{most_bytes, missing};
 ghost use Rattle.syntax.specs.rules.Expression.{Expr, Exprs, none, and};
 ghost use Rattle.document.specs.rules.Spelling.{nested};
 ghost use Rattle.document.specs.reference.Outcome.{one_expression};

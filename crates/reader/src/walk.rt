@@ -12,7 +12,6 @@ ghost use Rattle.lexer.specs.Token.{seen, the_end};
 ghost use Rattle.document.specs.reference.Meaning.{Verdict};
 ghost use Rattle.reader.specs.internal.WalkAnswer.{told, walked_to};
 ghost use Rattle.reader.specs.internal.Walk.{past_bracket};
-ghost use Rattle.base.specs.rules.Limits.{most_nodes};
 ghost use Rattle.reader.specs.internal.Tape.{entered};
 ghost use Rattle.reader.specs.internal.TapeWord.{most_word};
 ghost use Rattle.reader.specs.internal.Walks.{WalkStarts, ListStarts, Within, Answers, Finished, Judges, MayTurn, TurnAs};
