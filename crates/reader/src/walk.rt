@@ -30,8 +30,6 @@ pub const DOCUMENT: u8 = Kind::DOCUMENT.number;
 
 pub const TEXT: u8 = Kind::TEXT.number;
 
-const ITEM: u8 = Kind::ITEM.number;
-
 const CELL: u8 = Kind::CELL.number;
 
 const LIST_ORDERED: u8 = Kind::LIST_ORDERED.number;
