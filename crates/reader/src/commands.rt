@@ -1,7 +1,7 @@
 // The judging walk over the blocks of an imperative text (document 01, "Imperative"). A command closes before its content, which follows up to the
 // next command that ends the block; what stands in a command and in its content is walked as in the nested spelling.
 ghost use Rattle.std.specs.Prelude.{◌≡◌, ◌≤◌, length};
-ghost use Rattle.base.specs.rules.Limits.{most_bytes, most_nodes, imperative_levels, missing};
+ghost use Rattle.base.specs.rules.Limits.{most_bytes, imperative_levels, missing};
 ghost use Rattle.document.specs.rules.Spelling.{is_block_parameter};
 ghost use Rattle.syntax.specs.rules.Expression.{Expr, Exprs, and, depth_all};
 ghost use Rattle.document.specs.rules.Spelling.{Spelling};
@@ -162,7 +162,7 @@ pub fn judge_imperative(text: &[u8], tape: &mut Tape) -> Judged
     ensures value { (es : Exprs) → RunStands text.now 0 es (length text.now) → depth_all es ≤ imperative_levels
         → judged result ≡ read_walked (one_expression Spelling.imperative (length text.now) es) }
     ensures tape_after { (e : Expr) (es : Exprs) → RunStands text.now 0 (and e es) (length text.now) → depth_all (and e es) ≤ imperative_levels
-        → (judged result).number ≡ 0 → length tape.old ≡ most_nodes → tape.new ≡ taped tape.old 0 missing (regroup e es) }
+        → (judged result).number ≡ 0 → tape.new ≡ taped tape.old 0 missing (regroup e es) }
 {
     let (root, from) = open_root(text, tape)?;
     let end = block(text, root, from, tape)?;

@@ -1,6 +1,6 @@
 // The fill of node words, places and pool from the tape of a text that was judged (document 01, "The table").
 // It is one loop over the nodes: neither the grammar nor the order of the text is repeated here.
-ghost use Rattle.std.specs.Prelude.{◌≡◌, cond, List, ℕ, ◌+◌, ◌*◌, ◌≤◌, ◌<◌, eqb, length};
+ghost use Rattle.std.specs.Prelude.{◌≡◌, ◌+◌, ◌*◌, ◌≤◌, length};
 ghost use Rattle.std.proofs.lemmas.List.Edits.{sets};
 ghost use Rattle.base.specs.rules.Limits.{most_bytes, most_nodes, missing};
 ghost use Rattle.syntax.specs.rules.Expression.{Expr};
@@ -42,6 +42,8 @@ struct Lent<'a> {
 
 impl Lent<'_> {
     // Puts into the pool what stands at the place that a word of the tape says, or nothing where it says none.
+    // (A call for each of a row's three strings costs a read of short texts a tenth of its instructions.)
+    #[inline(always)]
     fn put(&mut self, text: &[u8], place: u32) -> Span
         requires { (length text.now ≤ most_bytes) × (self.old.bytes + most_bytes ≤ missing) }
         ensures put { PutString (held_at text.now place) self.old self.new result }
@@ -113,7 +115,7 @@ pub fn fill(
     pool: &mut [u8],
 )
     requires { (length text.now ≤ most_bytes) × (count ≤ most_nodes) × (record_length * count ≤ length nodes.old) × (count ≤ length places.old) }
-    ensures { (e : Expr) (t : TapeOf) → Located text.now e → judge_root e ≡ fine → length t ≡ most_nodes
+    ensures { (e : Expr) (t : TapeOf) → Located text.now e → judge_root e ≡ fine
         → tape.now ≡ taped t 0 missing e → count ≡ node_count e
         → (nodes.new ≡ sets nodes.old 0 (table_of (says (tree_of e))))
         × (places.new ≡ sets places.old 0 (Meaning.places e))

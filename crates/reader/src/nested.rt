@@ -1,6 +1,6 @@
 // Judging a nested text that was scanned: first 7, for no expression or a second one, then 8 to 12 of the one there is.
 ghost use Rattle.std.specs.Prelude.{◌≡◌, ℕ, ◌≤◌, length};
-ghost use Rattle.base.specs.rules.Limits.{most_bytes, most_nodes, missing};
+ghost use Rattle.base.specs.rules.Limits.{most_bytes, missing};
 ghost use Rattle.syntax.specs.rules.Expression.{Expr, Exprs, none, and};
 ghost use Rattle.document.specs.rules.Spelling.{nested};
 ghost use Rattle.document.specs.reference.Outcome.{one_expression};
@@ -102,7 +102,7 @@ fn judge_first(text: &[u8], tape: &mut Tape) -> Walked
     requires { length text.now ≤ most_bytes }
     ensures first_judged { (es : Exprs) → RunStands text.now 0 es (length text.now) → FirstJudged text.now es (told result) }
     ensures tape_after { (e : Expr) (es : Exprs) → RunStands text.now 0 (and e es) (length text.now) → (told result).number ≡ 0
-        → length tape.old ≡ most_nodes → tape.new ≡ taped tape.old 0 missing e }
+        → tape.new ≡ taped tape.old 0 missing e }
 {
     let (root, from) = open_root(text, tape)?;
     let end = inline(text, root, from, tape)?;
@@ -116,7 +116,7 @@ pub fn judge_nested(text: &[u8], tape: &mut Tape) -> Judged
     ensures value { (es : Exprs) → RunStands text.now 0 es (length text.now)
         → judged result ≡ read_walked (one_expression nested (length text.now) es) }
     ensures tape_after { (e : Expr) → RunStands text.now 0 (and e none) (length text.now) → (judged result).number ≡ 0
-        → length tape.old ≡ most_nodes → tape.new ≡ taped tape.old 0 missing e }
+        → tape.new ≡ taped tape.old 0 missing e }
 {
     let w = judge_first(text, tape);
     let other = second_after(text, w);

@@ -3,10 +3,11 @@ ghost use Rattle.std.specs.Prelude.{◌≤◌, length};
 ghost use Rattle.base.specs.rules.Limits.{most_bytes};
 ghost use Rattle.reader.specs.internal.Walks.{OpensRoot};
 
-use super::tape::{MISSING, Tape, enter};
+use super::tape::{Tape, enter};
 use super::walk::{DOCUMENT, Element, Reached, Refused};
 use base::Refusal;
 use lexer::{THE_END, look};
+use table::MISSING;
 
 // How many nodes a document has, and how many bytes its pool.
 #[derive(Clone, Copy)]

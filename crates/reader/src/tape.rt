@@ -1,19 +1,16 @@
 // The tape: an entry for each node that the judging walk meets, in the order of the nodes, for the fill. A node past 4,095 is noted nowhere.
-// (That the array behind a reference has its `MOST_NODES` elements is no fact that a proof is given: so contracts suppose it.)
-ghost use Rattle.std.specs.Prelude.{◌≡◌, ◌≤◌, length};
-ghost use Rattle.base.specs.rules.Limits.{most_nodes};
+ghost use Rattle.std.specs.Prelude.{◌≡◌, ◌≤◌};
 ghost use Rattle.reader.specs.internal.Tape.{entered, left, key_noted, type_noted, size_noted};
 ghost use Rattle.reader.specs.internal.TapeWord.{most_word};
 
 use base::limit::MOST_NODES;
-
-// What stands for a parent, a width or a height that there is not, and the largest word.
-pub const MISSING: usize = 4294967295;
+use table::MISSING;
 
 const MISSING_WORD: u32 = MISSING as u32;
 
 // What is noted of a node: its place, class and parent, the number after that of its last descendant, the places of what its id or target
-// and its type hold, 0 where there is none, and its width and height.
+// and its type hold, 0 where there is none, and its width and height, `MISSING` where there is none.
+// An `Option` of a word takes two words, and the tape is on the stack: so none is a word here.
 #[derive(Clone, Copy)]
 pub struct Entry {
     pub place: u32,
@@ -44,7 +41,7 @@ pub const NOT_MET: Entry = Entry {
 #[tactic(auto, unfolding(crate::specs::internal::Tape::entered))]
 pub fn enter(tape: &mut Tape, node: usize, at: usize, class: u8, parent: usize, end: usize)
     requires { (at ≤ most_word) × (parent ≤ most_word) × (end ≤ most_word) }
-    ensures { length tape.old ≡ most_nodes → tape.new ≡ entered tape.old node at class parent end }
+    ensures { tape.new ≡ entered tape.old node at class parent end }
 {
     if node < MOST_NODES {
         tape[node] = Entry {
@@ -64,7 +61,7 @@ pub fn enter(tape: &mut Tape, node: usize, at: usize, class: u8, parent: usize, 
 #[tactic(auto, unfolding(crate::specs::internal::Tape::left))]
 pub fn leave(tape: &mut Tape, node: usize, end: usize)
     requires { end ≤ most_word }
-    ensures { length tape.old ≡ most_nodes → tape.new ≡ left tape.old node end }
+    ensures { tape.new ≡ left tape.old node end }
 {
     if node < MOST_NODES {
         tape[node].end = end as u32;
@@ -75,7 +72,7 @@ pub fn leave(tape: &mut Tape, node: usize, end: usize)
 #[tactic(auto, unfolding(crate::specs::internal::Tape::key_noted))]
 pub fn note_key(tape: &mut Tape, node: usize, place: usize)
     requires { place ≤ most_word }
-    ensures { length tape.old ≡ most_nodes → tape.new ≡ key_noted tape.old node place }
+    ensures { tape.new ≡ key_noted tape.old node place }
 {
     if node < MOST_NODES {
         tape[node].key = place as u32;
@@ -86,7 +83,7 @@ pub fn note_key(tape: &mut Tape, node: usize, place: usize)
 #[tactic(auto, unfolding(crate::specs::internal::Tape::type_noted))]
 pub fn note_type(tape: &mut Tape, node: usize, place: usize)
     requires { place ≤ most_word }
-    ensures { length tape.old ≡ most_nodes → tape.new ≡ type_noted tape.old node place }
+    ensures { tape.new ≡ type_noted tape.old node place }
 {
     if node < MOST_NODES {
         tape[node].typename = place as u32;
@@ -97,7 +94,7 @@ pub fn note_type(tape: &mut Tape, node: usize, place: usize)
 #[tactic(auto, unfolding(crate::specs::internal::Tape::size_noted))]
 pub fn note_size(tape: &mut Tape, node: usize, width: usize, height: usize)
     requires { (width ≤ most_word) × (height ≤ most_word) }
-    ensures { length tape.old ≡ most_nodes → tape.new ≡ size_noted tape.old node width height }
+    ensures { tape.new ≡ size_noted tape.old node width height }
 {
     if node < MOST_NODES {
         tape[node] = Entry {

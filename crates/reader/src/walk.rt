@@ -12,7 +12,6 @@ ghost use Rattle.lexer.specs.Token.{seen, the_end};
 ghost use Rattle.document.specs.reference.Meaning.{Verdict};
 ghost use Rattle.reader.specs.internal.WalkAnswer.{told, walked_to};
 ghost use Rattle.reader.specs.internal.Walk.{past_bracket};
-ghost use Rattle.base.specs.rules.Limits.{most_nodes};
 ghost use Rattle.reader.specs.internal.Tape.{entered};
 ghost use Rattle.reader.specs.internal.TapeWord.{most_word};
 ghost use Rattle.reader.specs.internal.Walks.{WalkStarts, ListStarts, Within, Answers, Finished, Judges, MayTurn, TurnAs};
@@ -115,7 +114,9 @@ pub fn closes(text: &[u8], i: usize) -> bool
 }
 
 // What is seen from a place on, counted as an expression of this class in an element that is read so far to this state.
+// (As a call, whose answer goes through memory, it costs a read a tenth of its instructions.)
 #[tactic(auto, using(crate::proofs::lemmas::walk::OneTurn::step_goes), unfolding(crate::specs::internal::WalkAnswer::walked_to))]
+#[inline(always)]
 pub fn take_turn(
     element: Element,
     from: Reached,
@@ -204,7 +205,7 @@ pub fn opened(parent: usize, list: Opening, from: Reached, tape: &mut Tape) -> (
     requires { (list.at ≤ most_word) × (parent ≤ most_word) × (from.nodes < most_word) }
     ensures element { result.0 ≡ record { at = list.at; kind = list.class; node = from.nodes } }
     ensures inner { result.1 ≡ record { place = from.place; nodes = from.nodes + 1; pool = from.pool } }
-    ensures tape_after { length tape.old ≡ most_nodes → tape.new ≡ entered tape.old from.nodes list.at list.class parent 0 }
+    ensures tape_after { tape.new ≡ entered tape.old from.nodes list.at list.class parent 0 }
 {
     let node = from.nodes;
     let kind = list.class;

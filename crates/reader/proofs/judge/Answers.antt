@@ -15,14 +15,14 @@ use Rattle.reader.specs.internal.Tape.{Tape, taped}
 use Rattle.reader.proofs.judge.Goals as goal
 
 nested-tapes : (text : List ℕ) (n : ℕ) (t tape : Tape)
-    → ((e : Expr) → RunStands text 0 (and e none) (length text) → n ≡ 0 → length t ≡ 4096 → tape ≡ taped t 0 missing e) → TapeOfText nested text n t tape
-nested-tapes text n t tape h es e as_it_stands st deep z l = h e st z l
+    → ((e : Expr) → RunStands text 0 (and e none) (length text) → n ≡ 0 → tape ≡ taped t 0 missing e) → TapeOfText nested text n t tape
+nested-tapes text n t tape h es e as_it_stands st deep z = h e st z
 
 imperative-tapes : (text : List ℕ) (n : ℕ) (t tape : Tape)
-    → ((e : Expr) (es : Exprs) → RunStands text 0 (and e es) (length text) → depth_all (and e es) ≤ imperative_levels → n ≡ 0 → length t ≡ 4096
+    → ((e : Expr) (es : Exprs) → RunStands text 0 (and e es) (length text) → depth_all (and e es) ≤ imperative_levels → n ≡ 0
     → tape ≡ taped t 0 missing (regroup e es)) → TapeOfText imperative text n t tape
 unfolding most_levels
-imperative-tapes text n t tape h es e (regrouped {e = x} {es = xs} k) st deep z l = rw (takes_regroup x k) (h x xs st deep z l)
+imperative-tapes text n t tape h es e (regrouped {e = x} {es = xs} k) st deep z = rw (takes_regroup x k) (h x xs st deep z)
 
 pub returns-in-Nested : goal.returns-in-Nested
 returns-in-Nested c =

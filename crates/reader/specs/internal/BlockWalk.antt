@@ -1,5 +1,5 @@
 -- What a walk over the blocks of an imperative text answers. It serves the contracts of private functions.
-use Rattle.std.specs.Prelude.{ℕ, ◌+◌, ◌<◌, ◌≡◌, Bool, true, not, cond, ◌&&◌, ◌||◌, List, eqb, leb, length}
+use Rattle.std.specs.Prelude.{ℕ, ◌+◌, ◌<◌, ◌≡◌, Bool, true, not, cond, ◌&&◌, ◌||◌, List, eqb, leb}
 use Rattle.elements.specs.rules.Class as Class
 use Rattle.syntax.specs.rules.Byte.{Bracket, closing}
 use Rattle.syntax.specs.rules.Expression.{Expr, Exprs, none, and}
@@ -10,7 +10,6 @@ use Rattle.document.specs.rules.Lead.{expr_class}
 use Rattle.document.specs.reference.Meaning.{judge}
 use Rattle.reader.specs.internal.RunStands.{Has, RunStands}
 use Rattle.reader.specs.internal.Counts.{node_count, pool_bytes}
-use Rattle.base.specs.rules.Limits.{most_nodes}
 use Rattle.reader.specs.internal.WalkAnswer.{Walked, walked_to}
 use Rattle.reader.specs.internal.Tape.{Tape, taped, taped_all}
 use Rattle.document.specs.rules.Takes.{Takes}
@@ -38,7 +37,7 @@ pub record BlockAnswer (s : List ℕ) (at k node st n p : ℕ) (t z : Tape) (bef
   pub rest : Exprs
   pub takes : Takes (Class.significance k) es content rest
   pub same : w ≡ run_answer at k st n p w.next (join before content)
-  pub tapes : w.number ≡ 0 → length t ≡ most_nodes → z ≡ taped_all t n node (join before content)
+  pub tapes : w.number ≡ 0 → z ≡ taped_all t n node (join before content)
   pub goes_on : w.number ≡ 0 → RunStands s w.next rest e
 
 -- w is the answer from place i on, in the command's bracket, and in the content after it.
@@ -62,7 +61,7 @@ pub record ChildAnswer (s : List ℕ) (k c n p node : ℕ) (t z : Tape) (es : Ex
   pub takes : (content rest : Exprs) → Takes (Class.significance k) after content rest → Takes (Class.significance k) es (and one content) rest
   pub of_class : expr_class one ≡ c
   pub same : w ≡ walked_to w.next (n + node_count one) (p + pool_bytes one) (judge k one)
-  pub tapes : w.number ≡ 0 → length t ≡ most_nodes → z ≡ taped t n node one
+  pub tapes : w.number ≡ 0 → z ≡ taped t n node one
   pub goes_on : w.number ≡ 0 → RunStands s w.next after e
 
 -- w is the answer of a list at `at`, led by a name of class c that is followed by what starts at j, in the content of a block of kind k.

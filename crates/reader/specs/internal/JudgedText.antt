@@ -1,6 +1,6 @@
 -- The spelling that the code's value names, and what the judge of a spelling answers and leaves on the tape. It serves the contracts of private functions.
 use Rattle.std.specs.Prelude.{ℕ, ◌≤◌, ◌≡◌, List, length}
-use Rattle.base.specs.rules.Limits.{most_nodes, missing}
+use Rattle.base.specs.rules.Limits.{missing}
 use Rattle.syntax.specs.rules.Expression.{Expr, Exprs, depth_all}
 use Rattle.document.specs.rules.Spelling as Defined
 use Rattle.document.specs.rules.Spelling.{nested, imperative, most_levels}
@@ -23,5 +23,5 @@ JudgesText s text w = (es : Exprs) → RunStands text 0 es (length text) → dep
 -- It leaves so the tape t of a text that it answered with number n, if that is 0.
 abbrev pub TapeOfText : Defined.Spelling → List ℕ → ℕ → Tape → Tape → Type 0
 TapeOfText s text n t tape =
-    (es : Exprs) (e : Expr) → NestedForm s es e → RunStands text 0 es (length text) → depth_all es ≤ most_levels s → n ≡ 0 → length t ≡ most_nodes
+    (es : Exprs) (e : Expr) → NestedForm s es e → RunStands text 0 es (length text) → depth_all es ≤ most_levels s → n ≡ 0
     → tape ≡ taped t 0 missing e

@@ -8,7 +8,6 @@ use Rattle.document.specs.reference.Meaning.{only_one, text_bytes, symbol_bytes,
 use Rattle.reader.specs.internal.RunStands.{RunStands}
 use Rattle.reader.specs.internal.Tape.{Tape, value_place, noted}
 use Rattle.reader.specs.internal.WalkAnswer.{Walked}
-use Rattle.base.specs.rules.Limits.{most_nodes}
 use Rattle.reader.specs.declared.value.One.{One}
 use Rattle.reader.specs.declared.value.Number.{Number}
 
@@ -73,4 +72,4 @@ number_or_none None = most_number + 1
 
 -- Where what stands from place i on is the value of a parameter of class c, z is the tape t with that value noted of a node. A tape has `most_nodes` entries.
 pub record Notes (s : List ℕ) (i c node : ℕ) (t : Tape) (r : Walked) (z : Tape) : Type 0 where
-  pub notes : (es : Exprs) (m : ℕ) → RunStands s i es m → r.number ≡ 0 → length t ≡ most_nodes → z ≡ noted t node c es
+  pub notes : (es : Exprs) (m : ℕ) → RunStands s i es m → r.number ≡ 0 → z ≡ noted t node c es

@@ -1,5 +1,5 @@
 -- What a walk still has to answer at a place, what a step takes, and the answer of a list. It serves the contracts of private functions.
-use Rattle.std.specs.Prelude.{ℕ, suc, ◌+◌, ◌≡◌, cond, List, eqb, leb, length}
+use Rattle.std.specs.Prelude.{ℕ, suc, ◌+◌, ◌≡◌, cond, List, eqb, leb}
 use Rattle.base.specs.rules.Numbers as Number
 use Rattle.elements.specs.rules.Class.{is_element}
 use Rattle.elements.specs.rules.Inside.{step as stepped, start, go}
@@ -10,7 +10,6 @@ use Rattle.document.specs.rules.Lead.{lead_class}
 use Rattle.document.specs.reference.Meaning.{Verdict, fine, fault, finish, run, judge_value, value_tree}
 use Rattle.reader.specs.internal.RunStands.{Has, RunStands}
 use Rattle.reader.specs.internal.Counts.{node_count_in, pool_bytes_in, value_size}
-use Rattle.base.specs.rules.Limits.{most_nodes}
 use Rattle.reader.specs.internal.WalkAnswer.{Walked, walked_to}
 use Rattle.reader.specs.internal.Tape.{Tape, entered, left, noted, taped_all}
 
@@ -21,7 +20,7 @@ run_answer at k st n p e es = walked_to e (n + node_count_in es) (p + pool_bytes
 
 -- z is the tape t after the expressions from place i on, in the element with number `node`, unless w refuses them. A tape has `most_nodes` entries.
 abbrev pub TapedFrom : List ℕ → ℕ → ℕ → ℕ → Tape → Tape → Walked → Type 0
-TapedFrom s i n node t z w = (es : Exprs) (e : ℕ) → RunStands s i es e → w.number ≡ 0 → length t ≡ most_nodes → z ≡ taped_all t n node es
+TapedFrom s i n node t z w = (es : Exprs) (e : ℕ) → RunStands s i es e → w.number ≡ 0 → z ≡ taped_all t n node es
 
 -- w is the answer from place i on, and z the tape.
 pub record AnswersFrom (s : List ℕ) (at k i st n p node : ℕ) (t z : Tape) (w : Walked) : Type 0 where
@@ -59,7 +58,7 @@ verdict_of k at c es = cond (is_element c) (finish at c (run at c (start c) es))
 pub record JudgesList (s : List ℕ) (at j k c n p node : ℕ) (t z : Tape) (w : Walked) : Type 0 where
   pub judged : (es : Exprs) (e : ℕ) → RunStands s j es e
       → w ≡ walked_to e (n + cond (is_element c) (suc (node_count_in es)) 0) (p + cond (is_element c) (pool_bytes_in es) (value_size c es)) (verdict_of k at c es)
-  pub tapes : (es : Exprs) (e : ℕ) → RunStands s j es e → w.number ≡ 0 → length t ≡ most_nodes
+  pub tapes : (es : Exprs) (e : ℕ) → RunStands s j es e → w.number ≡ 0
       → z ≡ cond (is_element c) (left (taped_all (entered t n at c node 0) (n + 1) n es) n (n + 1 + node_count_in es)) (noted t node c es)
 
 -- The answer of a list, and then the place after its closing bracket, in a text of m bytes.

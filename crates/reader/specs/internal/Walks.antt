@@ -1,6 +1,6 @@
 -- What the functions of a walk promise, of an element, a list and how far a walk has come. It serves the contracts of private functions.
 use Rattle.std.specs.Prelude.{ℕ, ◌+◌, ◌≤◌, ◌<◌, ◌≡◌, cond, List, Result, Ok, Err, eqb, length}
-use Rattle.base.specs.rules.Limits.{most_bytes, most_nodes, missing}
+use Rattle.base.specs.rules.Limits.{most_bytes, missing}
 use Rattle.base.specs.rules.Numbers as Number
 use Rattle.elements.specs.rules.Class as Class
 use Rattle.elements.specs.rules.Inside.{step as stepped, bad}
@@ -74,7 +74,7 @@ abbrev pub TurnAs : Element → Reached → ℕ → ℕ → ℕ → ℕ → ℕ 
 TurnAs x from sort q j l c st t z (Err f) = Refuses x.at from.place q j c x.kind st (told (Err f))
 TurnAs x from sort q j l c st t z (Ok (Atom r st')) =
     TakenAs from.place j c x.kind st r.place st' × (sort ≡ a_list → ⊥) × (r.nodes ≡ from.nodes + 1) × (r.pool ≡ from.pool + l)
-    × (length t ≡ most_nodes → z ≡ entered t from.nodes q Class.text x.node (from.nodes + 1))
+    × (z ≡ entered t from.nodes q Class.text x.node (from.nodes + 1))
 TurnAs x from sort q j l c st t z (Ok (Opened o r st')) =
     TakenAs from.place j c x.kind st r.place st' × (sort ≡ a_list) × (o.at ≡ q) × (o.class ≡ c) × (r.nodes ≡ from.nodes) × (r.pool ≡ from.pool) × (z ≡ t)
 
@@ -85,7 +85,7 @@ pub record RootOpened (s : List ℕ) (t z : Tape) (x : Element) (r : Reached) : 
   pub element : x ≡ record { at = (seen 0 s).place; kind = Class.document; node = 0 }
   pub inner : r ≡ record { place = (seen 0 s).next; nodes = 1; pool = 0 }
   pub forward : 0 < r.place
-  pub on_tape : length t ≡ most_nodes → z ≡ entered t 0 (seen 0 s).place Class.document missing 0
+  pub on_tape : z ≡ entered t 0 (seen 0 s).place Class.document missing 0
 
 -- Else it is refused.
 pub data RootRefused (s : List ℕ) (w : Walked) : Type 0 where

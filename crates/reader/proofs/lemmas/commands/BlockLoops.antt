@@ -1,5 +1,5 @@
 -- What a walk over the blocks of an imperative text answers, by what it answers from the next expression on.
-use Prim.Native.Nat.{ℕ, ◌+◌, ◌-◌, ◌≤◌, ◌<◌}
+use Prim.Native.Nat.{ℕ, ◌+◌, ◌≤◌, ◌<◌}
 use mathlib.Core.Path.{◌≡◌, refl, ap, sym, ◌∙◌}
 use mathlib.Core.Bool.{true, false, cond}
 use mathlib.Core.List.{List}
@@ -102,10 +102,10 @@ list_answer {k = k} {n = n} {p = p} {w = w} bounded judged past-it h o =
 
 -- The list is on the tape.
 list_tape : {s : List ℕ} {t z : Tape} {q j k c n p node : ℕ} {w r : Walked} → JudgesList s q j k c n p node t z w → r ≡ past_bracket (length s) w
-    → {es : Exprs} {m : ℕ} (o : NamedListFirst s q c j es m) → r.number ≡ 0 → length t ≡ 4096 → z ≡ taped t n node (listed o)
+    → {es : Exprs} {m : ℕ} (o : NamedListFirst s q c j es m) → r.number ≡ 0 → z ≡ taped t n node (listed o)
 unfolding taped
-list_tape {s = s} {w = w} {r = r} judged past-it o y full =
-    rw o.of_class (judged.tapes o.rest o.end o.follows (past_none (length s) w r past-it y).0 full)
+list_tape {s = s} {w = w} {r = r} judged past-it o y =
+    rw o.of_class (judged.tapes o.rest o.end o.follows (past_none (length s) w r past-it y).0)
 
 -- ---- an expression that is taken: `one` is what it counts as
 
@@ -114,7 +114,7 @@ content_passed : {s : List ℕ} {t t' z : Tape} {at k node st n p st' : ℕ} {es
     → StepTakes k st (expr_class one) st'
     → judge k one ≡ fine
     → ((content rest : Exprs) → Takes (Class.significance k) after content rest → Takes (Class.significance k) es (and one content) rest)
-    → (length t ≡ 4096 → t' ≡ taped t n node one) → BlockAnswer s at k node st' (n + node_count one) (p + pool_bytes one) t' z none after e w
+    → (t' ≡ taped t n node one) → BlockAnswer s at k node st' (n + node_count one) (p + pool_bytes one) t' z none after e w
     → BlockAnswer s at k node st n p t z none es e w
 unfolding join
 content_passed {t = t} {t' = t'} {z = z} {at = at} {k = k} {node = node} {st = st} {n = n} {p = p} {st' = st'} {w = w} one u f takes stored a =
@@ -139,14 +139,14 @@ content_stopped {at = at} {k = k} {st = st} st' n p after e {w = w} one f q u h 
       rest = r.rest;
       takes = takes r.content r.rest r.takes;
       same = g ∙ run_fault at k st n p w.next one r.content st' f q m a b u h;
-      tapes = λ y full. absurd (x y);
+      tapes = λ y. absurd (x y);
       goes_on = λ y. absurd (x y);
     }
 
 -- In a command's bracket it is a parameter.
 command_passed : {s : List ℕ} {t t' z : Tape} {at k node st n p st' : ℕ} (ps : Exprs) {es : Exprs} {e : ℕ} {w : Walked} (one : Expr)
     → is_block_parameter (expr_class one) ≡ true → StepTakes k st (expr_class one) st' → judge k one ≡ fine
-    → (length t ≡ 4096 → t' ≡ taped t n node one)
+    → (t' ≡ taped t n node one)
     → BlockAnswer s at k node st' (n + node_count one) (p + pool_bytes one) t' z (in_command ps) es e w
     → BlockAnswer s at k node st n p t z (in_command (and one ps)) es e w
 unfolding join in_command
@@ -156,7 +156,7 @@ command_passed {t = t} {t' = t'} {z = z} {at = at} {k = k} {node = node} {st = s
       rest = a.rest;
       takes = a.takes;
       same = rw i (a.same ∙ run_fine at k st n p w.next one (join (in_command ps) a.content) st' u f);
-      tapes = λ y full. rw i (taped_on t t' z n node one (join (in_command ps) a.content) stored (a.tapes y) full);
+      tapes = λ y. rw i (taped_on t t' z n node one (join (in_command ps) a.content) stored (a.tapes y));
       goes_on = a.goes_on;
     }
 
@@ -171,7 +171,7 @@ command_stopped {at = at} {k = k} {st = st} st' n p ps es e {w = w} one f q i u 
       rest = r.rest;
       takes = r.takes;
       same = rw i (g ∙ run_fault at k st n p w.next one (join (in_command ps) r.content) st' f q m a b u h);
-      tapes = λ y full. absurd (x y);
+      tapes = λ y. absurd (x y);
       goes_on = λ y. absurd (x y);
     }
 
@@ -266,7 +266,7 @@ content_end {s = s} {t = t} {at = at} {k = k} {node = node} {i = i} {st = st} {n
                 rest = es;
                 takes = ended_takes k (look_stands s i e es u) (rw (looked.0, looked.2) at h);
                 same = end_same at k st n p i v d;
-                tapes = λ y full. refl;
+                tapes = λ y. refl;
                 goes_on = λ y. rw (next y) u;
               };
         }
@@ -337,7 +337,7 @@ module _ (s : List ℕ) (i : ℕ) {sort q c j l : ℕ} (looked : Looked s i sort
               takes = d.takes;
               same = refused_first n p w.next r t (as_parameter f.one) (join (in_command f.others) d.content)
                   (parameter_of_class f.one ∙ ap command_class (f.of_class ∙ sym looked.2)) (parameter_place f.one ∙ f.placed ∙ sym looked.1);
-              tapes = λ y full. absurd (refused_number r y);
+              tapes = λ y. absurd (refused_number r y);
               goes_on = λ y. absurd (refused_number r y);
             });
       }
@@ -360,7 +360,7 @@ module _ (s : List ℕ) (i : ℕ) {sort q c j l : ℕ} (looked : Looked s i sort
               takes = d.takes;
               same = rw b.made
                   (refused_first n p w.next r t b.one b.others (b.of_class ∙ ap loose_class same_class) (b.placed ∙ f.placed ∙ sym looked.1));
-              tapes = λ y full. absurd (refused_number r y);
+              tapes = λ y. absurd (refused_number r y);
               goes_on = λ y. absurd (refused_number r y);
             });
       }
@@ -381,7 +381,7 @@ module _ (s : List ℕ) (i : ℕ) {sort q c j l : ℕ} (looked : Looked s i sort
 
   pub content_atom : {at k node st n p j' st' n' p' : ℕ} {t t' : Tape} → TakenAs i j (loose_class c) k st j' st' → (sort ≡ 3 → ⊥) → n' ≡ n + 1
       → p' ≡ p + l
-      → (length t ≡ 4096 → t' ≡ entered t n q Class.text node (n + 1))
+      → (t' ≡ entered t n q Class.text node (n + 1))
       → (z : Tape) (w : Walked) → InContent s at k node j' st' n' p' t' z w → InContent s at k node i st n p t z w
   unfolding loose_class is_block_parameter
   content_atom {k = k} {node = node} {n = n} {st' = st'} {t = t} {t' = t'} h a nodes pool stored z w b =
@@ -392,7 +392,7 @@ module _ (s : List ℕ) (i : ℕ) {sort q c j l : ℕ} (looked : Looked s i sort
             (content_passed {t = t} {t' = t'} {st' = st'} {after = d.others} d.one (rw d.of_class (rw (looked.2 ∙ d.text) at h.taken))
             (d.judged k)
             (λ content rest v. rw d.itself at (expression d.no_command v))
-            (λ full. rw (d.on_tape t n node, ← looked.1) (stored full))
+            (rw (d.on_tape t n node, ← looked.1) stored)
             (rw (d.nodes, d.bytes, ← looked.4, ← nodes, ← pool)
             (b.answers d.others e (to_next h.next d.stands))));
       }
@@ -489,19 +489,19 @@ block_same q c k n p m lead es e h g = rw (e, h) (g ∙ rw (start_state c, add-o
 -- And it is on the tape: its node is entered before the block is walked, and left after it.
 pub block_tape : {s : List ℕ} {t₁ t₂ z : Tape} {j : ℕ} {w : Walked} (t : Tape) (q c n node p m : ℕ) (lead : Expr) (es : Exprs) → lead_class lead ≡ c
     → Class.is_element c ≡ true
-    → Bounded s j w → 0 < j → w ≡ run_answer q c 0 (n + 1) p m es → (length t ≡ 4096 → t₁ ≡ entered t n q c node 0)
-    → (length t₁ ≡ 4096 → t₂ ≡ taped_all t₁ (n + 1) n es) → (length t₂ ≡ 4096 → z ≡ left t₂ n w.nodes) → w.number ≡ 0 → length t ≡ 4096
+    → Bounded s j w → 0 < j → w ≡ run_answer q c 0 (n + 1) p m es → (t₁ ≡ entered t n q c node 0)
+    → (t₂ ≡ taped_all t₁ (n + 1) n es) → (z ≡ left t₂ n w.nodes) → w.number ≡ 0
     → z ≡ taped t n node (list q (and lead es))
 unfolding run_answer
-block_tape {t₁ = t₁} {t₂ = t₂} {z = z} {w = w} t q c n node p m lead es e h bounded some g before walked after y full =
+block_tape {t₁ = t₁} {t₂ = t₂} {z = z} {w = w} t q c n node p m lead es e h bounded some g before walked after y =
     element_tape_lem t t₁ t₂ z n node q c w.nodes es before walked after
-    (nodes_counted m (n + 1 + node_count_in es) (p + pool_bytes_in es) (finish q c (run q c (state_of c 0) es)) bounded some g y) full
+    (nodes_counted m (n + 1 + node_count_in es) (p + pool_bytes_in es) (finish q c (run q c (state_of c 0) es)) bounded some g y)
     ∙ sym (taped_element t n node q c lead es e h)
 
 -- A command's block is the child.
 pub command_child : {s : List ℕ} {t t₁ t₂ z : Tape} {q j k c n p node : ℕ} {w : Walked} → leads_command c ≡ true → Belongs k c → 0 < j → Bounded s j w
-    → InCommand s q c n j 0 (n + 1) p t₁ t₂ w → (length t ≡ 4096 → t₁ ≡ entered t n q c node 0)
-    → (w.number ≡ 0 → length t₂ ≡ 4096 → z ≡ left t₂ n w.nodes) → JudgesChild s q j k c n p node t z w
+    → InCommand s q c n j 0 (n + 1) p t₁ t₂ w → (t₁ ≡ entered t n q c node 0)
+    → (w.number ≡ 0 → z ≡ left t₂ n w.nodes) → JudgesChild s q j k c n p node t z w
 unfolding leads_command is_command expr_class list_class block
 command_child {t = t} {q = q} {k = k} {c = c} {n = n} {p = p} {node = node} {w = w} h b some bounded a before after =
     record {
@@ -517,8 +517,8 @@ command_child {t = t} {q = q} {k = k} {c = c} {n = n} {p = p} {node = node} {w =
                 (rw o.of_class (b.lesser h)) (rw o.of_class d.takes) u;
             of_class = o.of_class;
             same = block_same q c k n p w.next o.lead _ o.of_class element d.same;
-            tapes = λ y full. block_tape t q c n node p w.next o.lead _ o.of_class element bounded some d.same before (d.tapes y)
-                (after y) y full;
+            tapes = λ y. block_tape t q c n node p w.next o.lead _ o.of_class element bounded some d.same before (d.tapes y)
+                (after y) y;
             goes_on = d.goes_on;
           });
     }
@@ -538,7 +538,7 @@ inside_child h b bounded judged past-it some =
             takes = λ content rest u. rw (loose_same (listed o) (rw o.of_class b.itself)) at (expression {x = listed o} (rw o.of_class h) u);
             of_class = o.of_class;
             same = same;
-            tapes = λ y full. list_tape judged past-it o y full;
+            tapes = λ y. list_tape judged past-it o y;
             goes_on = on;
           });
     }

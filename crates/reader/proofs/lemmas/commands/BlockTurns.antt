@@ -114,7 +114,7 @@ module _ {s : List ℕ} {t₀ t : Tape} {at k node from st₀ nodes pool i st n 
 
     module _ {st' j' n' p' : ℕ} {t' : Tape} where
       pub past_atom : TakenAs i j d k st j' st' × (sort ≡ 3 → ⊥) × (n' ≡ n + 1) × (p' ≡ p + l)
-          × (length t ≡ 4096 → t' ≡ entered t n q Class.text node (n + 1))
+          × (t' ≡ entered t n q Class.text node (n + 1))
           → (i < j') × Gone (InCommand s at k node) s from st₀ nodes pool t₀ j' st' n' p' t'
       past_atom (taking, a, x, y, stored) =
           gone_on walk (atom_forward s i looked walk.within some taking walk.nodes_within walk.pool_within x y)
@@ -158,7 +158,7 @@ module _ {s : List ℕ} {t₀ t : Tape} {at k node from st₀ nodes pool i st n 
 
     module _ {st' j' n' p' : ℕ} {t' : Tape} where
       pub past_atom_child : TakenAs i j d k st j' st' × (sort ≡ 3 → ⊥) × (n' ≡ n + 1) × (p' ≡ p + l)
-          × (length t ≡ 4096 → t' ≡ entered t n q Class.text node (n + 1))
+          × (t' ≡ entered t n q Class.text node (n + 1))
           → (i < j') × Gone (InContent s at k node) s from st₀ nodes pool t₀ j' st' n' p' t'
       past_atom_child (taking, a, x, y, stored) =
           gone_on walk (atom_forward s i looked walk.within some taking walk.nodes_within walk.pool_within x y)

@@ -49,7 +49,7 @@ exit_judged r f h = let p = err_from_is_err_and r h in rw (p.1, p.2)
 abbrev pub JudgesImperative : List ℕ → Tape → Tape → Walked → Type 0
 JudgesImperative s t z w =
     ((es : Exprs) → RunStands s 0 es (length s) → depth_all es ≤ 59 → w ≡ read_walked (one_expression imperative (length s) es))
-    × ((e : Expr) (es : Exprs) → RunStands s 0 (and e es) (length s) → depth_all (and e es) ≤ 59 → w.number ≡ 0 → length t ≡ 4096
+    × ((e : Expr) (es : Exprs) → RunStands s 0 (and e es) (length s) → depth_all (and e es) ≤ 59 → w.number ≡ 0
     → z ≡ taped t 0 4294967295 (regroup e es))
 
 -- What a block takes is the content that regrouping gives the document.
@@ -104,13 +104,13 @@ module _ {s : List ℕ} {t₁ t₂ : Tape} {q j e : ℕ} {es : Exprs} {w : Walke
       rw (regrouped (listed o) a.takes) (block_same q 1 0 0 0 w.next o.lead _ o.of_class refl a.same)
 
   -- Its node is entered before the block is walked, and left after it.
-  document_tape : (t z : Tape) → Bounded s j w → 0 < j → (length t ≡ 4096 → t₁ ≡ entered t 0 q 1 4294967295 0)
-      → (w.number ≡ 0 → length t₂ ≡ 4096 → z ≡ left t₂ 0 w.nodes) → w.number ≡ 0 → length t ≡ 4096 → z ≡ taped t 0 4294967295 nested
+  document_tape : (t z : Tape) → Bounded s j w → 0 < j → (t₁ ≡ entered t 0 q 1 4294967295 0)
+      → (w.number ≡ 0 → z ≡ left t₂ 0 w.nodes) → w.number ≡ 0 → z ≡ taped t 0 4294967295 nested
   unfolding block Class.is_element Class.is_kind Class.significance
-  document_tape t z bounded some before after y full =
+  document_tape t z bounded some before after y =
       let a = answer.answers o.rest o.end o.bracket o.others e o.follows o.closed o.goes_on in
       rw (regrouped (listed o) a.takes)
-      (block_tape t q 1 0 4294967295 0 w.next o.lead _ o.of_class refl bounded some a.same before (a.tapes y) (after y) y full)
+      (block_tape t q 1 0 4294967295 0 w.next o.lead _ o.of_class refl bounded some a.same before (a.tapes y) (after y) y)
 
   root : judge_root nested ≡ judge 0 nested
   unfolding judge_root regroup expr_class list_class
@@ -143,15 +143,15 @@ module _ (s : List ℕ) (t : Tape) where
   unfolding walked_to
   root_refused (no_expression e g) = (
     λ es u d. g ∙ none_judged (length s) (as_seen u) e,
-    λ e es u d y full. absurd (omega (arith, y, ap (λ (w : Walked). w.number) g)),
+    λ e es u d y. absurd (omega (arith, y, ap (λ (w : Walked). w.number) g)),
   )
   root_refused (no_document some h g) = (
     λ es u d. g ∙ other_judged (length s) (first_seen (as_seen u) some) h,
-    λ e es u d y full. absurd (omega (arith, y, ap (λ (w : Walked). w.number) g)),
+    λ e es u d y. absurd (omega (arith, y, ap (λ (w : Walked). w.number) g)),
   )
   root_refused (stuck some h g) = (
     λ es u d. absurd (omega (arith, seen_forward (as_seen u) some)),
-    λ e es u d y full. absurd (omega (arith, seen_forward (as_seen u) some)),
+    λ e es u d y. absurd (omega (arith, seen_forward (as_seen u) some)),
   )
 
   -- Where it is opened, its content may be walked.
@@ -178,15 +178,15 @@ module _ (s : List ℕ) (t : Tape) where
     pub document_fault : {z : Tape} → (w.number ≡ 0 → ⊥) → JudgesImperative s t z w
     document_fault y = (
       λ es u d. let o = opened u in document_stopped o answers (length s) (by_outcome o answers within forward) y,
-      λ e es u d x full. absurd (y x),
+      λ e es u d x. absurd (y x),
     )
 
-    pub document_fine : {z : Tape} → w.number ≡ 0 → (length t₂ ≡ 4096 → z ≡ left t₂ x.node w.nodes)
+    pub document_fine : {z : Tape} → w.number ≡ 0 → (z ≡ left t₂ x.node w.nodes)
         → JudgesImperative s t z (record { number = 0; place = 0; next = 0; nodes = w.nodes; pool = w.pool })
     document_fine {z} y after = (
       λ es u d. let o = opened u in document_passed o answers (length s) (by_outcome o answers within forward) y d,
-      λ e es u d v full.
+      λ e es u d v.
           let o = opened u in
-          document_tape o answers t z within forward root.on_tape (λ y. rw root.element at after) y full
+          document_tape o answers t z within forward root.on_tape (λ y. rw root.element at after) y
           ∙ ap (taped t 0 4294967295) (same_regrouped o.made),
     )

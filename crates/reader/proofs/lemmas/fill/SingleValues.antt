@@ -12,7 +12,7 @@ use Rattle.base.proofs.Tables.{every}
 use Rattle.elements.specs.rules.Bytes.{among}
 use Rattle.elements.specs.rules.Class as Class
 use Rattle.elements.specs.rules.Rules.{Slot, must, may, id_type, Content, alternatives, exactly_one, alternatives_of, Rule, rules, rule_of}
-use Rattle.elements.specs.rules.Inside.{State, expecting, holding, Step, go, bad, is_include, some_has, allows, first_child_step, next_child_step, next_parameter, step, start}
+use Rattle.elements.specs.rules.Inside.{State, expecting, holding, Step, go, is_include, some_has, allows, first_child_step, next_child_step, next_parameter, step, start}
 use Rattle.elements.proofs.EachRow.{each_kind}
 use Rattle.elements.proofs.Alternatives.{chosen_case, some_has_lem}
 use Rattle.syntax.specs.rules.Expression.{Expr, symbol, quoted, list, Exprs, none, and}
@@ -118,9 +118,6 @@ three : (i y p : Bool) → i || (y || p) ≡ false → (y ≡ false) × (i || p 
 three true y p e = (cc, e)
 three false y p e = or_false y p e
 
-not_go : (n : ℕ) (s : State) → bad n ≡ go s → ⊥
-not_go n s g = let z : ◌≡◌ {A = ℕ} 0 1 = cc in omega arith
-
 -- A child is taken.
 module _ (a b : ℕ) (t : Content) (na : T (not (allows t a))) (nb : T (not (allows t b))) where
   other : (c : ℕ) → allows t c ≡ true → is a b c ≡ false
@@ -139,10 +136,10 @@ module _ (a b : ℕ) (t : Content) (na : T (not (allows t a))) (nb : T (not (all
   first_taken : (before : Bool) (c : ℕ) (s : State) → first_child_step t c ≡ go s → After a b before c s
   unfolding first_child_step allows
   first_taken before c s =
-      cond_case (λ (r : Step). r ≡ go s → After a b before c s) (is_include c) (λ i g. absurd (not_go 12 s g))
+      cond_case (λ (r : Step). r ≡ go s → After a b before c s) (is_include c) (λ i g. cc)
       (λ i. chosen_case c (λ (r : Step). r ≡ go s → After a b before c s) (alternatives_of t)
       (λ ks m h g. child_taken before c ks s (T_true (some_has (alternatives_of t) c) (some_has_lem c m h)) g)
-      (λ e g. absurd (not_go 8 s g)))
+      (λ e g. cc))
 
   -- An expression of class c is taken where these parameters may come.
   parameter_taken : (ps : List Slot) (c : ℕ) (s : State) → T (single a b ps) → next_parameter ps t c ≡ go s → After a b (takes a b ps) c s
@@ -152,7 +149,7 @@ module _ (a b : ℕ) (t : Content) (na : T (not (allows t a))) (nb : T (not (all
       let o' = both (last a b n ps) (single a b ps) o in
       cond_case (λ (r : Step). r ≡ go s → After a b (is a b n || takes a b ps) c s) (eqb c n)
       (λ e. took a b n c ps (is a b n || takes a b ps) s o'.0 o'.1 (or_false (is a b n) (takes a b ps)) (eqb-true c n e))
-      (λ e g. absurd (not_go 9 s g)) g
+      (λ e g. cc) g
   parameter_taken (may n ∷ ps) c s o g =
       let o' = both (last a b n ps) (single a b ps) o in
       cond_case (λ (r : Step). r ≡ go s → After a b (is a b n || takes a b ps) c s) (eqb c n)
@@ -180,13 +177,13 @@ next_taken : (a b : ℕ) (t : Content) → T (not (allows t a)) → T (not (allo
     → After a b before c s
 unfolding next_child_step allows alternatives_of
 next_taken a b (alternatives kss) na nb before ks c s =
-    cond_case (λ (r : Step). r ≡ go s → After a b before c s) (is_include c) (λ i g. absurd (not_go 12 s g))
+    cond_case (λ (r : Step). r ≡ go s → After a b before c s) (is_include c) (λ i g. cc)
     (λ i. cond_case (λ (r : Step). r ≡ go s → After a b before c s) (some_has kss c)
     (λ e. cond_case (λ (r : Step). r ≡ go s → After a b before c s) (among c ks)
-    (λ f g. child_taken a b (alternatives kss) na nb before c ks s e g) (λ f g. absurd (not_go 11 s g)))
-    (λ e g. absurd (not_go 8 s g)))
+    (λ f g. child_taken a b (alternatives kss) na nb before c ks s e g) (λ f g. cc))
+    (λ e g. cc))
 next_taken a b (exactly_one k) na nb before ks c s =
-    cond_case (λ (r : Step). r ≡ go s → After a b before c s) (is_include c) (λ i g. absurd (not_go 12 s g)) (λ i g. absurd (not_go 8 s g))
+    cond_case (λ (r : Step). r ≡ go s → After a b before c s) (is_include c) (λ i g. cc) (λ i g. cc)
 
 -- What the table says of the row of kind k.
 row_of : {a b : ℕ} → ValueClasses a b → (k : ℕ)

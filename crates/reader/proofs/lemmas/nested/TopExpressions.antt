@@ -385,17 +385,17 @@ module _ {s : List ℕ} {t t₁ t₂ : Tape} {x : Element} {i : Reached} (root :
         λ z. rw (e.1 z) o.goes_on,
       )
 
-  pub first_tape : {z : Tape} → (w.number ≡ 0 → length t₂ ≡ 4096 → z ≡ left t₂ x.node w.nodes)
-      → (e : Expr) (es : Exprs) → RunStands s 0 (and e es) (length s) → r.number ≡ 0 → length t ≡ 4096 → z ≡ taped t 0 4294967295 e
+  pub first_tape : {z : Tape} → (w.number ≡ 0 → z ≡ left t₂ x.node w.nodes)
+      → (e : Expr) (es : Exprs) → RunStands s 0 (and e es) (length s) → r.number ≡ 0 → z ≡ taped t 0 4294967295 e
   unfolding Class.is_element Class.is_kind
-  first_tape {z} after e es u y full =
+  first_tape {z} after e es u y =
       let o = looked_document (front s) u root.is_seen root.is_document in
       let fine-walk : w.number ≡ 0 = (past_none (length s) w r past y).0 in
       let counted = nodes_counted o.end (1 + node_count_in o.rest) (0 + pool_bytes_in o.rest) _ walked.0 forward
       (walked.1.0 o.rest o.end o.follows) fine-walk in
       let same : list (seen 0 s).place (and o.lead o.rest) ≡ e = cc o.made in
       element_tape_lem t t₁ t₂ z 0 4294967295 (seen 0 s).place 1 w.nodes o.rest root.on_tape (walked.1.1 o.rest o.end o.follows fine-walk)
-      (rw root.element at (after fine-walk)) counted full
+      (rw root.element at (after fine-walk)) counted
       ∙ sym (taped_element t 0 4294967295 (seen 0 s).place 1 o.lead o.rest (o.of_class ∙ root.is_document) refl) ∙ ap (taped t 0 4294967295) same
 
 -- The ways out of the judging of a text, where `other` is the place of the second expression.

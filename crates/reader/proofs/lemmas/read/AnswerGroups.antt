@@ -69,21 +69,21 @@ no_zero s text utf8 es n p f o z =
 
 judged_fine : (s : Spelling) (x e : Expr) (v : Verdict) → judged s x v ≡ read e → (v ≡ fine) × (x ≡ e)
 unfolding judged
-judged_fine s x e (fault n p) j = absurd (let z : ◌≡◌ {A = ℕ} 0 1 = cc in omega arith)
+judged_fine s x e (fault n p) j = cc
 judged_fine s x e fine j = go (is_too_deep s x) j
   where
     go : (b : Bool) → cond b (refused 19 0) (read x) ≡ read e → (fine ≡ fine) × (x ≡ e)
-    go true k = absurd (let z : ◌≡◌ {A = ℕ} 0 1 = cc in omega arith)
+    go true k = cc
     go false k = (refl, cc)
 
 one_read : (s : Spelling) (n : ℕ) (es : Exprs) (e : Expr) → one_expression s n es ≡ read e → NestedForm s es e × (judge_root e ≡ fine)
 unfolding one_expression
-one_read nested n none e o = absurd (let z : ◌≡◌ {A = ℕ} 0 1 = cc in omega arith)
+one_read nested n none e o = cc
 one_read nested n (and x none) e o =
     let (ok, same) = judged_fine nested x e (judge_root x) o in
     (rw (← same) as_it_stands, rw same at ok)
-one_read nested n (and x (and y es)) e o = absurd (let z : ◌≡◌ {A = ℕ} 0 1 = cc in omega arith)
-one_read imperative n none e o = absurd (let z : ◌≡◌ {A = ℕ} 0 1 = cc in omega arith)
+one_read nested n (and x (and y es)) e o = cc
+one_read imperative n none e o = cc
 one_read imperative n (and x es) e o =
     let (ok, same) = judged_fine imperative (regroup x es) e (judge_root (regroup x es)) o in
     (rw (← same) (regrouped_form x es), rw same at ok)

@@ -1,13 +1,11 @@
 -- From what the parts of a read ensure to what the read promises, way by way.
-use Prim.Native.Nat.{ℕ, ◌*◌, ◌/◌, ◌≤◌, ◌<◌, min}
-use mathlib.Core.Path.{◌≡◌, refl, sym, ◌∙◌}
-use mathlib.Core.Bool.{Bool, true, false, cond}
+use Prim.Native.Nat.{ℕ, ◌*◌, ◌≤◌}
+use mathlib.Core.Path.{◌≡◌, sym, ◌∙◌}
 use mathlib.Core.List.{List, []}
 use native.Mathlib.Nat.{zero-add}
 use native.Mathlib.Omega.{arith}
-use borrow.Author.Tests.{ltb-false}
-use lib.Dec.{ltb}
-use lib.ListN.{length, replicate, length-replicate}
+use Rattle.std.proofs.lemmas.Bool.Decides.{nat_tests}
+use lib.ListN.{length, replicate}
 use lib.Seq.{sets, sets-eq}
 use Rattle.base.specs.rules.Limits.{most_nodes}
 use Rattle.syntax.specs.rules.Expression.{Expr}
@@ -28,7 +26,6 @@ use Rattle.reader.specs.internal.JudgedText.{JudgesText, TapeOfText}
 use Rattle.reader.specs.internal.FirstGroups.{group_number, group_place, room_number}
 use Rattle.reader.specs.Read.{SameAnswer, Reads}
 use Rattle.reader.specs.internal.Counts.{node_count}
-use Rattle.reader.specs.declared.tape.Entry.{Entry}
 use Rattle.reader.specs.internal.Tape.{Tape, not_met, taped, Located}
 use Rattle.reader.proofs.lemmas.walk.Counts.{nodes_places}
 use Rattle.reader.proofs.lemmas.read.Located.{form_located}
@@ -41,12 +38,7 @@ module _ (words places bytes n p : ℕ) where
   -- Where there is room, the nodes are few and fit what is lent.
   pub room_fits : room_number words places bytes n p ≡ 0 → (n ≤ most_nodes) × (record_length * n ≤ words) × (n ≤ places)
   unfolding room_number
-  room_fits = go (ltb (min 4096 (min (words / record_length) places)) n) refl
-    where
-      go : (a : Bool) → ltb (min 4096 (min (words / record_length) places)) n ≡ a → ◌≡◌ {A = ℕ} (cond a 13 (cond (ltb bytes p) 14 0)) 0
-          → (n ≤ most_nodes) × (record_length * n ≤ words) × (n ≤ places)
-      go true e z = absurd (omega arith)
-      go false e z = let h = ltb-false (min 4096 (min (words / record_length) places)) n e in (omega (arith, h), omega (arith, h), omega (arith, h))
+  room_fits h = grind (arith, nat_tests)
 
 -- ---- the lent memory once it is filled
 
@@ -63,25 +55,11 @@ module _ (text : List ℕ) (m : Memory) (ps : List ℕ) (d : Node) where
 
   stored_full : (full ≡ 0 → ⊥) → stored text m ps d ≡ record { answer = answer_at text full 0 (count d) (length (pool d)); memory = m }
   unfolding stored node_room room_number no_room
-  stored_full = go (ltb (node_room m) (count d)) (ltb (length m.pool) (length (pool d)))
-    where
-      go : (a b : Bool) → (◌≡◌ {A = ℕ} (cond a 13 (cond b 14 0)) 0 → ⊥)
-          → cond a (no_room text m 13 d) (cond b (no_room text m 14 d) (filled text m ps d))
-          ≡ record { answer = answer_at text (cond a 13 (cond b 14 0)) 0 (count d) (length (pool d)); memory = m }
-      go true b h = refl
-      go false true h = refl
-      go false false h = absurd (h refl)
+  stored_full h = grind (arith, nat_tests)
 
   stored_fits : full ≡ 0 → (stored text m ps d ≡ filled text m ps d) × (count d ≤ node_room m) × (length (pool d) ≤ length m.pool)
   unfolding stored node_room room_number
-  stored_fits = go (ltb (node_room m) (count d)) refl (ltb (length m.pool) (length (pool d))) refl
-    where
-      go : (a : Bool) → ltb (node_room m) (count d) ≡ a → (b : Bool) → ltb (length m.pool) (length (pool d)) ≡ b → ◌≡◌ {A = ℕ} (cond a 13 (cond b 14 0)) 0
-          → (cond a (no_room text m 13 d) (cond b (no_room text m 14 d) (filled text m ps d)) ≡ filled text m ps d)
-          × (count d ≤ node_room m) × (length (pool d) ≤ length m.pool)
-      go true e b f z = absurd (omega arith)
-      go false e true f z = absurd (omega arith)
-      go false e false f z = (refl, ltb-false (node_room m) (count d) e, ltb-false (length m.pool) (length (pool d)) f)
+  stored_fits h = grind (arith, nat_tests)
 
   module _ (room : count d ≤ node_room m) (bytes : length (pool d) ≤ length m.pool) (one_each : length ps ≡ count d) where
     written_over : written m ps d ≡ record { nodes = over (table_of d) m.nodes; places = over ps m.places; pool = over (pool d) m.pool }
@@ -113,9 +91,6 @@ module _ (s : Spelling) (text : List ℕ) (n p : ℕ) (group : (n ≡ group_numb
 abbrev pub blank_tape : Tape
 blank_tape = replicate 4096 not_met
 
-long : length blank_tape ≡ 4096
-long = length-replicate {A = Entry} 4096 not_met
-
 -- What the fill of this many nodes from a tape ensures.
 abbrev Filled : Memory → Memory → Expr → Type 0
 Filled m exit e =
@@ -129,7 +104,7 @@ filled_written m exit e (a, b, c) = rw (← a, ← b, ← c)
 
 abbrev pub Fills : List ℕ → Tape → ℕ → Memory → Memory → Type 0
 Fills text tape n m exit =
-    (e : Expr) (t : Tape) → Located text e → judge_root e ≡ fine → length t ≡ 4096 → tape ≡ taped t 0 4294967295 e → n ≡ node_count e
+    (e : Expr) (t : Tape) → Located text e → judge_root e ≡ fine → tape ≡ taped t 0 4294967295 e → n ≡ node_count e
     → Filled m exit e
 
 -- ---- the ways through a read
@@ -193,8 +168,8 @@ module _ (s : Spelling) (text : List ℕ) (m : Memory) where
           exit_is : exit ≡ written m (places found.expr) (says (tree_of found.expr))
           exit_is =
               filled_written m exit found.expr
-              (fills found.expr blank_tape (form_located s text passed.es found.expr found.form passed.stands found.fine_root) found.fine_root long
-              (tapes passed.es found.expr found.form passed.stands passed.shallow z' long)
+              (fills found.expr blank_tape (form_located s text passed.es found.expr found.form passed.stands found.fine_root) found.fine_root
+              (tapes passed.es found.expr found.form passed.stands passed.shallow z')
               (found.nodes_are ∙ sym (root_places found.expr found.fine_root) ∙ nodes_places found.expr))
 
           -- 0.

@@ -1,6 +1,6 @@
 -- The tape that a walk leaves: it is as long as it was, and after a run it is as after the first expression and then the others.
 use Prim.Native.Nat.{ℕ, ◌+◌}
-use mathlib.Core.Path.{◌≡◌, refl, sym, ap, ◌∙◌}
+use mathlib.Core.Path.{◌≡◌, refl, ◌∙◌}
 use mathlib.Core.Bool.{true}
 use lib.Dec.{eqb}
 use lib.ListN.{length, length-set}
@@ -46,34 +46,20 @@ mutual
   length_all t n parent none = refl
   length_all t n parent (and e es) = length_all (taped t n parent e) (n + node_count e) parent es ∙ length_taped t n parent e
 
--- What has the same words after it is as long.
-pub kept_full : (t t' : Tape) (n n' node : ℕ) (es others : Exprs) → length t ≡ 4096 → taped_all t' n' node others ≡ taped_all t n node es
-    → length t' ≡ 4096
-kept_full t t' n n' node es others full h = sym (length_all t' n' node others) ∙ ap length h ∙ length_all t n node es ∙ full
-
-pub taped_full : (t t' : Tape) (n node : ℕ) (e : Expr) → length t ≡ 4096 → t' ≡ taped t n node e → length t' ≡ 4096
-taped_full t t' n node e full h = ap length h ∙ length_taped t n node e ∙ full
-
 -- The tape after a run, by its first expression.
 pub taped_first : (t t' : Tape) (n node : ℕ) (e : Expr) (es : Exprs) → t' ≡ taped t n node e
     → taped_all t' (n + node_count e) node es ≡ taped_all t n node (and e es)
 unfolding taped
 taped_first t t' n node e es h = rw h
 
-pub taped_on : (t t' z : Tape) (n node : ℕ) (e : Expr) (es : Exprs) → (length t ≡ 4096 → t' ≡ taped t n node e)
-    → (length t' ≡ 4096 → z ≡ taped_all t' (n + node_count e) node es) → length t ≡ 4096 → z ≡ taped_all t n node (and e es)
-taped_on t t' z n node e es h g full = g (taped_full t t' n node e full (h full)) ∙ taped_first t t' n node e es (h full)
+pub taped_on : (t t' z : Tape) (n node : ℕ) (e : Expr) (es : Exprs) → t' ≡ taped t n node e → z ≡ taped_all t' (n + node_count e) node es
+    → z ≡ taped_all t n node (and e es)
+taped_on t t' z n node e es h g = g ∙ taped_first t t' n node e es h
 
 -- An element is entered, its content is walked, and it is left.
-pub element_tape_lem : (t t₁ t₂ z : Tape) (n node at c m : ℕ) (es : Exprs) → (length t ≡ 4096 → t₁ ≡ entered t n at c node 0)
-    → (length t₁ ≡ 4096 → t₂ ≡ taped_all t₁ (n + 1) n es) → (length t₂ ≡ 4096 → z ≡ left t₂ n m) → m ≡ n + 1 + node_count_in es → length t ≡ 4096
-    → z ≡ left (taped_all (entered t n at c node 0) (n + 1) n es) n (n + 1 + node_count_in es)
-element_tape_lem t t₁ t₂ z n node at c m es f g h e full =
-    let a : t₁ ≡ entered t n at c node 0 = f full in
-    let long : length t₁ ≡ 4096 = ap length a ∙ length_entered t n at c node 0 ∙ full in
-    let b : t₂ ≡ taped_all t₁ (n + 1) n es = g long in
-    let long' : length t₂ ≡ 4096 = ap length b ∙ length_all t₁ (n + 1) n es ∙ long in
-    h long' ∙ rw (e, b, a)
+pub element_tape_lem : (t t₁ t₂ z : Tape) (n node at c m : ℕ) (es : Exprs) → t₁ ≡ entered t n at c node 0 → t₂ ≡ taped_all t₁ (n + 1) n es
+    → z ≡ left t₂ n m → m ≡ n + 1 + node_count_in es → z ≡ left (taped_all (entered t n at c node 0) (n + 1) n es) n (n + 1 + node_count_in es)
+element_tape_lem t t₁ t₂ z n node at c m es a b d e = d ∙ rw (e, b, a)
 
 -- That is the tape after the list which the element is.
 pub taped_element : (t : Tape) (n node at c : ℕ) (lead : Expr) (es : Exprs) → lead_class lead ≡ c → Class.is_element c ≡ true

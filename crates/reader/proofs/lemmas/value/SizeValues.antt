@@ -178,13 +178,13 @@ module _ {s : List ℕ} {i : ℕ} {w h : Number} (width : Begins s i w) (height 
       record { bounds = λ e. omega (arith, width.within, height.within, d.place_from, d.place_within, last.1) }
 
   -- The two numbers are noted.
-  pub size_notes : {node : ℕ} {t z : Tape} {r : Walked} → sort ≡ 0 → (length t ≡ 4096 → z ≡ size_noted t node w.number h.number) → Notes s i 29 node t r z
+  pub size_notes : {node : ℕ} {t z : Tape} {r : Walked} → sort ≡ 0 → (z ≡ size_noted t node w.number h.number) → Notes s i 29 node t r z
   unfolding noted size_tree width_or height_or
   size_notes y stored =
       record {
-        notes = λ es m u e full.
+        notes = λ es m u e.
             let x = width.begins es m u in
             let v = height.begins x.others m x.stands in
             let (made, ends) = seen_ends (look_stands s h.next m v.others v.stands) (sym last.0 ∙ y) in
-            rw (x.made, v.made, made, x.is, v.is) (stored full);
+            rw (x.made, v.made, made, x.is, v.is) stored;
       }

@@ -336,6 +336,6 @@ module _ {s : List ℕ} {i c : ℕ} (at k n p : ℕ) where
 
 -- The place of what a parameter holds is noted.
 pub value_noted : {s : List ℕ} {i c node : ℕ} {t z : Tape} {w : Walked} {o : One} → (c ≡ 29 → ⊥) → Holds s i c o
-    → (length t ≡ 4096 → z ≡ cond (eqb c Class.type) (type_noted t node o.place) (key_noted t node o.place)) → Notes s i c node t w z
+    → (z ≡ cond (eqb c Class.type) (type_noted t node o.place) (key_noted t node o.place)) → Notes s i c node t w z
 unfolding noted
-value_noted {c = c} h holds stored = record { notes = λ es m u y full. rw (ne_eqb c 29 h, (holds.alone es m u).placed) (stored full) }
+value_noted {c = c} h holds stored = record { notes = λ es m u y. rw (ne_eqb c 29 h, (holds.alone es m u).placed) stored }

@@ -29,7 +29,7 @@ use Rattle.reader.specs.internal.Walks.{Refuses, TakenAs}
 use Rattle.reader.specs.internal.Tape.{Tape, entered, left, taped}
 use Rattle.reader.specs.internal.ParameterValue.{Notes}
 use Rattle.reader.specs.internal.Walk.{run_answer, AnswersFrom, Finishes, NamedListFirst, JudgesList, verdict_of, past_bracket}
-use Rattle.reader.proofs.lemmas.tape.AfterWalk.{kept_full, taped_first, element_tape_lem}
+use Rattle.reader.proofs.lemmas.tape.AfterWalk.{taped_first, element_tape_lem}
 use Rattle.reader.proofs.lemmas.walk.SeenExpressions.{seen_bounds}
 use Rattle.reader.proofs.lemmas.walk.OneTurn.{Remaining, Goes, TakesList, run_fine, run_fault, Looked, seen_within, turn_end, turn_refused, turn_atom, turn_list}
 
@@ -53,7 +53,7 @@ begun h a b =
       within = h;
       nodes_within = a;
       pool_within = b;
-      goes = record { left = λ es e u. record { others = es; stands = u; same = refl; kept = λ full. refl } };
+      goes = record { left = λ es e u. record { others = es; stands = u; same = refl; kept = refl } };
     }
 
 -- The answer from where a walk has got to is the answer of the walk.
@@ -63,10 +63,8 @@ answered {t₀ = t₀} {t = t} {node = node} {nodes = nodes} {n = n} v a = (
   record { bounds = λ y. omega (arith, a.0.bounds y, v.forward) },
   record {
     answers = λ es e u. let g = v.goes.left es e u in a.1.answers g.others e g.stands ∙ g.same;
-    tapes = λ es e u y full.
-        let g = v.goes.left es e u in
-        let kept = g.kept full in
-        a.1.tapes g.others e g.stands y (kept_full t₀ t nodes n node es g.others full kept) ∙ kept;
+    tapes = λ es e u y.
+        let g = v.goes.left es e u in a.1.tapes g.others e g.stands y ∙ g.kept;
   },
 )
 
@@ -88,7 +86,7 @@ gone_on {t₀ = t₀} {t = t} {node = node} {nodes = nodes} {n = n} v b h =
               others = g'.others;
               stands = g'.stands;
               same = g'.same ∙ g.same;
-              kept = λ full. let kept = g.kept full in g'.kept (kept_full t₀ t nodes n node es g.others full kept) ∙ kept;
+              kept = g'.kept ∙ g.kept;
             };
       };
     }
@@ -125,17 +123,17 @@ unfolding run_answer
 to_start {k = k} h = (h.0, (λ es e u. h.1.answers es e u ∙ rw (start_state k), h.1.tapes))
 
 element_lem : {s : List ℕ} {t t₁ t₂ z : Tape} {at k c j n p node : ℕ} {w : Walked} → is_element c ≡ true → 0 < j
-    → Bounded s j w × Finishes s at c j (n + 1) p n t₁ t₂ w → (length t ≡ 4096 → t₁ ≡ entered t n at c node 0)
-    → (w.number ≡ 0 → length t₂ ≡ 4096 → z ≡ left t₂ n w.nodes) → Bounded s j w × JudgesList s at j k c n p node t z w
+    → Bounded s j w × Finishes s at c j (n + 1) p n t₁ t₂ w → (t₁ ≡ entered t n at c node 0)
+    → (w.number ≡ 0 → z ≡ left t₂ n w.nodes) → Bounded s j w × JudgesList s at j k c n p node t z w
 unfolding verdict_of
 element_lem {t = t} {t₁ = t₁} {t₂ = t₂} {z = z} {at = at} {c = c} {n = n} {p = p} {node = node} {w = w} e some h before after = (
   h.0,
   record {
     judged = λ es m u. rw e (h.1.0 es m u ∙ rw (add-one n, suc-add n, ← add-suc n));
-    tapes = λ es m u y full.
+    tapes = λ es m u y.
         rw e
         (element_tape_lem t t₁ t₂ z n node at c w.nodes es before (h.1.1 es m u y) (after y)
-        (nodes_counted m (n + 1 + node_count_in es) (p + pool_bytes_in es) (finish at c (run at c (start c) es)) h.0 some (h.1.0 es m u) y) full);
+        (nodes_counted m (n + 1 + node_count_in es) (p + pool_bytes_in es) (finish at c (run at c (start c) es)) h.0 some (h.1.0 es m u) y));
   },
 )
 
@@ -143,7 +141,7 @@ element_lem {t = t} {t₁ = t₁} {t₂ = t₂} {z = z} {at = at} {c = c} {n = n
 pub element_judges : {s : List ℕ} {t t₁ t₂ z : Tape} {at k c j n p node : ℕ} {w : Walked} (x : Element) (inner : Reached)
     → x ≡ record { at = at; kind = c; node = n } → inner ≡ record { place = j; nodes = n + 1; pool = p }
     → is_element c ≡ true → 0 < j → Bounded s inner.place w × Finishes s x.at x.kind inner.place inner.nodes inner.pool x.node t₁ t₂ w
-    → (length t ≡ 4096 → t₁ ≡ entered t n at c node 0) → (w.number ≡ 0 → length t₂ ≡ 4096 → z ≡ left t₂ x.node w.nodes)
+    → (t₁ ≡ entered t n at c node 0) → (w.number ≡ 0 → z ≡ left t₂ x.node w.nodes)
     → Bounded s j w × JudgesList s at j k c n p node t z w
 element_judges {s} {t} {t₁} {t₂} {z} {at} {k} {c} {j} {n} {p} {node} {w} x inner f g e some h before after =
     element_lem e some (rw (f, g) at h) before (rw f at after)
@@ -151,7 +149,7 @@ element_judges {s} {t} {t₁} {t₂} {z} {at} {k} {c} {j} {n} {p} {node} {w} x i
 pub item_judges : {s : List ℕ} {t t₁ t₂ z : Tape} {at k c j n p node : ℕ} {w : Walked} (x : Element) (inner : Reached)
     → x ≡ record { at = at; kind = c; node = n } → inner ≡ record { place = j; nodes = n + 1; pool = p }
     → c ≡ 18 → 0 < j → Bounded s inner.place w × AnswersFrom s x.at x.kind inner.place 0 inner.nodes inner.pool x.node t₁ t₂ w
-    → (length t ≡ 4096 → t₁ ≡ entered t n at c node 0) → (w.number ≡ 0 → length t₂ ≡ 4096 → z ≡ left t₂ x.node w.nodes)
+    → (t₁ ≡ entered t n at c node 0) → (w.number ≡ 0 → z ≡ left t₂ x.node w.nodes)
     → Bounded s j w × JudgesList s at j k c n p node t z w
 unfolding is_element Class.is_kind
 item_judges x inner f g e some h before after = element_judges x inner f g (rw e) some (to_start h) before after
@@ -164,7 +162,7 @@ pub value_judges : {s : List ℕ} {t z : Tape} {at k c j n p node : ℕ} {w : Wa
 unfolding verdict_of
 value_judges {n = n} e h = (
   h.0,
-  record { judged = λ es m u. rw (e, add-zero n) (h.1.0 es m u); tapes = λ es m u y full. rw e (h.1.1.notes es m u y full) },
+  record { judged = λ es m u. rw (e, add-zero n) (h.1.0 es m u); tapes = λ es m u y. rw e (h.1.1.notes es m u y) },
 )
 
 -- A walk that has got to i takes a list, of which j is the place after its name.
@@ -196,7 +194,7 @@ module _ {s : List ℕ} {t₀ t : Tape} {at k node from nodes pool i st n p sort
   module _ (some : sort ≡ 0 → ⊥) {j' st' n' p' : ℕ} {t' : Tape} where
     -- It goes on after a symbol or string.
     pub passed : TakenAs i j c k st j' st' × (sort ≡ a_list → ⊥) × (n' ≡ n + 1) × (p' ≡ p + l)
-        × (length t ≡ 4096 → t' ≡ entered t n q Class.text node (n + 1))
+        × (t' ≡ entered t n q Class.text node (n + 1))
         → Walking s at k node from nodes pool t₀ j' st' n' p' t'
     passed (taking, a, g, b, stored) =
         let turn = turn_atom looked walking.within some taking walking.nodes_within walking.pool_within a g b stored in
@@ -251,15 +249,15 @@ module _ {s : List ℕ} {t₀ t t' : Tape} {at k node from nodes pool i st n p p
         record { bounds = λ x. absurd (z x) },
         record {
           answers = λ es m u. let o = opened.takes.opened es m u in rw o.made (fault_inside z o (judge k (listed o)) refl);
-          tapes = λ es m u y full. absurd (z y);
+          tapes = λ es m u y. absurd (z y);
         },
       )
 
   -- The list is on the tape.
-  list_tape : r.number ≡ 0 → {es : Exprs} {m : ℕ} (o : NamedListFirst s place c j es m) → length t ≡ 4096 → t' ≡ taped t n node (listed o)
+  list_tape : r.number ≡ 0 → {es : Exprs} {m : ℕ} (o : NamedListFirst s place c j es m) → t' ≡ taped t n node (listed o)
   unfolding taped
-  list_tape z o full =
-      rw o.of_class (child.1.tapes o.rest o.end o.follows (past_none (length s) w r e z).0 full)
+  list_tape z o =
+      rw o.of_class (child.1.tapes o.rest o.end o.follows (past_none (length s) w r e z).0)
 
   -- Nothing inside the list is at fault, and the walk goes on after it.
   fine_inside : r.number ≡ 0 → {es : Exprs} {m : ℕ} (o : NamedListFirst s place c j es m) (v : Verdict) → judge k (listed o) ≡ v
@@ -271,7 +269,7 @@ module _ {s : List ℕ} {t₀ t t' : Tape} {at k node from nodes pool i st n p p
         others = o.others;
         stands = o.goes_on;
         same = run_fine at k st n p m (listed o) o.others st' (rw o.of_class opened.takes.taken) h;
-        kept = λ full. taped_first t t' n node (listed o) o.others (list_tape z o full);
+        kept = taped_first t t' n node (listed o) o.others (list_tape z o);
       })
   fine_inside z o (fault f q) h = absurd ((after_fault o f q h).0 z)
 

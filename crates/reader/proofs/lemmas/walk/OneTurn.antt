@@ -9,7 +9,6 @@ use lib.Dec.{T, eqb, ltb}
 use lib.ListN.{length, drop}
 use borrow.Author.Tests.{ne_eqb}
 use Rattle.base.proofs.Booleans.{cond_case, both}
-use Rattle.base.specs.rules.Limits.{most_nodes}
 use Rattle.elements.specs.rules.Class as Class
 use Rattle.elements.specs.rules.Rules.{Slot, must, may, id_type, rule_of}
 use Rattle.elements.specs.rules.Inside.{State, expecting, holding, Step, go, bad, step as stepped, ended}
@@ -35,7 +34,7 @@ pub record Remaining (s : List ℕ) (at k st n p node : ℕ) (t : Tape) (j st' n
   pub others : Exprs
   pub stands : RunStands s j others e
   pub same : run_answer at k st' n' p' e others ≡ run_answer at k st n p e es
-  pub kept : length t ≡ most_nodes → taped_all t' n' node others ≡ taped_all t n node es
+  pub kept : taped_all t' n' node others ≡ taped_all t n node es
 
 -- From place i on a walk has gone to place j.
 pub record Goes (s : List ℕ) (at k i st n p node : ℕ) (t : Tape) (j st' n' p' : ℕ) (t' : Tape) : Type 0 where
@@ -151,7 +150,7 @@ module _ {s : List ℕ} {r : Seen} where
 
   pass_atom : (at k st n p node : ℕ) (t : Tape) (st' : ℕ) (t' : Tape) {es : Exprs} {e : ℕ} → SeenAs s r es e → (r.sort ≡ 0 → ⊥)
       → (r.sort ≡ 3 → ⊥)
-      → StepTakes k st r.class st' → (length t ≡ 4096 → t' ≡ entered t n r.place Class.text node (n + 1))
+      → StepTakes k st r.class st' → (t' ≡ entered t n r.place Class.text node (n + 1))
       → Remaining s at k st n p node t r.next st' (n + 1) (p + r.length) t' es e
   unfolding expr_class node_count pool_bytes judge taped
   pass_atom at k st n p node t st' t' (saw_end h) z a b y = absurd (z h)
@@ -160,14 +159,14 @@ module _ {s : List ℕ} {r : Seen} where
         others = es;
         stands = u;
         same = rw l (run_fine at k st n p e (symbol r.place _) es st' (rw c at b) refl);
-        kept = λ full. rw (y full);
+        kept = rw y;
       }
   pass_atom at k st n p node t st' t' (saw_string {es} {e} h c l f u) z a b y =
       record {
         others = es;
         stands = u;
         same = rw l (run_fine at k st n p e (quoted r.place _) es st' (rw c at b) refl);
-        kept = λ full. rw (y full);
+        kept = rw y;
       }
   pass_atom at k st n p node t st' t' (saw_list x h c f u d b v) z a g y = absurd (a h)
 
@@ -219,7 +218,7 @@ module _ {s : List ℕ} {k i st sort q c j l : ℕ} (looked : Looked s i sort q 
             (λ e. record { bounds = λ e. omega (arith, e) }),
         record {
           answers = λ es e u. rw looked.1 (answer_end at k st n p (look_stands s i e es u) (sym looked.0 ∙ z));
-          tapes = λ es e u y full. tapes_end n node t (look_stands s i e es u) (sym looked.0 ∙ z);
+          tapes = λ es e u y. tapes_end n node t (look_stands s i e es u) (sym looked.0 ∙ z);
         },
       )
 
@@ -231,7 +230,7 @@ module _ {s : List ℕ} {k i st sort q c j l : ℕ} (looked : Looked s i sort q 
     record { bounds = λ y. absurd (h y) },
     record {
       answers = λ es m u. rw looked.1 (answer_fault at k st n p f (look_stands s i m es u) (λ z. some (looked.0 ∙ z)) (rw looked.2 at e));
-      tapes = λ es m u y full. absurd (h y);
+      tapes = λ es m u y. absurd (h y);
     },
   )
   turn_refused some (stuck h g) = rw g (
@@ -239,14 +238,14 @@ module _ {s : List ℕ} {k i st sort q c j l : ℕ} (looked : Looked s i sort q 
     record {
       answers = λ es m u.
           absurd (omega (arith, (seen_bounds s i within).place_from, looked.3, seen_forward (look_stands s i m es u) (λ z. some (looked.0 ∙ z))));
-      tapes = λ es m u y full. absurd (omega (arith, y));
+      tapes = λ es m u y. absurd (omega (arith, y));
     },
   )
 
   -- It is taken.
   module _ {j' st' : ℕ} (some : sort ≡ 0 → ⊥) (taking : TakenAs i j c k st j' st') where
     pub turn_atom : {at n p node n' p' : ℕ} {t t' : Tape} → n ≤ i → p ≤ i → (sort ≡ 3 → ⊥) → n' ≡ n + 1 → p' ≡ p + l
-        → (length t ≡ 4096 → t' ≡ entered t n q Class.text node (n + 1))
+        → (t' ≡ entered t n q Class.text node (n + 1))
         → ((i < j') × (j' ≤ length s) × (n' ≤ j') × (p' ≤ j')) × Goes s at k i st n p node t j' st' n' p' t'
     turn_atom {at} {n} {p} {node} {t = t} {t' = t'} nodes pool a g b stored = (
       omega (arith, seen_within s i looked within some taking.forward, taking),

@@ -15,7 +15,7 @@ returns-in_err-end c =
     let one = judge_one (told c.judge_first-w.result) c.judge_first-w.ensures.first_judged c.second_after-other.ensures c.if-other-text.false in
     rw (passed_up c.from_residual.result c.from_residual.ensures.1) (record {
       value = rw c.in_err-end.was at one;
-      tape_after = λ e u y full. c.in_err-end.ensures.tape_after e none u y full;
+      tape_after = λ e u y. c.in_err-end.ensures.tape_after e none u y;
     })
 
 pub returns : goal.returns
@@ -23,5 +23,5 @@ returns c =
     let one = judge_one (told c.judge_first-w.result) c.judge_first-w.ensures.first_judged c.second_after-other.ensures c.if-other-text.false in
     record {
       value = rw c.in_ok-end.was at one;
-      tape_after = λ e u y full. c.in_ok-end.ensures.tape_after e none u y full;
+      tape_after = λ e u y. c.in_ok-end.ensures.tape_after e none u y;
     }

@@ -2,7 +2,6 @@
 use mathlib.Core.Path.{◌≡◌, ◌∙◌}
 use mathlib.Core.Bool.{cond}
 use lib.Dec.{eqb}
-use lib.ListN.{length}
 use borrow.Author.Tests.{eq-eqb, ne_eqb}
 use Rattle.reader.specs.internal.Tape.{type_noted, key_noted}
 use Rattle.reader.proofs.lemmas.value.TextValues.{size_judged, value_nothing, value_bad, value_good, value_noted, not_there}
@@ -30,10 +29,10 @@ pub returns-clause-notes : goal.returns-clause-notes
 returns-clause-notes c =
     let a = c.args in
     let o = c.in_ok-one.one in
-    let stored : length a.tape.now ≡ 4096 → c.if-list-eq-TYPE_NAME.tape ≡ cond (eqb a.list.class 27) (type_noted a.tape.now a.parent.node o.place)
+    let stored : c.if-list-eq-TYPE_NAME.tape ≡ cond (eqb a.list.class 27) (type_noted a.tape.now a.parent.node o.place)
     (key_noted a.tape.now a.parent.node o.place)
-    = λ full. elim c.if-list-eq-TYPE_NAME.branch [
-      | then-list-eq-TYPE_NAME w ↦ rw (eq-eqb _ 27 w.if-list-eq-TYPE_NAME.true) (w.tape-is ∙ w.note_type.ensures full)
-      | else-list-eq-TYPE_NAME w ↦ rw (ne_eqb _ 27 w.if-list-eq-TYPE_NAME.false) (w.tape-is ∙ w.note_key.ensures full)
+    = elim c.if-list-eq-TYPE_NAME.branch [
+      | then-list-eq-TYPE_NAME w ↦ rw (eq-eqb _ 27 w.if-list-eq-TYPE_NAME.true) (w.tape-is ∙ w.note_type.ensures)
+      | else-list-eq-TYPE_NAME w ↦ rw (ne_eqb _ 27 w.if-list-eq-TYPE_NAME.false) (w.tape-is ∙ w.note_key.ensures)
     ] in
     value_noted c.if-list-eq-SIZE.false (rw c.in_ok-one.ensures.ok_part at c.only.ensures) stored
