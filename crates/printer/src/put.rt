@@ -9,68 +9,54 @@ ghost use Rattle.printer.specs.internal.Raw.{Raw, RawTo};
 ghost use Rattle.printer.specs.internal.Inside.{value_inside, size_inside};
 
 use super::name::put_name;
-use base::{lesser, put_byte, put_bytes};
+use base::{put_byte, put_bytes};
 use kind::Keyword;
 use table::MISSING;
 
 const TARGET: usize = Keyword::TARGET.number as usize;
 
 // "lower-case hex"
+#[tactic(auto, unfolding(document::specs::rules::Canonical::hex_byte))]
 fn hex(d: u8) -> u8
     requires { d < 16 }
     ensures { result ≡ hex_byte d }
 {
-    if d < 10 {
-        return 0x30 + d;
-    }
-    0x57 + d
+    if d < 10 { b'0' + d } else { b'a' + (d - 10) }
 }
 
-// What follows the backslash in `\" \n \r \t`; 0 for any other byte.
-fn letter(b: u8) -> u8
+// What follows the backslash in `\" \n \r \t`; nothing for any other byte.
+#[tactic(auto, unfolding(crate::specs::internal::Pieces::letter_of))]
+fn letter(b: u8) -> Option<u8>
     ensures { result ≡ letter_of b }
 {
-    if b == 0x22 {
-        return 0x22;
+    match b {
+        b'"' => Some(b'"'),
+        b'\n' => Some(b'n'),
+        b'\r' => Some(b'r'),
+        b'\t' => Some(b't'),
+        _ => None,
     }
-    if b == 0x0A {
-        return 0x6E;
-    }
-    if b == 0x0D {
-        return 0x72;
-    }
-    if b == 0x09 {
-        return 0x74;
-    }
-    0
 }
 
 // "backslash as `\u005c`; other code points below U+0020 and U+007F as `\u` with lower-case hex"
 fn is_coded(b: u8) -> bool
     ensures { result ≡ (eqb b 0x5C || ltb b 0x20 || eqb b 0x7F) }
 {
-    if b == 0x5C {
-        return true;
-    }
-    if b < 0x20 {
-        return true;
-    }
-    b == 0x7F
+    matches!(b, b'\\' | 0..=0x1F | 0x7F)
 }
 
 // A byte of a string.
 fn put_string_byte(out: &mut [u8], at: usize, b: u8) -> usize
     ensures { Adds (byte_before b []) at out.old result out.new }
 {
-    let short = letter(b);
-    if short != 0 {
-        return put_bytes(out, at, &[0x5C, short]);
+    match letter(b) {
+        Some(short) => put_bytes(out, at, &[b'\\', short]),
+        None if is_coded(b) => {
+            let coded = [b'\\', b'u', b'0', b'0', hex(b / 16), hex(b % 16)];
+            put_bytes(out, at, &coded)
+        }
+        None => put_byte(out, at, b),
     }
-    if is_coded(b) {
-        let coded = [0x5C, 0x75, 0x30, 0x30, hex(b / 16), hex(b % 16)];
-        return put_bytes(out, at, &coded);
-    }
-    put_byte(out, at, b)
 }
 
 // Whether a byte of a string stands for itself.
@@ -124,7 +110,7 @@ fn raw_rest(bytes: &[u8], from: usize) -> bool
         return false;
     }
     let last = end - 8;
-    raw_8(bytes, lesser(from, last)) & raw_8(bytes, last)
+    raw_8(bytes, from.min(last)) & raw_8(bytes, last)
 }
 
 // Past as many bytes as stand for themselves.
@@ -165,34 +151,30 @@ fn put_escaped(out: &mut [u8], at: usize, bytes: &[u8]) -> usize
 pub fn put_quoted(out: &mut [u8], at: usize, bytes: &[u8]) -> usize
     ensures { (result ≤ greatest_word) × Adds (quoted_before bytes.now []) at out.old result out.new }
 {
-    let k = put_byte(out, at, 0x22);
+    let k = put_byte(out, at, b'"');
     let k = put_escaped(out, k, bytes);
-    put_byte(out, k, 0x22)
+    put_byte(out, k, b'"')
 }
 
 // How many of five digits a number does not have.
+#[tactic(auto, unfolding(crate::specs::internal::Pieces::leading_of))]
 fn leading(n: usize) -> usize
     ensures { result ≡ leading_of n }
 {
-    if n < 10 {
-        return 4;
+    match n {
+        0..=9 => 4,
+        10..=99 => 3,
+        100..=999 => 2,
+        1000..=9999 => 1,
+        _ => 0,
     }
-    if n < 100 {
-        return 3;
-    }
-    if n < 1000 {
-        return 2;
-    }
-    if n < 10000 {
-        return 1;
-    }
-    0
 }
 
+#[tactic(auto, unfolding(document::specs::rules::Canonical::digit))]
 fn digit(n: usize) -> u8
     ensures { result ≡ Canonical.digit n }
 {
-    0x30 + (n % 10) as u8
+    b'0' + (n % 10) as u8
 }
 
 fn put_digits(out: &mut [u8], at: usize, n: usize) -> usize
@@ -223,7 +205,7 @@ fn put_string(out: &mut [u8], at: usize, class: usize, bytes: &[u8]) -> usize
 pub fn put_value(out: &mut [u8], at: usize, class: usize, bytes: &[u8]) -> usize
     ensures { Adds (value_inside class bytes.now) at out.old result out.new }
 {
-    if bytes.len() == 0 {
+    if bytes.is_empty() {
         return at;
     }
     let k = put_bytes(out, at, b" [");

@@ -3,27 +3,13 @@ use Rattle.base.proofs.Adding.{adds_as, adds_byte, adds_put}
 use Rattle.printer.proofs.put.Pieces.{byte_lettered, byte_coded, byte_raw}
 use Rattle.printer.proofs.put.put_string_byte.Goals as goal
 
-pub returns-then-short-ne0 : goal.returns-then-short-ne0
-returns-then-short-ne0 c = let args = c.args in
-    let letter = c.letter-short in
-    let if1 = c.if-short-ne0 in
-    adds_as (byte_lettered args.b letter.result letter.ensures if1.true) (adds_put c.put_bytes.ensures)
+pub returns-in-Some : goal.returns-in-Some
+returns-in-Some c = adds_as (byte_lettered c.args.b c.in-Some.short c.in-Some.ensures) (adds_put c.put_bytes.ensures)
 
-pub returns-then-is_coded : goal.returns-then-is_coded
-returns-then-is_coded c = let args = c.args in
-    let letter = c.letter-short in
-    let if1 = c.if-short-ne0 in
-    let is-coded = c.is_coded in
-    let if2 = c.if-is_coded in
-    let hex = c.hex in
-    let hex2 = c.hex-then-is_coded in
-    adds_as (byte_coded args.b letter.result letter.ensures if1.false is-coded.result is-coded.ensures if2.true hex.result
-    hex2.result hex.ensures hex2.ensures) (adds_put c.put_bytes-then-is_coded.ensures)
+pub returns-in-None : goal.returns-in-None
+returns-in-None c =
+    adds_as (byte_coded c.args.b c.in-None.ensures _ c.is_coded.ensures c.if-is_coded.true _ _ c.hex.ensures c.hex-in-None.ensures)
+    (adds_put c.put_bytes-in-None.ensures)
 
-pub returns : goal.returns
-returns c = let args = c.args in
-    let letter = c.letter-short in
-    let if1 = c.if-short-ne0 in
-    let is-coded = c.is_coded in
-    adds_as (byte_raw args.b letter.result letter.ensures if1.false is-coded.result is-coded.ensures
-    c.if-is_coded.false) (adds_byte c.put_byte.ensures)
+pub returns-in-None-2 : goal.returns-in-None-2
+returns-in-None-2 c = adds_as (byte_raw c.args.b c.in-None-2.ensures _ c.is_coded.ensures c.if-is_coded.false) (adds_byte c.put_byte.ensures)
