@@ -1,12 +1,12 @@
--- `spell::values` meets its contract.
+-- `spell::Table::values` meets its contract.
 use Rattle.base.proofs.Adding.{adds_as, adds_none, adds_join}
 use Rattle.printer.proofs.spell.ElementParts.{values_as}
 use Rattle.printer.proofs.spell.Valueless.{valueless_inside}
-use Rattle.printer.proofs.spell.values.Goals as goal
+use Rattle.printer.proofs.spell.Table.values.Goals as goal
 
 pub returns-then-lacks_values : goal.returns-then-lacks_values
 returns-then-lacks_values c = let args = c.args in
-    let none = valueless_inside args.nodes.now args.i args.pool.now _ _ (c.lacks_values.ensures c.if-lacks_values.true) in
+    let none = valueless_inside args.self.now.nodes.now args.i args.self.now.pool.now _ _ (c.lacks_values.ensures c.if-lacks_values.true) in
     adds_as none (adds_none args.at args.out.now)
 
 pub returns : goal.returns
