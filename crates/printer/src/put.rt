@@ -71,14 +71,11 @@ fn raw_8(bytes: &[u8], i: usize) -> bool
     requires { i + 8 ≤ length bytes.now }
     ensures { result ≡ true → Raw (take 8 (drop i bytes.now)) }
 {
-    raw(bytes[i])
-        & raw(bytes[i + 1])
-        & raw(bytes[i + 2])
-        & raw(bytes[i + 3])
-        & raw(bytes[i + 4])
-        & raw(bytes[i + 5])
-        & raw(bytes[i + 6])
-        & raw(bytes[i + 7])
+    let mut all = true;
+    for k in 0..8 {
+        all &= raw(bytes[i + k]);
+    }
+    all
 }
 
 // Past as many blocks of sixteen bytes as stand for themselves.

@@ -3,6 +3,7 @@ use Prim.Native.Nat.{ℕ, suc, ◌+◌, ◌-◌, ◌<◌, ◌≤◌}
 use mathlib.Core.Path.{◌≡◌, refl, sym, ap, ◌∙◌}
 use mathlib.Core.Bool.{Bool, true, false, not, ◌&&◌}
 use mathlib.Core.List.{List, [], ◌∷◌, ◌++◌}
+use native.Mathlib.Numerals.{add-one}
 use native.Mathlib.Omega.{arith}
 use lib.Dec.{eqb, ltb}
 use lib.ListN.{length, get_or, take, drop, length-drop}
@@ -14,6 +15,10 @@ use Rattle.base.specs.Adds.{Adds}
 use Rattle.printer.specs.internal.Raw.{Raw, RawTo}
 use Rattle.base.proofs.Adding.{adds_as, adds_join}
 use Rattle.printer.proofs.put.Pieces.{bytes_both}
+
+pub raw_none : Raw []
+unfolding Raw bytes_before
+raw_none = refl
 
 raw_both : (s t : List ℕ) → Raw s → Raw t → Raw (s ++ t)
 unfolding Raw
@@ -39,11 +44,11 @@ module _ (s : List ℕ) (i : ℕ) where
 
   -- One byte more of a block, by the tests of the bytes before it and of the byte.
   pub raw_more : (n : ℕ) {p q : Bool} → i + n < length s → (p ≡ true → Raw (take n (drop i s))) → (q ≡ true → Raw (get_or s (i + n) 0 ∷ []))
-      → p && q ≡ true → Raw (take (suc n) (drop i s))
+      → p && q ≡ true → Raw (take (n + 1) (drop i s))
   raw_more n {p} {q} h a b e =
       let (f, g) = both p q (true_T e) in
       let inside : n < length (drop i s) = simp length-drop (omega arith) in
-      rw (take-suc (drop i s) n 0 inside, get_or-drop i s n 0) (raw_both (take n (drop i s)) (get_or s (i + n) 0 ∷ []) (a (T_true p f)) (b (T_true q g)))
+      rw (add-one n, take-suc (drop i s) n 0 inside, get_or-drop i s n 0) (raw_both (take n (drop i s)) (get_or s (i + n) 0 ∷ []) (a (T_true p f)) (b (T_true q g)))
 
 module _ (s : List ℕ) (from : ℕ) where
   pub raw_start : from ≤ length s → RawTo s from from
