@@ -6,12 +6,11 @@ ghost use Rattle.document.specs.rules.Canonical as Canonical;
 ghost use Rattle.base.specs.Adds.{greatest_word, Adds};
 ghost use Rattle.printer.specs.internal.Pieces.{letter_of, leading_of};
 ghost use Rattle.printer.specs.internal.Raw.{Raw, RawTo};
-ghost use Rattle.printer.specs.internal.Inside.{value_inside, size_inside};
+ghost use Rattle.printer.specs.internal.Inside.{value_inside, size_shown};
 
 use super::name::put_name;
 use base::{put_byte, put_bytes};
 use kind::Keyword;
-use table::MISSING;
 
 const TARGET: usize = Keyword::TARGET.number as usize;
 
@@ -213,12 +212,12 @@ pub fn put_value(out: &mut [u8], at: usize, class: usize, bytes: &[u8]) -> usize
 }
 
 // A space and a size, where there is one.
-pub fn put_size(out: &mut [u8], at: usize, width: usize, height: usize) -> usize
-    ensures { Adds (size_inside width height) at out.old result out.new }
+pub fn put_size(out: &mut [u8], at: usize, size: Option<(usize, usize)>) -> usize
+    ensures { Adds (size_shown size) at out.old result out.new }
 {
-    if width == MISSING {
+    let Some((width, height)) = size else {
         return at;
-    }
+    };
     let k = put_bytes(out, at, b" [size ");
     let k = put_digits(out, k, width);
     let k = put_byte(out, k, b' ');

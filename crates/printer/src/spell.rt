@@ -11,7 +11,7 @@ ghost use Rattle.document.specs.rules.Canonical.{node_first, canonical};
 ghost use Rattle.table.specs.Stored.{word_at, Stored, StoredAll};
 ghost use Rattle.base.specs.Adds.{greatest_word, Adds};
 ghost use Rattle.table.specs.Stored.{string_at};
-ghost use Rattle.printer.specs.internal.Inside.{Valueless, inside_all, values_inside, children_first};
+ghost use Rattle.printer.specs.internal.Inside.{Valueless, size_of, inside_all, values_inside, children_first};
 
 use super::name::put_name;
 use super::put::{put_quoted, put_size, put_value};
@@ -51,6 +51,18 @@ impl Table<'_> {
             & (self.word(i, WIDTH) == MISSING)
     }
 
+    // The size of node `i`, where it has one.
+    #[tactic(auto, unfolding(crate::specs::internal::Inside::size_of))]
+    fn size(&self, i: usize) -> Option<(usize, usize)>
+        ensures { result ≡ size_of (word_at self.now.nodes.now i Word.width) (word_at self.now.nodes.now i Word.height) }
+    {
+        let width = self.word(i, WIDTH);
+        if width == MISSING {
+            return None;
+        }
+        Some((width, self.word(i, HEIGHT)))
+    }
+
     // The values of node `i`.
     fn values(&self, i: usize, out: &mut [u8], at: usize) -> usize
         ensures { Adds (values_inside (word_at self.now.nodes.now i Word.kind) (string_at self.now.nodes.now self.now.pool.now i Word.key_offset)
@@ -62,7 +74,7 @@ impl Table<'_> {
         }
         let class = key_class(self.word(i, KIND)) as usize;
         let k = put_value(out, at, class, self.string(i, KEY));
-        let k = put_size(out, k, self.word(i, WIDTH), self.word(i, HEIGHT));
+        let k = put_size(out, k, self.size(i));
         put_value(out, k, Keyword::TYPE.number as usize, self.string(i, TYPE))
     }
 

@@ -13,8 +13,9 @@ use Rattle.std.proofs.Common.{Option, None, Some}
 use Rattle.elements.specs.rules.Bytes.{codes}
 use Rattle.elements.specs.rules.Class as Class
 use Rattle.base.specs.rules.Limits.{missing}
+use Rattle.document.specs.rules.Document.{size, empty, holds}
 use Rattle.document.specs.rules.Canonical.{value_before, size_before, hex_byte, unicode_before, byte_before, bytes_before, quoted_before, digit, digits, brackets_before, string_before, inside_before}
-use Rattle.printer.specs.internal.Inside.{trees_inside, value_inside, size_inside}
+use Rattle.printer.specs.internal.Inside.{trees_inside, value_inside, size_inside, size_of, size_shown}
 use Rattle.printer.specs.internal.Pieces.{letter_of, leading_of}
 use Rattle.printer.proofs.Appended.{bytes_append, string_append}
 
@@ -120,6 +121,23 @@ pub value_parts : (c : ℕ) (s : List ℕ) → (length s ≡ 0 → ⊥)
 unfolding value_inside trees_inside value_before inside_before brackets_before
 value_parts c [] h = absurd (h refl)
 value_parts c (b ∷ s) h = ap (λ (l : List ℕ). 0x20 ∷ 0x5B ∷ (Class.name_of c ++ (0x20 ∷ l))) (sym (string_append c (b ∷ s) (0x5D ∷ [])))
+
+pub shown_none : [] ≡ size_shown None
+unfolding size_shown
+shown_none = refl
+
+pub shown_parts : (w h : ℕ)
+    → (0x20 ∷ 0x5B ∷ 0x73 ∷ 0x69 ∷ 0x7A ∷ 0x65 ∷ 0x20 ∷ []) ++ (digits w ++ ((0x20 ∷ []) ++ (digits h ++ (0x5D ∷ [])))) ≡ size_shown (Some (w, h))
+unfolding size_shown trees_inside inside_before brackets_before Class.name_of Class.name_in Class.names Class.as_name codes
+shown_parts w h = refl
+
+pub shown_inside : (w h : ℕ) → size_shown (size_of w h) ≡ size_inside w h
+unfolding size_shown size_of size_inside trees_inside size_before inside_before
+shown_inside w h = go (eqb w missing)
+  where
+    go : (b : Bool) → size_shown (cond b None (Some (w, h))) ≡ trees_inside (cond b empty (holds (size w h) empty))
+    go true = refl
+    go false = refl
 
 pub size_none : (w h : ℕ) → w ≡ missing → [] ≡ size_inside w h
 unfolding size_inside trees_inside size_before inside_before

@@ -1,5 +1,5 @@
 -- `put::raw_8` meets its contract: each test adds a byte to those before it.
-use Rattle.std.proofs.Common.{rules, arith}
+use Rattle.std.proofs.Common.{arith}
 use Rattle.printer.proofs.put.RawBytes.{raw_none, raw_more}
 use Rattle.printer.proofs.put.raw_8.Goals as goal
 

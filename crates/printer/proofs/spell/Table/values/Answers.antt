@@ -1,5 +1,7 @@
 -- `spell::Table::values` meets its contract.
 use Rattle.base.proofs.Adding.{adds_as, adds_none, adds_join}
+use Rattle.std.proofs.Common.{refl}
+use Rattle.printer.proofs.put.Pieces.{shown_inside}
 use Rattle.printer.proofs.spell.ElementParts.{values_as}
 use Rattle.printer.proofs.spell.Valueless.{valueless_inside}
 use Rattle.printer.proofs.spell.Table.values.Goals as goal
@@ -10,14 +12,7 @@ returns-then-lacks_values c = let args = c.args in
     adds_as none (adds_none args.at args.out.now)
 
 pub returns : goal.returns
-returns c = let word = c.word in
-    let key_class_lem = c.key_class-class in
-    let string = c.string in
-    let put-value = c.put_value-k in
-    let word2 = c.word-2 in
-    let word3 = c.word-3 in
-    let put-size = c.put_size-k in
-    let string2 = c.string-2 in
-    adds_as (values_as key_class_lem.result word.result _ string.result.now _ string2.result.now _ word2.result _ word3.result _
-    key_class_lem.ensures word.ensures string.ensures word2.ensures word3.ensures string2.ensures)
-    (adds_join put-value.ensures (adds_join put-size.ensures c.put_value.ensures))
+returns c =
+    let size = rw (c.size.ensures, shown_inside) at c.put_size-k.ensures in
+    adds_as (values_as _ _ _ _ _ _ _ _ _ _ _ c.key_class-class.ensures c.word.ensures c.string.ensures refl refl c.string-2.ensures)
+    (adds_join c.put_value-k.ensures (adds_join size c.put_value.ensures))
