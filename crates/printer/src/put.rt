@@ -1,9 +1,10 @@
-// Writes the pieces of a spelling, as far as the output reaches: each function takes the index to write at and answers the next.
-// An index that would pass 4,294,967,295 is answered as 0: no document within the limits has so long a spelling.
+// Writes the pieces of a spelling, as far as the output reaches.
 ghost use Rattle.std.specs.Prelude.{◌≡◌, true, ◌||◌, [], ◌∷◌, ◌+◌, ◌<◌, ◌≤◌, eqb, ltb, length, take, drop};
+ghost use Rattle.elements.specs.rules.Class.{name_of};
 ghost use Rattle.document.specs.rules.Canonical.{hex_byte, byte_before, bytes_before, quoted_before, digits, string_before};
 ghost use Rattle.document.specs.rules.Canonical as Canonical;
-ghost use Rattle.base.specs.Adds.{greatest_word, Adds};
+ghost use Rattle.base.specs.Adds.{greatest_word};
+ghost use Rattle.printer.specs.internal.Appends.{Appends};
 ghost use Rattle.printer.specs.internal.Pieces.{letter_of, leading_of};
 ghost use Rattle.printer.specs.internal.Raw.{Raw, RawTo};
 ghost use Rattle.printer.specs.internal.Inside.{value_inside, size_shown};
@@ -42,20 +43,6 @@ fn is_coded(b: u8) -> bool
     ensures { result ≡ (eqb b 0x5C || ltb b 0x20 || eqb b 0x7F) }
 {
     matches!(b, b'\\' | 0..=0x1F | 0x7F)
-}
-
-// A byte of a string.
-fn put_string_byte(out: &mut [u8], at: usize, b: u8) -> usize
-    ensures { Adds (byte_before b []) at out.old result out.new }
-{
-    match letter(b) {
-        Some(short) => put_bytes(out, at, &[b'\\', short]),
-        None if is_coded(b) => {
-            let coded = [b'\\', b'u', b'0', b'0', hex(b / 16), hex(b % 16)];
-            put_bytes(out, at, &coded)
-        }
-        None => put_byte(out, at, b),
-    }
 }
 
 // Whether a byte of a string stands for itself.
@@ -114,42 +101,16 @@ fn raw_end(bytes: &[u8], from: usize) -> usize
     requires { from ≤ length bytes.now }
     ensures { RawTo bytes.now from result }
 {
-    let mut i = raw_blocks(bytes, from);
-    if raw_rest(bytes, i) {
+    let first = raw_blocks(bytes, from);
+    if raw_rest(bytes, first) {
         return bytes.len();
     }
-    while i < bytes.len() {
+    for i in first..bytes.len() {
         if !raw(bytes[i]) {
             return i;
         }
-        i += 1;
     }
-    i
-}
-
-// A string's bytes: those that stand for themselves are copied, as many as stand together.
-fn put_escaped(out: &mut [u8], at: usize, bytes: &[u8]) -> usize
-    ensures { Adds (bytes_before bytes.now []) at out.old result out.new }
-{
-    let mut k = at;
-    let mut i = 0;
-    loop {
-        let end = raw_end(bytes, i);
-        k = put_bytes(out, k, &bytes[i..end]);
-        if bytes.len() <= end {
-            return k;
-        }
-        k = put_string_byte(out, k, bytes[end]);
-        i = end + 1;
-    }
-}
-
-pub fn put_quoted(out: &mut [u8], at: usize, bytes: &[u8]) -> usize
-    ensures { (result ≤ greatest_word) × Adds (quoted_before bytes.now []) at out.old result out.new }
-{
-    let k = put_byte(out, at, b'"');
-    let k = put_escaped(out, k, bytes);
-    put_byte(out, k, b'"')
+    bytes.len()
 }
 
 // How many of five digits a number does not have.
@@ -173,54 +134,121 @@ fn digit(n: usize) -> u8
     b'0' + (n % 10) as u8
 }
 
-fn put_digits(out: &mut [u8], at: usize, n: usize) -> usize
-    ensures { Adds (digits n) at out.old result out.new }
-{
-    let five = [
-        digit(n / 10000),
-        digit(n / 1000),
-        digit(n / 100),
-        digit(n / 10),
-        digit(n),
-    ];
-    let from = leading(n);
-    put_bytes(out, at, &five[from..])
+// An output and the index to write next, which goes on past the output's end, so that an empty output measures.
+// An index that would pass 4,294,967,295 is 0: no document within the limits has so long a spelling.
+#[derive(Drop)]
+pub struct Output<'a> {
+    pub out: &'a mut [u8],
+    pub at: usize,
 }
 
-// "ids and types as symbols, targets and texts quoted"
-fn put_string(out: &mut [u8], at: usize, class: usize, bytes: &[u8]) -> usize
-    ensures { Adds (string_before class bytes.now []) at out.old result out.new }
-{
-    if class == TARGET {
-        return put_quoted(out, at, bytes);
+impl Output<'_> {
+    pub fn byte(&mut self, b: u8)
+        ensures fits { self.new.at ≤ greatest_word }
+        ensures appends { Appends self.old (b ∷ []) self.new }
+    {
+        self.at = put_byte(self.out, self.at, b);
     }
-    put_bytes(out, at, bytes)
-}
 
-// A space and the value of a class, where there is one.
-pub fn put_value(out: &mut [u8], at: usize, class: usize, bytes: &[u8]) -> usize
-    ensures { Adds (value_inside class bytes.now) at out.old result out.new }
-{
-    if bytes.is_empty() {
-        return at;
+    fn bytes(&mut self, bytes: &[u8])
+        ensures { Appends self.old bytes.now self.new }
+    {
+        self.at = put_bytes(self.out, self.at, bytes);
     }
-    let k = put_bytes(out, at, b" [");
-    let k = put_name(out, k, class);
-    let k = put_byte(out, k, b' ');
-    let k = put_string(out, k, class, bytes);
-    put_byte(out, k, b']')
-}
 
-// A space and a size, where there is one.
-pub fn put_size(out: &mut [u8], at: usize, size: Option<(usize, usize)>) -> usize
-    ensures { Adds (size_shown size) at out.old result out.new }
-{
-    let Some((width, height)) = size else {
-        return at;
-    };
-    let k = put_bytes(out, at, b" [size ");
-    let k = put_digits(out, k, width);
-    let k = put_byte(out, k, b' ');
-    let k = put_digits(out, k, height);
-    put_byte(out, k, b']')
+    pub fn name(&mut self, class: usize)
+        ensures { Appends self.old (name_of class) self.new }
+    {
+        self.at = put_name(self.out, self.at, class);
+    }
+
+    // A byte of a string.
+    fn string_byte(&mut self, b: u8)
+        ensures { Appends self.old (byte_before b []) self.new }
+    {
+        match letter(b) {
+            Some(short) => self.bytes(&[b'\\', short]),
+            None if is_coded(b) => {
+                self.bytes(&[b'\\', b'u', b'0', b'0', hex(b / 16), hex(b % 16)]);
+            }
+            None => self.byte(b),
+        }
+    }
+
+    // A string's bytes: those that stand for themselves are copied, as many as stand together.
+    fn escaped(&mut self, bytes: &[u8])
+        ensures { Appends self.old (bytes_before bytes.now []) self.new }
+    {
+        let mut i = 0;
+        loop {
+            let end = raw_end(bytes, i);
+            self.bytes(&bytes[i..end]);
+            if bytes.len() <= end {
+                return;
+            }
+            self.string_byte(bytes[end]);
+            i = end + 1;
+        }
+    }
+
+    pub fn quoted(&mut self, bytes: &[u8])
+        ensures fits { self.new.at ≤ greatest_word }
+        ensures appends { Appends self.old (quoted_before bytes.now []) self.new }
+    {
+        self.byte(b'"');
+        self.escaped(bytes);
+        self.byte(b'"');
+    }
+
+    fn digits(&mut self, n: usize)
+        ensures { Appends self.old (digits n) self.new }
+    {
+        let five = [
+            digit(n / 10000),
+            digit(n / 1000),
+            digit(n / 100),
+            digit(n / 10),
+            digit(n),
+        ];
+        self.bytes(&five[leading(n)..]);
+    }
+
+    // "ids and types as symbols, targets and texts quoted"
+    fn string(&mut self, class: usize, bytes: &[u8])
+        ensures { Appends self.old (string_before class bytes.now []) self.new }
+    {
+        if class == TARGET {
+            self.quoted(bytes);
+        } else {
+            self.bytes(bytes);
+        }
+    }
+
+    // A space and the value of a class, where there is one.
+    pub fn value(&mut self, class: usize, bytes: &[u8])
+        ensures { Appends self.old (value_inside class bytes.now) self.new }
+    {
+        if bytes.is_empty() {
+            return;
+        }
+        self.bytes(b" [");
+        self.name(class);
+        self.byte(b' ');
+        self.string(class, bytes);
+        self.byte(b']');
+    }
+
+    // A space and a size, where there is one.
+    pub fn size(&mut self, size: Option<(usize, usize)>)
+        ensures { Appends self.old (size_shown size) self.new }
+    {
+        let Some((width, height)) = size else {
+            return;
+        };
+        self.bytes(b" [size ");
+        self.digits(width);
+        self.byte(b' ');
+        self.digits(height);
+        self.byte(b']');
+    }
 }

@@ -1,6 +1,5 @@
 // The spelling of a table's nodes: "Subtrees are spelled in order, each element written into what is left of the output."
 // On any words the functions are safe and end; what they write is said where a document's nodes stand in the table.
-// Each writes as much as there is room for and answers how much it would need, so that an empty output measures.
 ghost use Rattle.std.specs.Prelude.{◌≡◌, true, List, ℕ, ◌+◌, ◌≤◌, ◌<◌, length};
 ghost use Rattle.std.proofs.lemmas.List.Edits.{sets};
 ghost use Rattle.elements.specs.rules.Rules.{rule_of};
@@ -9,13 +8,12 @@ ghost use Rattle.document.specs.rules.Record as Word;
 ghost use Rattle.document.specs.rules.Table.{count, count_all};
 ghost use Rattle.document.specs.rules.Canonical.{node_first, canonical};
 ghost use Rattle.table.specs.Stored.{word_at, Stored, StoredAll};
-ghost use Rattle.base.specs.Adds.{greatest_word, Adds};
+ghost use Rattle.base.specs.Adds.{greatest_word};
 ghost use Rattle.table.specs.Stored.{string_at};
+ghost use Rattle.printer.specs.internal.Appends.{Appends};
 ghost use Rattle.printer.specs.internal.Inside.{Valueless, size_of, inside_all, values_inside, children_first};
 
-use super::name::put_name;
-use super::put::{put_quoted, put_size, put_value};
-use base::put_byte;
+use super::put::Output;
 use kind::{Keyword, Kind};
 use table::{
     END, HEIGHT, KEY, KEY_LENGTH, KIND, MISSING, TEXT, TYPE, TYPE_LENGTH, WIDTH, is_titled,
@@ -64,18 +62,18 @@ impl Table<'_> {
     }
 
     // The values of node `i`.
-    fn values(&self, i: usize, out: &mut [u8], at: usize) -> usize
-        ensures { Adds (values_inside (word_at self.now.nodes.now i Word.kind) (string_at self.now.nodes.now self.now.pool.now i Word.key_offset)
+    fn values(&self, i: usize, output: &mut Output)
+        ensures { Appends output.old (values_inside (word_at self.now.nodes.now i Word.kind) (string_at self.now.nodes.now self.now.pool.now i Word.key_offset)
             (string_at self.now.nodes.now self.now.pool.now i Word.type_offset) (word_at self.now.nodes.now i Word.width) (word_at self.now.nodes.now i Word.height))
-            at out.old result out.new }
+            output.new }
     {
         if self.lacks_values(i) {
-            return at;
+            return;
         }
         let class = key_class(self.word(i, KIND)) as usize;
-        let k = put_value(out, at, class, self.string(i, KEY));
-        let k = put_size(out, k, self.size(i));
-        put_value(out, k, Keyword::TYPE.number as usize, self.string(i, TYPE))
+        output.value(class, self.string(i, KEY));
+        output.size(self.size(i));
+        output.value(Keyword::TYPE.number as usize, self.string(i, TYPE));
     }
 
     // Where the children of node `i` that are spelled before its values end: after its title or summary, where it has one.
@@ -103,51 +101,48 @@ impl Table<'_> {
     }
 
     // The nodes with numbers from `from` to before `end` that stand side by side, a space before each.
-    // Neither what `put_byte` answers nor what `spell` does passes 4,294,967,295, so their sum needs no test: the next `put_byte` makes it.
     #[cycle(children_spell)]
-    fn children(&self, from: usize, end: usize, out: &mut [u8], at: usize) -> usize
+    fn children(&self, from: usize, end: usize, output: &mut Output)
         ensures { (ns : Nodes) (parent p : ℕ) → StoredAll self.now.nodes.now self.now.pool.now from parent p ns → end ≡ from + count_all ns
-            → Adds (inside_all ns) at out.old result out.new }
+            → Appends output.old (inside_all ns) output.new }
     {
         let mut i = from;
-        let mut k = at;
         while i < end {
             let next = self.word(i, END);
             if next <= i {
-                return k;
+                return;
             }
             if end < next {
-                return k;
+                return;
             }
-            k = put_byte(out, k, b' ');
-            let start = k.min(out.len());
-            let size = self.spell(i, next, &mut out[start..]);
-            k += size;
+            output.byte(b' ');
+            self.spell(i, next, output);
             i = next;
         }
-        k
     }
 
     // Node `i`, whose descendants have the numbers up to `end`.
     #[cycle(children_spell)]
-    fn spell(&self, i: usize, end: usize, out: &mut [u8]) -> usize
-        ensures { (result ≤ greatest_word) × ((d : Node) (parent p : ℕ) → Stored self.now.nodes.now self.now.pool.now i parent p d → end ≡ i + count d
-            → length (canonical d) ≤ greatest_word → (result ≡ length (canonical d)) × (out.new ≡ sets out.old 0 (canonical d))) }
+    fn spell(&self, i: usize, end: usize, output: &mut Output)
+        ensures fits { output.old.at ≤ greatest_word → output.new.at ≤ greatest_word }
+        ensures spells { (d : Node) (parent p : ℕ) → Stored self.now.nodes.now self.now.pool.now i parent p d → end ≡ i + count d
+            → Appends output.old (canonical d) output.new }
     {
         if end <= i {
-            return 0;
+            return;
         }
         let kind = self.word(i, KIND);
         if kind == Kind::TEXT.number as usize {
-            return put_quoted(out, 0, self.string(i, TEXT));
+            output.quoted(self.string(i, TEXT));
+            return;
         }
         let first = self.first_end(i, end);
-        let k = put_byte(out, 0, b'[');
-        let k = put_name(out, k, kind);
-        let k = self.children(i + 1, first, out, k);
-        let k = self.values(i, out, k);
-        let k = self.children(first, end, out, k);
-        put_byte(out, k, b']')
+        output.byte(b'[');
+        output.name(kind);
+        self.children(i + 1, first, output);
+        self.values(i, output);
+        self.children(first, end, output);
+        output.byte(b']');
     }
 
     // The document whose table this is: "Printing returns number and length".
@@ -155,6 +150,8 @@ impl Table<'_> {
         ensures { (result ≤ greatest_word) × ((d : Node) (parent p : ℕ) → Stored self.now.nodes.now self.now.pool.now 0 parent p d
             → length (canonical d) ≤ greatest_word → (result ≡ length (canonical d)) × (out.new ≡ sets out.old 0 (canonical d))) }
     {
-        self.spell(0, self.word(0, END), out)
+        let mut output = Output { out, at: 0 };
+        self.spell(0, self.word(0, END), &mut output);
+        output.at
     }
 }

@@ -11,9 +11,10 @@ use lib.Seq.{take-suc, take-add, drop-cons, drop-drop, get_or-drop}
 use borrow.Author.Tests.{ltb-true, le-ltb, ne_eqb}
 use Rattle.base.proofs.Booleans.{both, true_T, T_true, not-true}
 use Rattle.document.specs.rules.Canonical.{byte_before, bytes_before}
-use Rattle.base.specs.Adds.{Adds}
 use Rattle.printer.specs.internal.Raw.{Raw, RawTo}
-use Rattle.base.proofs.Adding.{adds_as, adds_join}
+use Rattle.printer.specs.declared.put.Output.{Output}
+use Rattle.printer.specs.internal.Appends.{Appends}
+use Rattle.printer.proofs.put.Appending.{appends_as, appends_join}
 use Rattle.printer.proofs.put.Pieces.{bytes_both}
 
 pub raw_none : Raw []
@@ -95,6 +96,6 @@ module _ (s : List ℕ) (from : ℕ) where
       ∙ ap (λ (l : List ℕ). bytes_before l []) (sym (ap (λ (n : ℕ). take n s) size ∙ take-add from (to - from) s))
 
   -- Such bytes are written as they are, behind the bytes before them.
-  pub adds_raw : (to : ℕ) {at m r : ℕ} {out mid later : List ℕ} → RawTo s from to → Adds (bytes_before (take from s) []) at out m mid
-      → Adds (take (to - from) (drop from s)) m mid r later → Adds (bytes_before (take to s) []) at out r later
-  adds_raw to a p q = adds_as (raw_written to a) (adds_join p q)
+  pub appends_raw : (to : ℕ) {a b c : Output} → RawTo s from to → Appends a (bytes_before (take from s) []) b
+      → Appends b (take (to - from) (drop from s)) c → Appends a (bytes_before (take to s) []) c
+  appends_raw to r p q = appends_as (raw_written to r) (appends_join p q)
