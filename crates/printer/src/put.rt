@@ -167,7 +167,10 @@ impl Output<'_> {
         ensures { Appends self.old (byte_before b []) self.new }
     {
         match letter(b) {
-            Some(short) => self.bytes(&[b'\\', short]),
+            Some(short) => {
+                self.byte(b'\\');
+                self.byte(short);
+            }
             None if is_coded(b) => {
                 self.bytes(&[b'\\', b'u', b'0', b'0', hex(b / 16), hex(b % 16)]);
             }
