@@ -1,12 +1,12 @@
 // What the programs do with a text (document 01, "Judged examples"): it is read into the memory that they lend, and listed.
 #![tactic(auto)]
 
-ghost use Rattle.std.specs.Prelude.{◌≡◌, ◌≤◌, IfOk, IfErr, length};
+ghost use Rattle.std.specs.Prelude.{◌≡◌, IfOk, IfErr};
 ghost use Rattle.std.specs.Counts.{IsPrefixLen};
 ghost use Rattle.listing.specs.Listing.{Lists, printed, lent_memory};
 ghost use Rattle.reader.specs.Read.{Reads};
 ghost use Rattle.lister.specs.Lending.{spelled, memory_of};
-ghost use Rattle.lister.specs.Reading.{Accepts, RefusedLine, longest_refusal};
+ghost use Rattle.lister.specs.Reading.{Accepts, Refuses};
 
 use listing::{LENT_NODES, LENT_POOL, LENT_WORDS, LONGEST_TEXT};
 use reader::{Answer, read_imperative, read_nested};
@@ -60,11 +60,9 @@ impl Lent {
         text: &[u8],
         out: &mut [u8],
     ) -> Result<Answer, usize>
-        requires fresh { memory_of self.old ≡ lent_memory }
-        requires room { longest_refusal ≤ length out.old }
-        ensures accepts { IfOk result (λ a. Accepts (spelled spelling) text.now a (memory_of self.new)) }
+        ensures accepts { IfOk result (λ a. Accepts (spelled spelling) text.now (memory_of self.old) a (memory_of self.new)) }
         ensures untouched { IfOk result (λ _. out.new ≡ out.old) }
-        ensures refuses { IfErr result (λ n. RefusedLine (spelled spelling) text.now out.old n out.new) }
+        ensures refuses { IfErr result (λ n. Refuses (spelled spelling) text.now (memory_of self.old) out.old n out.new) }
     {
         if LONGEST_TEXT < text.len() {
             return Err(listing::put_too_long(out));

@@ -1,5 +1,5 @@
 -- `list` meets its contract: what each way through it prints is what is printed of such a text.
-use Rattle.std.proofs.Common.{rules, refl}
+use Rattle.std.proofs.Common.{rules}
 use Rattle.listing.specs.Listing.{after_check, printed}
 use Rattle.listing.proofs.Printed.{lines_stand, lists_fault, lists_document}
 use Rattle.lister.specs.Lending.{spelled}
@@ -7,7 +7,7 @@ use Rattle.lister.proofs.list.Goals as goal
 
 pub returns-in-Err-clause-prefix_len : goal.returns-in-Err-clause-prefix_len
 returns-in-Err-clause-prefix_len c =
-    let line = c.in-Err.ensures.refuses (after_check c.args.text.now) in
+    let line = c.in-Err.ensures.refuses c.new-lent.ensures (search rules) (after_check c.args.text.now) in
     (lines_stand (printed (spelled c.args.spelling) c.args.text.now) line.size line.bytes).0
 
 pub returns-then-c-ne0 : goal.returns-then-c-ne0
@@ -22,7 +22,7 @@ returns-then-c-ne0 c =
     let whole =
     lists_fault (spelled c.args.spelling) c.args.text.now c.args.out.now (search rules) _ read.short a.number a.nodes a.pool _ read.accepted
     e.number e.nodes e.pool read.reads.leaves k.result.number k.result.node k.ensures.number k.ensures.node c.if-c-ne0.true
-    (search rules) refl (value, out_after) in
+    (search rules) c.new-lent.ensures (value, out_after) in
     record { prefix_len = whole.0; lists = whole.1 }
 
 pub returns : goal.returns
@@ -37,5 +37,5 @@ returns c =
     let whole =
     lists_document (spelled c.args.spelling) c.args.text.now c.args.out.now (search rules) _ read.short a.number a.nodes a.pool _ read.accepted
     e.number e.nodes e.pool read.reads.leaves k.result.number k.result.node k.ensures.number k.ensures.node c.if-c-ne0.false
-    refl (value, out_after) put.pool_len_bound in
+    c.new-lent.ensures (value, out_after) put.pool_len_bound in
     record { prefix_len = whole.0; lists = whole.1 }
