@@ -10,6 +10,7 @@ use std::io::Read;
 
 // Reads until the buffer is full or the input ends; how many bytes stand at the start of the buffer then. What the buffer holds behind them, and
 // after an error at all, is left open, as std leaves it open for each read.
+// std has no such method without a heap: `read_exact` says nothing of an input that is shorter, and `read_to_end` fills a `Vec`.
 pub fn read_full<R: Read>(input: &mut R, buffer: &mut [u8]) -> io::Result<usize>
     ensures within { ReadsAtMost result buffer.new }
     ensures bytes { IfOk result (λ n. Consumes (R.remaining input.old) (R.remaining input.new) (take n buffer.new)) }

@@ -123,17 +123,9 @@ fault_length text places number node h =
     let short = ltb-false longest_text (length text) t in
     refused_length number (line_of text p) (column_of text p) h (omega (arith, (position_within text p).line_within)) (omega (arith, (position_within text p).column_within)))
 
--- The four answers of `list`, on an output that holds the longest.
+-- The two answers of `list` to a text that was read, on an output that holds the longest.
 module _ (s : Spelling) (text : List ℕ) (start : List ℕ) (room : 44 * lent_nodes + 33 ≤ length start) where
-  pub lists_long : {r : ℕ} {out : List ℕ} → longest_text < length text → Put too_long start r out → Listed (printed s text) start r out
-  lists_long h p = answered_long (after_check text) s text (omega arith) h p
-
   module _ (m : Memory) (h : length text ≤ longest_text) where
-    pub lists_refusal : (n l c : ℕ) {r : ℕ} {out : List ℕ} → (n ≡ 0 → ⊥) → n < 2 ^ 32 → l < 2 ^ 32 → c < 2 ^ 32
-        → n ≡ (outcome s text m).answer.number → l ≡ (outcome s text m).answer.line → c ≡ (outcome s text m).answer.column → m ≡ lent_memory
-        → Put (refused_line n l c) start r out → Listed (printed s text) start r out
-    lists_refusal n l c = answered_refusal (after_check text) s text m h n l c (omega arith)
-
     -- After a read that answered 0, and the check of what it left.
     module _ (n nodes bytes : ℕ) (exit : Memory) (z : n ≡ 0) (en : n ≡ (outcome s text m).answer.number) (eo : nodes ≡ (outcome s text m).answer.nodes)
         (ep : bytes ≡ (outcome s text m).answer.pool) (left : exit ≡ (outcome s text m).memory) (k i : ℕ)

@@ -11,7 +11,8 @@ use Rattle.base.proofs.Booleans.{bool_case}
 use Rattle.base.proofs.Stores.{sets_append, sets_past, sets_front}
 use Rattle.document.specs.rules.Memory.{over}
 use Rattle.listing.specs.Listing.{part_fitting}
-use Rattle.listing.specs.internal.Puts.{Puts}
+use Rattle.listing.specs.declared.Output.{Output}
+use Rattle.listing.specs.internal.Puts.{Puts, Appends}
 
 pub puts_none : (l : List ℕ) (at : ℕ) → Puts l at [] l at
 puts_none l at = record { next_place = omega arith; bytes_stored = refl }
@@ -29,6 +30,12 @@ puts_on {l} {xs} {m} {ys} {n} {at} {j} {k} p q =
     in
     record { next_place = rw length-append (omega arith); bytes_stored = rw (sets_append l xs ys at, ← p.bytes_stored) (q.bytes_stored ∙ place) }
 
+pub appends_none : (a : Output) → Appends a [] a
+appends_none a = record { same_output = refl; puts = puts_none a.out.now a.at }
+
+pub appends_on : {a b c : Output} {xs ys : List ℕ} → Appends a xs b → Appends b ys c → Appends a (xs ++ ys) c
+appends_on p q = record { same_output = q.same_output ∙ p.same_output; puts = puts_on p.puts q.puts }
+
 -- What is put from the output's start on stands there as far as it reaches.
 pub puts_whole : {l xs m : List ℕ} {k : ℕ} → Puts l 0 xs m k → (k ≡ length (part_fitting l xs)) × (m ≡ over (part_fitting l xs) l)
 unfolding part_fitting over
@@ -45,3 +52,7 @@ puts_whole {l} {xs} {m} {k} p =
       rw size (omega arith),
       p.bytes_stored ∙ ap (sets l 0) (sym (take-append-drop (length l) xs)) ∙ sets_append l front rest 0 ∙ past ∙ sets_front l front (omega arith),
     )
+
+-- The same of what the output is left with.
+pub left_whole : {l xs m left : List ℕ} {k : ℕ} → Puts l 0 xs m k → left ≡ m → left ≡ over (part_fitting l xs) l
+left_whole p e = e ∙ (puts_whole p).1

@@ -4,9 +4,9 @@
 ghost use Rattle.std.specs.Prelude.{◌≡◌, [], ◌∷◌, ◌++◌, ◌+◌, ◌*◌, ◌≤◌, get_or, length};
 ghost use Rattle.document.specs.rules.Memory.{over};
 ghost use Rattle.listing.specs.Listing.{numeral, parent_word, node_line, node_lines, header_line, refused_line, fault_line, document_lines, too_long, part_fitting};
-ghost use Rattle.listing.specs.internal.Puts.{Puts};
+ghost use Rattle.listing.specs.internal.Puts.{Appends};
 
-use base::{lesser, store_all};
+use base::store_all;
 use table::{END, MISSING, PARENT, RECORD};
 
 // "over 32,768 bytes prints `too long`": the longest text that is read.
@@ -21,100 +21,94 @@ pub const LENT_POOL: usize = 32768;
 
 const NO_PARENT: u32 = MISSING as u32;
 
-// One byte, where the output has room for it; the place after it.
-fn put_byte(out: &mut [u8], at: usize, b: u8) -> usize
-    ensures { Puts out.old at (b ∷ []) out.new result }
-{
-    if at < out.len() {
-        out[at] = b;
-        return at + 1;
+// An output and the place in it that is written next. What is put past the output's end is left out.
+#[derive(Drop)]
+struct Output<'a> {
+    out: &'a mut [u8],
+    at: usize,
+}
+
+impl Output<'_> {
+    fn bytes(&mut self, bytes: &[u8])
+        ensures { Appends self.old bytes.now self.new }
+    {
+        store_all(self.out, self.at, bytes);
+        if self.at < self.out.len() {
+            self.at += bytes.len().min(self.out.len() - self.at);
+        }
     }
-    at
-}
 
-// As many of the bytes as the output has room for; the place after them.
-fn put_bytes(out: &mut [u8], at: usize, bytes: &[u8]) -> usize
-    ensures { Puts out.old at bytes.now out.new result }
-{
-    store_all(out, at, bytes);
-    if out.len() <= at {
-        return at;
+    fn byte(&mut self, b: u8)
+        ensures { Appends self.old (b ∷ []) self.new }
+    {
+        self.bytes(&[b]);
     }
-    at + lesser(bytes.len(), out.len() - at)
-}
 
-fn put_decimal(out: &mut [u8], at: usize, n: u32) -> usize
-    ensures { Puts out.old at (numeral n) out.new result }
-{
-    if n < 10 {
-        return put_byte(out, at, 48 + n as u8);
+    fn decimal(&mut self, n: u32)
+        ensures { Appends self.old (numeral n) self.new }
+    {
+        let mut digits = itoa::Buffer::new();
+        self.bytes(digits.format(n).as_bytes());
     }
-    let at = put_decimal(out, at, n / 10);
-    put_byte(out, at, 48 + (n % 10) as u8)
-}
 
-// A number and the byte that ends it.
-fn put_number(out: &mut [u8], at: usize, n: u32, end: u8) -> usize
-    ensures { Puts out.old at (numeral n ++ (end ∷ [])) out.new result }
-{
-    let at = put_decimal(out, at, n);
-    put_byte(out, at, end)
-}
-
-fn put_parent(out: &mut [u8], at: usize, parent: u32) -> usize
-    ensures { Puts out.old at (parent_word parent) out.new result }
-{
-    if parent == NO_PARENT {
-        return put_byte(out, at, b'-');
+    // A number and the byte that ends it.
+    fn number(&mut self, n: u32, end: u8)
+        ensures { Appends self.old (numeral n ++ (end ∷ [])) self.new }
+    {
+        self.decimal(n);
+        self.byte(end);
     }
-    put_decimal(out, at, parent)
-}
 
-fn put_node(out: &mut [u8], at: usize, number: u32, kind: u32, parent: u32, end: u32) -> usize
-    ensures { Puts out.old at (node_line number kind parent end) out.new result }
-{
-    let at = put_number(out, at, number, b' ');
-    let at = put_number(out, at, kind, b' ');
-    let at = put_parent(out, at, parent);
-    let at = put_byte(out, at, b' ');
-    put_number(out, at, end, b'\n')
+    fn parent(&mut self, parent: u32)
+        ensures { Appends self.old (parent_word parent) self.new }
+    {
+        if parent == NO_PARENT {
+            self.byte(b'-');
+        } else {
+            self.decimal(parent);
+        }
+    }
+
+    fn node(&mut self, number: u32, kind: u32, parent: u32, end: u32)
+        ensures { Appends self.old (node_line number kind parent end) self.new }
+    {
+        self.number(number, b' ');
+        self.number(kind, b' ');
+        self.parent(parent);
+        self.byte(b' ');
+        self.number(end, b'\n');
+    }
+
+    // The lines of the first nodes of the table.
+    fn nodes(&mut self, table: &[u32], nodes: u32)
+        ensures { Appends self.old (node_lines table.now nodes) self.new }
+    {
+        for k in 0..nodes {
+            let i = k as usize * RECORD;
+            self.node(
+                k,
+                word(table, i),
+                word(table, i + PARENT),
+                word(table, i + END),
+            );
+        }
+    }
+
+    fn header(&mut self, nodes: u32, pool: u32)
+        ensures { Appends self.old (header_line nodes pool) self.new }
+    {
+        self.bytes(b"nodes ");
+        self.decimal(nodes);
+        self.bytes(b" pool ");
+        self.number(pool, b'\n');
+    }
 }
 
 // A word of the table, 0 past its end.
 fn word(table: &[u32], i: usize) -> u32
     ensures { result ≡ get_or table.now i 0 }
 {
-    if i < table.len() { table[i] } else { 0 }
-}
-
-// The lines of the first nodes of the table.
-fn put_nodes(out: &mut [u8], at: usize, table: &[u32], nodes: u32) -> usize
-    ensures { Puts out.old at (node_lines table.now nodes) out.new result }
-{
-    let mut next = at;
-    let mut k: u32 = 0;
-    while k < nodes {
-        let i = k as usize * RECORD;
-        next = put_node(
-            out,
-            next,
-            k,
-            word(table, i),
-            word(table, i + PARENT),
-            word(table, i + END),
-        );
-        k += 1;
-    }
-    next
-}
-
-fn put_header(out: &mut [u8], nodes: u32, pool: u32) -> usize
-    ensures { Puts out.old 0 (header_line nodes pool) out.new result }
-{
-    let at = put_bytes(out, 0, b"nodes ");
-    let at = put_decimal(out, at, nodes);
-    let at = put_bytes(out, at, b" pool ");
-    put_number(out, at, pool, b'\n')
+    table.get(i).copied().unwrap_or(0)
 }
 
 // The listing of a document whose table and counts these are, as far as the output reaches: at most 44 bytes a node and 33 before them.
@@ -123,8 +117,10 @@ pub fn put_document(table: &[u32], nodes: u32, pool: u32, out: &mut [u8]) -> usi
     ensures out_after { out.new ≡ over (part_fitting out.old (document_lines table.now nodes pool)) out.old }
     ensures pool_len_bound { length (document_lines table.now nodes pool) ≤ 44 * nodes + 33 }
 {
-    let at = put_header(out, nodes, pool);
-    put_nodes(out, at, table, nodes)
+    let mut output = Output { out, at: 0 };
+    output.header(nodes, pool);
+    output.nodes(table, nodes);
+    output.at
 }
 
 // The line of a refusal, as far as the output reaches.
@@ -132,10 +128,12 @@ pub fn put_refusal(number: u32, line: u32, column: u32, out: &mut [u8]) -> usize
     ensures value { result ≡ length (part_fitting out.old (refused_line number line column)) }
     ensures out_after { out.new ≡ over (part_fitting out.old (refused_line number line column)) out.old }
 {
-    let at = put_bytes(out, 0, b"refused ");
-    let at = put_number(out, at, number, b' ');
-    let at = put_number(out, at, line, b':');
-    put_number(out, at, column, b'\n')
+    let mut output = Output { out, at: 0 };
+    output.bytes(b"refused ");
+    output.number(number, b' ');
+    output.number(line, b':');
+    output.number(column, b'\n');
+    output.at
 }
 
 // The line of a fault that the check found at a node of a text that was read, as far as the output reaches. The node's place is in the place list.
@@ -155,5 +153,7 @@ pub fn put_too_long(out: &mut [u8]) -> usize
     ensures value { result ≡ length (part_fitting out.old too_long) }
     ensures out_after { out.new ≡ over (part_fitting out.old too_long) out.old }
 {
-    put_bytes(out, 0, b"too long\n")
+    let mut output = Output { out, at: 0 };
+    output.bytes(b"too long\n");
+    output.at
 }

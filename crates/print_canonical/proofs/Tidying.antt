@@ -90,21 +90,18 @@ module _ (text : List ℕ) where
           = record { words_within = words; bytes_within = strings; draft = rw (words_read, pool_read) table } in
           rw (held_printed _ _ _ _ out d held, le-ltb (length out) (length (canonical d)) (omega (arith, short)))
 
-  -- `tidy` after a read into m that answers 0. The memory m has to be that of the definition.
-  module _ (m : Memory) (out : List ℕ) (room : 6 * lent_pool + 100 * lent_nodes ≤ length out) (a : Answer) (exit : Memory) (reads : Reads nested text m a exit)
-      (lends : m ≡ lent_memory) (z : a.number ≡ 0) where
-    abbrev lent : Reads nested text lent_memory a exit
-    lent = rw lends at reads
-
+  -- `tidy` after a read that answers 0.
+  module _ (out : List ℕ) (room : 6 * lent_pool + 100 * lent_nodes ≤ length out) (a : Answer) (exit : Memory) (reads : Reads nested text lent_memory a exit)
+      (z : a.number ≡ 0) where
     abbrev found : (d : Node) × Readable nested text lent_memory d × Read lent_memory reading d
-    found = accepted_document nested text lent_memory (sym lent.answers.number ∙ z)
+    found = accepted_document nested text lent_memory (sym reads.answers.number ∙ z)
 
     -- And after printing what it left.
     module _ (p : Printed) (later : List ℕ) (printed : Prints (printing exit.nodes a.nodes exit.pool a.pool out) p later) where
       spelled : (p.length ≡ length (canonical found.0)) × (later ≡ over (canonical found.0) out)
       spelled =
           let again : Prints (printing reading.memory.nodes reading.answer.nodes reading.memory.pool reading.answer.pool out) p later
-          = rw (lent.answers.nodes, lent.answers.pool, lent.leaves) at printed in
+          = rw (reads.answers.nodes, reads.answers.pool, reads.leaves) at printed in
           let e = reprints found.0 found.1 out room in
           (again.size ∙ ap (λ (x : Defined.Printed). x.size) e, again.out ∙ ap (λ (x : Defined.Printed). x.out) e)
 

@@ -10,7 +10,7 @@ ghost use Rattle.document.specs.reference.Printing.{printing};
 ghost use Rattle.printer.specs.Prints.{Prints};
 
 use base::number;
-use spell::spelled;
+use spell::Table;
 use table::RECORD;
 
 // "Printing returns number and length."
@@ -39,17 +39,19 @@ pub fn print(
     }
     let words = RECORD * (node_count as usize);
     let bytes = pool_count as usize;
-    let table = &nodes[..words];
-    let strings = &pool[..bytes];
+    let table = Table {
+        nodes: &nodes[..words],
+        pool: &pool[..bytes],
+    };
     let mut nothing = [0u8; 1];
-    let length = spelled(table, strings, &mut nothing);
+    let length = table.spelled(&mut nothing);
     if out.len() < length {
         return Printed {
             number: number::OUTPUT_SHORT,
             length: length as u32,
         };
     }
-    spelled(table, strings, out);
+    table.spelled(out);
     Printed {
         number: number::OK,
         length: length as u32,

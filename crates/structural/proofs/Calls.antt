@@ -1,12 +1,9 @@
 -- The ways through the calls: the list for the answer is too short, or has room for the words.
 use Prim.Native.Nat.{ℕ, ◌≤◌, ◌<◌}
-use mathlib.Core.Path.{◌≡◌, refl, ◌∙◌}
-use mathlib.Core.List.{List, [], ◌∷◌}
-use native.Mathlib.Nat.{zero-add}
-use native.Mathlib.Omega.{arith}
+use mathlib.Core.Path.{◌≡◌}
+use mathlib.Core.List.{List, [], ◌∷◌, ◌++◌}
 use borrow.Author.Tests.{lt-ltb, le-ltb}
-use lib.ListN.{length, set, get_or}
-use lib.Seq.{sets, sets-eq}
+use lib.ListN.{length, get_or, drop}
 use Rattle.document.specs.rules.Spelling.{Spelling}
 use Rattle.document.specs.rules.Memory.{Memory, over}
 use Rattle.document.specs.reference.Outcome.{outcome}
@@ -18,11 +15,6 @@ use Rattle.validate.specs.Checks.{Checks}
 use Rattle.reader.specs.declared.Answer.{Answer}
 use Rattle.reader.specs.Read.{Reads}
 use Rattle.structural.specs.Calls.{no_answer, with_room, Call, answer_words, check_words, print_words, ReadCall, CheckCall, PrintCall}
-
--- Words stored from the front on are the front of the list.
-pub stored_over : (l ws : List ℕ) → length ws ≤ length l → sets l 0 ws ≡ over ws l
-unfolding over
-stored_over l ws h = sets-eq ws l 0 (omega arith) ∙ rw (zero-add (length ws))
 
 module _ {A : Type 0} (words : List ℕ) (filled lent : A) (answer : List ℕ) where
   call_short : length answer < length words → Call words filled lent answer no_answer lent answer
@@ -39,8 +31,8 @@ module _ (s : Spelling) (text : List ℕ) (m : Memory) (answer : List ℕ) where
   read_short h = call_short (answer_words (outcome s text m).answer) (outcome s text m).memory m answer h
 
   pub read_whole : 6 ≤ length answer → (r : Answer) (exit : Memory) → Reads s text m r exit → (left : List ℕ)
-      → left ≡ over (r.number ∷ r.place ∷ r.line ∷ r.column ∷ r.nodes ∷ r.pool ∷ []) answer → ReadCall s text m answer r.number exit left
-  unfolding answer_words
+      → left ≡ r.number ∷ r.place ∷ r.line ∷ r.column ∷ r.nodes ∷ r.pool ∷ [] → ReadCall s text m answer r.number exit (left ++ drop 6 answer)
+  unfolding answer_words over
   read_whole h r exit reads left e =
       let a = reads.answers in
       rw (e, a.number, a.place, a.line, a.column, a.nodes, a.pool, reads.leaves)
@@ -52,10 +44,10 @@ module _ (words : List ℕ) (n : ℕ) (bytes : List ℕ) (m : ℕ) (answer : Lis
   check_short h = call_short (check_words (checking words n bytes m)) tt tt answer h
 
   pub check_whole : 2 ≤ length answer → (c : Checked) → Checks (checking words n bytes m) c
-      → CheckCall words n bytes m answer c.number (set (set answer 0 c.number) 1 c.node)
-  unfolding check_words
+      → CheckCall words n bytes m answer c.number (c.number ∷ c.node ∷ drop 2 answer)
+  unfolding check_words over
   check_whole h c call =
-      rw (stored_over answer (c.number ∷ c.node ∷ []) h, call.number, call.node) (call_whole (check_words (checking words n bytes m)) tt tt answer h)
+      rw (call.number, call.node) (call_whole (check_words (checking words n bytes m)) tt tt answer h)
 
 module _ (words : List ℕ) (n : ℕ) (bytes : List ℕ) (m : ℕ) (out answer : List ℕ) where
   pub print_short : length answer < 2 → PrintCall words n bytes m out answer no_answer out answer
@@ -63,8 +55,8 @@ module _ (words : List ℕ) (n : ℕ) (bytes : List ℕ) (m : ℕ) (out answer :
   print_short h = call_short (print_words (printing words n bytes m out)) (printing words n bytes m out).out out answer h
 
   pub print_whole : 2 ≤ length answer → (p : Printed) (exit : List ℕ) → Prints (printing words n bytes m out) p exit
-      → PrintCall words n bytes m out answer p.number exit (set (set answer 0 p.number) 1 p.length)
-  unfolding print_words
+      → PrintCall words n bytes m out answer p.number exit (p.number ∷ p.length ∷ drop 2 answer)
+  unfolding print_words over
   print_whole h p exit call =
-      rw (stored_over answer (p.number ∷ p.length ∷ []) h, call.number, call.size, call.out)
+      rw (call.number, call.size, call.out)
       (call_whole (print_words (printing words n bytes m out)) (printing words n bytes m out).out out answer h)

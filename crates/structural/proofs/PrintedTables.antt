@@ -17,7 +17,7 @@ use Rattle.document.specs.rules.Spelling.{Spelling, nested}
 use Rattle.document.specs.rules.Canonical.{canonical}
 use Rattle.document.specs.rules.Draft as Defined
 use Rattle.document.specs.rules.Draft.{Holds}
-use Rattle.document.specs.rules.Memory.{Memory, Outcome, over}
+use Rattle.document.specs.rules.Memory.{Memory, over}
 use Rattle.document.specs.rules.Readable.{Fits, Readable, Read}
 use Rattle.document.specs.reference.Printing.{written, printing}
 use Rattle.document.proofs.Records.{table_length}

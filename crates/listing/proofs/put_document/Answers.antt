@@ -1,20 +1,16 @@
 -- `put_document` meets its contract.
+use Rattle.std.proofs.Common.{rules}
 use Rattle.listing.specs.Listing.{document_lines}
 use Rattle.listing.proofs.Lengths.{document_length}
-use Rattle.listing.proofs.Puts.{puts_on, puts_whole}
+use Rattle.listing.proofs.Puts.{appends_on, puts_whole, left_whole}
 use Rattle.listing.proofs.put_document.Goals as goal
 
 pub returns : goal.returns
 unfolding document_lines
-returns c = let args = c.args in
-    let fits = c.ranges in
-    let lines = puts_whole (puts_on c.put_header-at.ensures c.put_nodes.ensures) in record {
-      value = lines.0;
-      out_after = lines.1;
-      pool_len_bound = document_length args.table.now
-          (λ i. (c.shared_slice_known-1.given i).fits)
-          args.nodes
-          args.pool
-          fits.nodes.fits
-          fits.pool.fits;
+returns c =
+    let lines = appends_on c.header.ensures c.nodes.ensures in
+    record {
+      value = (puts_whole lines.puts).0;
+      out_after = left_whole lines.puts (search rules);
+      pool_len_bound = document_length c.args.table.now (search rules) c.args.nodes c.args.pool (search rules) (search rules);
     }

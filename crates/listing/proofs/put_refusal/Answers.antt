@@ -1,15 +1,13 @@
 -- `put_refusal` meets its contract.
-use mathlib.Core.List.{append_assoc}
+use Rattle.std.proofs.Common.{rules, append_assoc}
 use Rattle.elements.specs.rules.Bytes.{codes}
 use Rattle.listing.specs.Listing.{refused_line}
-use Rattle.listing.proofs.Puts.{puts_on, puts_whole}
+use Rattle.listing.proofs.Puts.{appends_on, puts_whole, left_whole}
 use Rattle.listing.proofs.put_refusal.Goals as goal
 
 pub returns : goal.returns
 unfolding codes refused_line
 returns c =
-    let whole = puts_whole (simp append_assoc at
-    (puts_on c.put_bytes-at.ensures
-    (puts_on c.put_number-at.ensures
-    (puts_on c.put_number-at-2.ensures c.put_number.ensures)))) in
-    record { value = whole.0; out_after = whole.1 }
+    let line = simp append_assoc at
+    (appends_on c.bytes.ensures (appends_on c.number.ensures (appends_on c.number-2.ensures c.number-3.ensures))) in
+    record { value = (puts_whole line.puts).0; out_after = left_whole line.puts (search rules) }

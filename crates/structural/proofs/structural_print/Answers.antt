@@ -1,9 +1,10 @@
 -- `structural::structural_print` meets its contract.
+use Rattle.std.proofs.Common.{rules}
 use Rattle.structural.proofs.Calls.{print_short, print_whole}
 use Rattle.structural.proofs.structural_print.Goals as goal
 
-pub returns-then-answer-lt-PRINT_WORDS : goal.returns-then-answer-lt-PRINT_WORDS
-returns-then-answer-lt-PRINT_WORDS c = print_short _ _ _ _ _ _ c.if-answer-lt-PRINT_WORDS.true
+pub returns-in_default : goal.returns-in_default
+returns-in_default c = print_short _ _ _ _ _ _ (search rules)
 
 pub returns : goal.returns
-returns c = print_whole _ _ _ _ _ _ c.if-answer-lt-PRINT_WORDS.false _ _ c.print-p.ensures
+returns c = print_whole _ _ _ _ _ _ (search rules) _ _ c.print-p.ensures

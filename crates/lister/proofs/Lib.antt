@@ -1,0 +1,1 @@
+-- What a program prints of a text is what is printed of it.
