@@ -19,6 +19,7 @@ pub const LENT_WORDS: usize = LENT_NODES * RECORD;
 
 pub const LENT_POOL: usize = 32768;
 
+// A table from a caller has this word for the parent of the root (document 01), and so has C.
 const NO_PARENT: u32 = MISSING as u32;
 
 // An output and the place in it that is written next. What is put past the output's end is left out.

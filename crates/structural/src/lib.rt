@@ -10,7 +10,7 @@ pub use printer::{Printed, print};
 pub use reader::{Answer, read_imperative, read_nested};
 pub use validate::{Checked, check};
 
-// What is returned where the slice for the answer is too short; nothing is touched then.
+// What is returned where the slice for the answer is too short; nothing is touched then. It is a number, and no `None`, for C (include/structural.h).
 const NO_ANSWER: u32 = 4294967295;
 
 // "number, place, line, column, node count, pool count"
