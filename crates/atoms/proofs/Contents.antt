@@ -1,17 +1,16 @@
 -- What a string stands for, piece by piece.
 use mathlib.Core.Path.{◌≡◌, refl, ap, sym, ◌∙◌}
-use mathlib.Core.Bool.{Bool, true, false, cond, true≢false}
+use mathlib.Core.Bool.{Bool, true, false, cond}
 use mathlib.Core.List.{List, [], ◌∷◌, ◌++◌}
 use Prim.Native.Nat.{ℕ, zero, suc, ◌+◌, ◌-◌, ◌≤◌, ◌<◌}
 use native.Mathlib.Nat.{add-zero, add_assoc}
 use native.Mathlib.Omega.{arith}
 use lib.Dec.{eqb, leb}
-use borrow.Author.Tests.{ne_eqb, eqb-true, eqb-false, leb-true, leb-false}
+use borrow.Author.Tests.{ne_eqb, leb-true, leb-false}
 use lib.ListN.{length, take, drop, get_or, length-append, drop_of_length-le}
 use lib.Seq.{sets, drop-cons, drop-drop}
-use Rattle.std.specs.Prelude.{Some, None, Ok, Err}
+use Rattle.std.specs.Prelude.{Option, Some, IsSome, Ok, Err}
 use Rattle.base.proofs.Booleans.{bool_case, true_T}
-use Rattle.syntax.specs.rules.Byte.{is_raw}
 use Rattle.syntax.specs.rules.Syntax.{Piece, raw, is_piece, piece_before, piece_value, pieces_value}
 use Rattle.syntax.specs.reference.Scan.{Quoted, closed, unclosed, bad_escape, piece, escape_at, quoted_from, ordinary_run}
 use Rattle.atoms.specs.Atom.{StringEnd, ended, string_end, string_at, content_of, piece_at, atom_value}
@@ -20,7 +19,7 @@ use Rattle.atoms.specs.declared.string.BadString.{BadString}
 use Rattle.syntax.proofs.Escapes.{first_of}
 use Rattle.atoms.specs.declared.pieces.PieceSeen.{PieceSeen}
 use Rattle.atoms.specs.internal.PieceSeen.{piece_stands, piece_seen}
-use Rattle.atoms.proofs.PieceAt.{piece_few, piece_short, piece_good, piece_none, piece_raw, raw_piece, read_on}
+use Rattle.atoms.proofs.PieceAt.{piece_few, piece_short, piece_good, seen_good, raw_piece, read_on}
 use Rattle.atoms.specs.internal.Run.{plain_run}
 use Rattle.base.proofs.Stores.{sets_append}
 use Rattle.atoms.proofs.stores.PieceStores.{bytes_of}
@@ -263,30 +262,20 @@ module _ (text : List ℕ) (i : ℕ) (c : is_closed (quoted_from 0 i (drop i tex
           more = rw quoted_next (piece_content here _ quoted_ends);
         })
 
-  -- Where the code has no piece, the closing quote stands.
-  pub quoted_quote : None ≡ piece_seen i here → get_or text i 0 ≡ 0x22
-  quoted_quote none =
-      bool_case (eqb (get_or text i 0) 0x22) (λ e. eqb-true (get_or text i 0) 0x22 e)
-      (λ e. absurd (true≢false (sym (good_piece (eqb-false (get_or text i 0) 0x22 e)) ∙ piece_none here i none)))
-
-  -- And where it has one, no quote does.
-  pub quoted_piece : (q : PieceSeen) → Some q ≡ piece_seen i here → get_or text i 0 ≡ 0x22 → ⊥
-  unfolding is_piece is_raw
-  quoted_piece q seen e =
-      let no : get_or text i 0 ≡ 0x5C → ⊥ = λ f. omega arith in
-      let none : is_piece here ≡ false = ap is_piece (piece_raw text i no) ∙ rw e in
-      true≢false (sym (piece_good here i q seen).0 ∙ none)
+    -- The code has a piece there.
+    pub quoted_some : (o : Option PieceSeen) → (i < length text → o ≡ piece_seen i here) → IsSome o
+    quoted_some o told = rw (told quoted_inside, seen_good here i good_piece) refl
 
 module _ (text : List ℕ) (place : ℕ) (start : List ℕ) (at : ℕ) (out : List ℕ) (i k : ℕ) (c : ContentSoFar text place start at out i k) where
   abbrev value : List ℕ
   value = piece_value (piece_at (drop i text))
 
   -- With the piece that stands there written, the string is written up to the next one, which is further on.
-  pub content_turn : (l : List ℕ) (q : PieceSeen) → Some q ≡ piece_seen i (piece_at (drop i text))
+  pub content_turn : (get_or text i 0 ≡ 0x22 → ⊥) → (l : List ℕ) (q : PieceSeen) → Some q ≡ piece_seen i (piece_at (drop i text))
       → l ≡ sets out (at + k) (q.first ∷ take (q.size - 1) (q.second ∷ q.third ∷ []))
       → (i < q.next) × (q.next < length text) × ContentSoFar text place start at l q.next (k + q.size)
-  content_turn l q seen f =
-      let t = quoted_turn text i c.ends (quoted_piece text i c.ends q seen) q seen in
+  content_turn h l q seen f =
+      let t = quoted_turn text i c.ends h q seen in
       let s : q.size ≡ length value = t.size in
       let all : l ≡ sets out (at + k) value = f ∙ rw t.short in
       let step : ContentSoFar text place start at l q.next (k + q.size) = record {
@@ -312,10 +301,10 @@ module _ (text : List ℕ) (place : ℕ) (start : List ℕ) (at : ℕ) (out : Li
         written = rw (all, size, ← add_assoc at k (length r), ← sets_append) (rw t.1 at c.written);
       }
 
-  pub content_done : None ≡ piece_seen i (piece_at (drop i text))
+  pub content_done : get_or text i 0 ≡ 0x22
       → (k ≡ length (content_of (quoted_from 0 1 (drop 1 (drop place text))))) × (out ≡ sets start at (content_of (quoted_from 0 1 (drop 1 (drop place text)))))
   content_done e =
-      let none = quoted_done text i c.ends (quoted_quote text i c.ends e) in
+      let none = quoted_done text i c.ends e in
       (omega (arith, rw none at c.left), rw none at c.written)
 
 -- ---- symbols and strings, by the first byte

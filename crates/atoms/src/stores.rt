@@ -50,8 +50,7 @@ fn put_symbol(text: &[u8], place: usize, out: &mut [u8], at: usize) -> usize
     end - place
 }
 
-// The string whose opening quote is at a place, run by run with an escape after each but the last, which the closing
-// quote ends.
+// The string whose opening quote is at a place, run by run with an escape after each but the last.
 fn put_runs(text: &[u8], place: usize, out: &mut [u8], at: usize) -> usize
     requires { (string_at place (drop place text.now)).number ≡ 0 }
     ensures { (result ≡ length (content_of (quoted_from 0 1 (drop 1 (drop place text.now)))))
@@ -63,9 +62,11 @@ fn put_runs(text: &[u8], place: usize, out: &mut [u8], at: usize) -> usize
         let end = plain_end(text, i);
         put_run(out, at, k, &text[i..end]);
         k += end - i;
-        let Some(p) = piece(text, end) else {
+        if text.get(end) == Some(&b'"') {
             return k;
-        };
+        }
+        // the string has no fault
+        let p = piece(text, end).unwrap();
         put_piece(out, at, k, p);
         k += p.size;
         i = p.next;

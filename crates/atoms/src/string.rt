@@ -52,8 +52,11 @@ pub fn string_at(text: &[u8], place: usize) -> Result<StringEnd, BadString>
     loop {
         let end = plain_end(text, i);
         length += end - i;
-        let Some(p) = piece(text, end) else {
+        if text.get(end) != Some(&b'\\') {
             return stopped(text, end, place, length);
+        }
+        let Some(p) = piece(text, end) else {
+            return Err(BadString { place: end });
         };
         length += p.size;
         i = p.next;

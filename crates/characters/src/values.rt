@@ -15,14 +15,14 @@ pub enum Alphabet {
 fn type_character(b: u8) -> bool
     ensures { result ≡ type_character b }
 {
-    matches!(b, b'0'..=b'9' | b'A'..=b'Z' | b'_' | b'a'..=b'z')
+    matches!(b, b'a'..=b'z' | b'A'..=b'Z' | b'0'..=b'9' | b'_')
 }
 
 #[tactic(auto, unfolding(elements::specs::rules::Characters::id_character))]
 fn id_character(b: u8) -> bool
     ensures { result ≡ id_character b }
 {
-    b == b'-' || b == b'.' || type_character(b)
+    type_character(b) || b == b'-' || b == b'.'
 }
 
 #[tactic(auto, unfolding(elements::specs::rules::Characters::uri_character))]

@@ -176,11 +176,6 @@ module _ (os : List Open) (left : ℕ) (text : List ℕ) (i : ℕ) (inside : i <
   unfolding string_at item_at
   quoted_by e = rw (drop-drop 1 i text) (past_string_lem (quoted_from 0 (i + 1) (drop (i + 1) text)) (here quote e))
 
-  pub string_on : byte_class (get_or text i 0) ≡ quote → (string_at i (drop i text)).number ≡ 0
-      → scan_answer_at os left text i ≡ scan_answer_at os left text (string_at i (drop i text)).next
-  unfolding Keeps past_string
-  string_on e z = sym ((quoted_by e).0 z).1
-
   returned_by : byte_class (get_or text i 0) ≡ return → Keeps (return_at i (drop i text))
   unfolding return_at
   returned_by e =

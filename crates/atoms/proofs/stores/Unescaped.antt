@@ -19,7 +19,7 @@ use Rattle.atoms.specs.declared.string.StringEnd as Ended
 use Rattle.atoms.specs.internal.StringStep.{bad_string_end}
 use Rattle.atoms.specs.internal.Run.{plain_run}
 use Rattle.atoms.proofs.PieceAt.{piece_few, piece_short, piece_escape}
-use Rattle.atoms.proofs.run.PlainRuns.{plains, plain_part, plain_ended}
+use Rattle.atoms.proofs.run.PlainRuns.{plains, plain_part}
 use Rattle.atoms.proofs.string.StringSteps.{string_finish, turn, at_start, RunEnd, run_end}
 use Rattle.atoms.proofs.Contents.{is_closed, good_ended, closed_string, content_inner, quoted_inside, quoted_over, quoted_done, good_piece}
 
@@ -112,7 +112,7 @@ module _ (text : List ℕ) (place : ℕ) (s : Ended.StringEnd) (e : ended (Ok s)
   unfolding quoted_from
   at_quote h =
       let none : quoted_from 0 end (drop end text) ≡ closed [] = rw (drop-cons text end 0 inside, h) in
-      let last : string_finish place end (0 + (end - (place + 1))) (closed []) ≡ answer = rw none at run in
+      let last : string_finish place end (0 + (end - (place + 1))) (closed []) ≡ answer = rw none at run.same in
       let after : s.next ≡ end + 1
       = is_next ∙ ap (λ (a : StringEnd). a.next) (sym last) ∙ finish_none place end (0 + (end - (place + 1))) (ap (λ (a : StringEnd). a.number) last ∙ sym found) in
       let size : s.next - 1 - (place + 1) ≡ plains text (place + 1) = omega arith in
@@ -133,10 +133,10 @@ module _ (text : List ℕ) (place : ℕ) (s : Ended.StringEnd) (e : ended (Ok s)
       = rw escape (escape_longer (drop (end + 1) text) (true_T (rw escape at good))) in
       let j : ℕ = end + length (piece_before p []) in
       let d : ℕ = 0 + (end - (place + 1)) + length (piece_value p) in
-      let rest : string_finish place j d (quoted_from 0 j (drop j text)) ≡ answer = turn text place end (0 + (end - (place + 1))) inside good ∙ run in
+      let rest : string_finish place j d (quoted_from 0 j (drop j text)) ≡ answer = turn text place end (0 + (end - (place + 1))) inside good ∙ run.same in
       omega (arith, is_next, is_size, rw rest at (finish_fits place j d (quoted_from 0 j (drop j text)) (ap (λ (a : StringEnd). a.number) rest ∙ sym found)))
 
   pub unescaped : s.length ≡ s.next - 1 - (place + 1) → Between
   unescaped h =
       bool_case (eqb (get_or text end 0) 0x22) (λ t. at_quote (eqb-true (get_or text end 0) 0x22 t))
-      (λ t. absurd (omega (arith, at_escape (eqb-false (get_or text end 0) 0x22 t) (not_raw (get_or text end 0) t (plain_ended text (place + 1) end refl inside)))))
+      (λ t. absurd (omega (arith, at_escape (eqb-false (get_or text end 0) 0x22 t) (not_raw (get_or text end 0) t (run.after inside)))))

@@ -6,11 +6,12 @@ use mathlib.Core.List.{List, [], ◌∷◌}
 use native.Mathlib.Nat.{add-zero, add_assoc}
 use native.Mathlib.Omega.{arith}
 use lib.Dec.{eqb, leb}
-use lib.ListN.{length, drop, get_or, length-append, drop_of_length-le}
+use lib.ListN.{length, drop, get_or, length-append, drop_of_length-le, get_or-eq_default}
 use lib.Seq.{drop-cons, drop-drop}
 use borrow.Author.Tests.{ne_eqb, leb-true, leb-false}
 use Rattle.std.specs.Prelude.{Some, None}
 use Rattle.base.proofs.Booleans.{bool_case}
+use Rattle.syntax.specs.rules.Byte.{is_raw}
 use Rattle.syntax.specs.rules.Syntax.{Piece, raw, is_piece, piece_before, pieces_before, piece_value, pieces_value}
 use Rattle.syntax.specs.reference.Scan.{Quoted, closed, unclosed, bad_escape, piece, escape_at, quoted_from}
 use Rattle.atoms.specs.Atom.{StringEnd, string_end, string_at, piece_at}
@@ -19,8 +20,8 @@ use Rattle.atoms.specs.declared.pieces.PieceSeen.{PieceSeen}
 use Rattle.atoms.specs.internal.PieceSeen.{piece_stands, piece_seen}
 use Rattle.atoms.specs.internal.Run.{plain_run}
 use Rattle.syntax.proofs.Strings.{piece_append}
-use Rattle.atoms.proofs.PieceAt.{piece_few, piece_good, piece_none, read_on, raw_piece}
-use Rattle.atoms.proofs.run.PlainRuns.{plains, raws, quoted_passed}
+use Rattle.atoms.proofs.PieceAt.{piece_few, piece_good, piece_none, read_on, piece_raw, raw_piece}
+use Rattle.atoms.proofs.run.PlainRuns.{plains, raws, quoted_passed, plain_ended}
 
 -- ---- the answer from a piece on
 
@@ -123,9 +124,10 @@ finish_raws (b ∷ r) n i d q =
     let next : (m : ℕ) → m + 1 + length r ≡ m + suc (length r) = λ m. omega arith in
     finish_piece n i d (raw b) (raws r q) ∙ finish_raws r n (i + 1) (d + 1) q ∙ rw (next i, next d)
 
--- After a run up to place `end`, whose bytes are counted in d, what follows finishes the string with the answer.
-abbrev pub RunEnd : List ℕ → ℕ → ℕ → ℕ → StringEnd → Type 0
-RunEnd text n end d answer = string_finish n end d (quoted_from 0 end (drop end text)) ≡ answer
+-- After a run up to place `end`, whose bytes are counted in d: what follows finishes the string with the answer, and no plain byte stands there.
+pub record RunEnd (text : List ℕ) (n end d : ℕ) (answer : StringEnd) : Type 0 where
+  pub same : string_finish n end d (quoted_from 0 end (drop end text)) ≡ answer
+  pub after : end < length text → is_raw (get_or text end 0) ≡ false
 
 pub run_end : (text : List ℕ) (n i d end : ℕ) (answer : StringEnd) → end ≡ i + plains text i
     → string_finish n i d (quoted_from 0 i (drop i text)) ≡ answer → RunEnd text n end (d + (end - i)) answer
@@ -133,19 +135,30 @@ run_end text n i d end answer e f =
     let size : end - i ≡ plains text i = omega arith in
     let passed : string_finish n i d (quoted_from 0 i (drop i text)) ≡ string_finish n (i + plains text i) (d + plains text i) (quoted_from 0 end (drop end text))
     = ap (string_finish n i d) (quoted_passed text i end e) ∙ finish_raws (plain_run (drop i text)) n i d (quoted_from 0 end (drop end text)) in
-    rw (size) (rw (← e) at (sym passed) ∙ f)
+    record { same = rw (size) (rw (← e) at (sym passed) ∙ f); after = plain_ended text i end e }
 
--- Where no piece stands.
-pub run_stopped : (text : List ℕ) (n end d : ℕ) (answer : StringEnd) → RunEnd text n end d answer
-    → (end < length text → None ≡ piece_seen end (piece_at (drop end text))) → stopped_at n end d (drop end text) ≡ answer
-unfolding stopped_at
-run_stopped text n end d answer r h =
+pub escape_inside : (text : List ℕ) (i : ℕ) → get_or text i 0 ≡ 0x5C → i < length text
+escape_inside text i e =
+    bool_case (leb (length text) i)
+    (λ h. absurd (omega (arith, get_or-eq_default text 0 (leb-true (length text) i h))))
+    (leb-false (length text) i)
+
+-- What stands there is no escape, or no good one.
+pub run_stopped : {text : List ℕ} {n end d : ℕ} {answer : StringEnd} → RunEnd text n end d answer → (get_or text end 0 ≡ 0x5C → ⊥)
+    → stopped_at n end d (drop end text) ≡ answer
+unfolding stopped_at is_piece
+run_stopped {text} {n} {end} {d} r h =
     bool_case (leb (length text) end)
     (λ e. let past : length text ≤ end = leb-true (length text) end e in
-    rw (drop_of_length-le text past) (sym (at_end text n end d past) ∙ r))
+    rw (drop_of_length-le text past) (sym (at_end text n end d past) ∙ r.same))
     (λ e. let inside : end < length text = leb-false (length text) end e in
-    sym (stop text n end d inside (piece_none _ end (h inside))) ∙ r)
+    let none : is_piece (piece_at (drop end text)) ≡ false = ap is_piece (piece_raw text end h) ∙ r.after inside in
+    sym (stop text n end d inside none) ∙ r.same)
 
--- A piece that the code has stands inside the text.
-pub piece_inside : (text : List ℕ) (i : ℕ) (q : PieceSeen) → (length text ≤ i → Some q ≡ None) → i < length text
-piece_inside text i q h = bool_case (leb (length text) i) (λ e. let no = h (leb-true (length text) i e) in cc) (leb-false (length text) i)
+pub run_bad : {text : List ℕ} {n end d : ℕ} {answer : StringEnd} → RunEnd text n end d answer → get_or text end 0 ≡ 0x5C
+    → None ≡ piece_seen end (piece_at (drop end text)) → bad_string_end end ≡ answer
+unfolding stopped_at
+run_bad {text} {n} {end} {d} r e f =
+    let inside : end < length text = escape_inside text end e in
+    let at : stopped_at n end d (drop end text) ≡ bad_string_end end = rw (drop-cons text end 0 inside, e) in
+    sym at ∙ sym (stop text n end d inside (piece_none _ end f)) ∙ r.same

@@ -12,24 +12,24 @@ loop-i-init c = string_start c.args.text.now c.args.place _
 
 pub returns-in_default : goal.returns-in_default
 returns-in_default c =
-    string_stopped c.args.text.now c.args.place _ c.loop-i.i c.loop-i.invariant c.loop-i-test.true (c.in_default.ensures.seen c.loop-i-test.true)
+    string_stopped c.args.text.now c.args.place _ c.loop-i.i c.loop-i.invariant c.loop-i-test.true (c.in_default.ensures c.loop-i-test.true)
 
 pub returns-then-not-character : goal.returns-then-not-character
 returns-then-not-character c =
     c.is_err.ensures.value
-    ∙ string_refused c.args.text.now c.args.place _ c.loop-i.i c.loop-i.invariant c.loop-i-test.true c.in-Some.p (c.in-Some.ensures.seen c.loop-i-test.true)
+    ∙ string_refused c.args.text.now c.args.place _ c.loop-i.i c.loop-i.invariant c.loop-i-test.true c.in-Some.p (c.in-Some.ensures c.loop-i-test.true)
     _ c.character.ensures c.if-not-character.true c.string_at.result c.string_at.ensures
 
 pub loop-i-smaller : goal.loop-i-smaller
 loop-i-smaller c =
     omega (
       arith,
-      string_further c.args.text.now c.args.place _ c.loop-i.i c.loop-i.invariant c.loop-i-test.true c.in-Some.p (c.in-Some.ensures.seen c.loop-i-test.true),
+      string_further c.args.text.now c.args.place _ c.loop-i.i c.loop-i.invariant c.loop-i-test.true c.in-Some.p (c.in-Some.ensures c.loop-i-test.true),
     )
 
 pub loop-i-preserved : goal.loop-i-preserved
 loop-i-preserved c =
-    string_turn c.args.text.now c.args.place _ c.loop-i.i c.loop-i.invariant c.loop-i-test.true c.in-Some.p (c.in-Some.ensures.seen c.loop-i-test.true)
+    string_turn c.args.text.now c.args.place _ c.loop-i.i c.loop-i.invariant c.loop-i-test.true c.in-Some.p (c.in-Some.ensures c.loop-i-test.true)
     _ c.character.ensures c.if-not-character.false
 
 pub returns : goal.returns

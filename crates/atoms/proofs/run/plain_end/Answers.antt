@@ -5,7 +5,7 @@ use Rattle.atoms.proofs.run.PlainRuns.{plain_passed, plain_past, plain_one, plai
 use Rattle.atoms.proofs.run.plain_end.Goals as goal
 
 pub loop-i-init : goal.loop-i-init
-loop-i-init c = c.block_end-i.ensures ∙ c.blocks_end.ensures
+loop-i-init c = (omega arith, c.block_end-start.ensures ∙ c.blocks_end.ensures)
 
 pub returns-then-not-plain : goal.returns-then-not-plain
 returns-then-not-plain c = omega (
@@ -16,10 +16,11 @@ returns-then-not-plain c = omega (
 )
 
 pub loop-i-preserved : goal.loop-i-preserved
-loop-i-preserved c = plain_passed c.args.text.now c.loop-i.i 1
-    (sym (plain_one c.args.text.now c.loop-i.i
-    c.loop-i-test.true) ∙ sym c.plain.ensures ∙ c.if-not-plain.false)
-    ∙ c.loop-i.invariant
+loop-i-preserved c = (
+  omega arith,
+  plain_passed c.args.text.now c.loop-i.i 1 (sym (plain_one c.args.text.now c.loop-i.i c.loop-i-test.true) ∙ sym c.plain.ensures ∙ c.if-not-plain.false)
+      ∙ c.loop-i.invariant.1,
+)
 
 pub returns : goal.returns
 returns c = omega (arith, plain_past c.args.text.now c.loop-i.i c.loop-i-test.false, c.loop-i.invariant)

@@ -5,8 +5,8 @@ use lib.ListN.{length}
 use Rattle.atoms.proofs.Contents.{ContentSoFar}
 use Rattle.atoms.proofs.stores.put_runs.Given as goal
 
-abbrev pub invariant-loop-p : goal.invariant-loop-p
-invariant-loop-p l = (length l.out ≡ length l.initial.out) × ContentSoFar l.text l.place l.initial.out l.at l.out l.i l.k
+abbrev pub invariant-loop-place : goal.invariant-loop-place
+invariant-loop-place l = (length l.out ≡ length l.initial.out) × ContentSoFar l.text l.place l.initial.out l.at l.out l.i l.k
 
-abbrev pub decreases-loop-p : goal.decreases-loop-p
-decreases-loop-p l = length l.text - l.i
+abbrev pub decreases-loop-place : goal.decreases-loop-place
+decreases-loop-place l = length l.text - l.i

@@ -7,8 +7,8 @@ use Rattle.atoms.specs.Atom.{string_at}
 use Rattle.atoms.proofs.string.StringSteps.{string_finish}
 use Rattle.atoms.proofs.string.string_at.Given as goal
 
-abbrev pub invariant-loop-p : goal.invariant-loop-p
-invariant-loop-p l = (l.length ≤ l.i) × (string_finish l.place l.i l.length (quoted_from 0 l.i (drop l.i l.text)) ≡ string_at l.place (drop l.place l.text))
+abbrev pub invariant-loop-place : goal.invariant-loop-place
+invariant-loop-place l = (l.length ≤ l.i) × (string_finish l.place l.i l.length (quoted_from 0 l.i (drop l.i l.text)) ≡ string_at l.place (drop l.place l.text))
 
-abbrev pub decreases-loop-p : goal.decreases-loop-p
-decreases-loop-p l = lib.ListN.length l.text - l.i
+abbrev pub decreases-loop-place : goal.decreases-loop-place
+decreases-loop-place l = lib.ListN.length l.text - l.i
