@@ -10,7 +10,8 @@ ghost use Rattle.document.specs.rules.Visits.{child_count};
 ghost use Rattle.validate.specs.internal.CheckNumbers.{number_of, kept, checked};
 ghost use Rattle.validate.specs.internal.DocumentTable.{BeginsWithTable};
 ghost use Rattle.table.specs.Stored.{word_at};
-ghost use Rattle.validate.specs.internal.TableWords.{entries_from, ids_before, found, cells_found, Family, Below, Binder, Spot, Searched};
+ghost use Rattle.validate.specs.internal.EnteredIds.{entered_ids};
+ghost use Rattle.validate.specs.internal.TableWords.{entries_from, found, cells_found, Family, Below, Binder, Spot, Searched};
 
 use super::index::{IdIndex, Target};
 use super::lent::Table;
@@ -94,7 +95,7 @@ fn first_repeated(index: &mut IdIndex) -> Option<usize>
 
 // 17 and 18: the first node of this kind that names no such block.
 fn first_unknown(index: &IdIndex, kind: usize, target: Target) -> Option<usize>
-    ensures { result ≡ found (found_unknown_target kind (ids_before index.now.table.nodes.now index.now.table.pool.now target index.now.count)
+    ensures { result ≡ found (found_unknown_target kind (entered_ids index.now target)
         (entries_from index.now.table.nodes.now index.now.table.pool.now index.now.count 0)) }
 {
     let nodes = index.table.nodes;

@@ -5,7 +5,7 @@ ghost use Rattle.document.specs.rules.Record.{record_length};
 ghost use Rattle.document.specs.rules.Record as Word;
 ghost use Rattle.document.specs.reference.Check.{is_among, holds_id};
 ghost use Rattle.table.specs.Stored.{word_at};
-ghost use Rattle.validate.specs.internal.TableWords.{entry_of_node, wanted, ids_before, repeats_at};
+ghost use Rattle.validate.specs.internal.TableWords.{entry_of_node, wanted, repeats_at};
 ghost use Rattle.validate.specs.internal.IdIndex.{slot_of, Indexed};
 
 use super::lent::Table;
@@ -68,6 +68,8 @@ fn has_id(table: &Table, i: usize, target: Target) -> bool
 }
 
 impl<'a> IdIndex<'a> {
+    ghost use Rattle.validate.specs.internal.EnteredIds.{entered_ids};
+
     // No node has entered.
     pub fn new(table: Table<'a>) -> IdIndex<'a>
         requires { table.count ≤ most_nodes }
@@ -81,11 +83,12 @@ impl<'a> IdIndex<'a> {
         }
     }
 
-    // Whether a string of slot `s` is the id of such a block among the nodes that have entered.
+    // Whether a string of slot `s` is the id of such a block among the nodes that have entered. It stands in place at both callers, since a call
+    // would hand the string over in memory.
     #[inline(always)]
     fn known(&self, s: usize, id: &[u8], target: Target) -> bool
         requires { (s ≡ slot_of id.now) × (s < most_nodes) }
-        ensures { result ≡ is_among id.now (ids_before self.now.table.nodes.now self.now.table.pool.now target self.now.count) }
+        ensures { result ≡ is_among id.now (entered_ids self.now target) }
     {
         let mut j = self.heads[s] as usize;
         while 0 < j {
@@ -100,7 +103,7 @@ impl<'a> IdIndex<'a> {
 
     // The same of any string.
     pub fn knows(&self, id: &[u8], target: Target) -> bool
-        ensures { result ≡ is_among id.now (ids_before self.now.table.nodes.now self.now.table.pool.now target self.now.count) }
+        ensures { result ≡ is_among id.now (entered_ids self.now target) }
     {
         self.known(slot(id), id, target)
     }

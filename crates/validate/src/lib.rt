@@ -26,6 +26,7 @@ pub struct Checked {
 }
 
 impl Checked {
+    // A number, and the node that it is of.
     fn at(number: u32, node: u32) -> Checked
         ensures { (result.number ≡ number) × (result.node ≡ node) }
     {

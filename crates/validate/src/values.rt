@@ -76,10 +76,7 @@ fn take_size(kind: u8, state: u8, width: usize, height: usize) -> Option<u8>
     if width == MISSING {
         return Some(state);
     }
-    if MOST_SIZE < width {
-        return None;
-    }
-    if MOST_SIZE < height {
+    if MOST_SIZE < width || MOST_SIZE < height {
         return None;
     }
     state_after(kind, state, Keyword::SIZE.number)

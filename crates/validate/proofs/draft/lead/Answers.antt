@@ -12,9 +12,6 @@ use Rattle.validate.proofs.draft.lead.Goals.{else-row-end-via-then-row-end+else-
 pub returns-then-value_levels-eq0 : goal.returns-then-value_levels-eq0
 returns-then-value_levels-eq0 c = lead_none c.args.row.now _ _ (sym c.value_levels.ensures ∙ c.if-value_levels-eq0.true)
 
-pub overflow_add-row : goal.overflow_add-row
-overflow_add-row c = let row = c.args.row.now in omega (arith, row.within, row.table.now.few)
-
 pub returns-then-is_titled : goal.returns-then-is_titled
 returns-then-is_titled c = lead_due c.args.row.now _ _ (sym c.is_titled.ensures ∙ c.if-is_titled.true) c.if-row-end.true
 

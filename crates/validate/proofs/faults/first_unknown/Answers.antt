@@ -1,8 +1,6 @@
 -- `faults::first_unknown` meets its contract.
-use Prim.Native.Nat.{◌-◌}
 use mathlib.Core.Path.{◌≡◌, ◌∙◌, sym, ap}
 use mathlib.Core.Bool.{true, false, not, ◌&&◌}
-use native.Mathlib.Omega.{arith}
 use lib.Dec.{eqb}
 use borrow.Author.Tests.{eq-eqb, ne_eqb}
 use Rattle.document.specs.reference.Check.{is_among}
@@ -11,12 +9,6 @@ use Rattle.validate.specs.internal.TableWords.{found, key_at, ids_before}
 use Rattle.validate.proofs.lemmas.index.BlockIds.{kind_read, unknown_here, unknown_on, unknown_end}
 use Rattle.validate.proofs.faults.first_unknown.Goals as goal
 use Rattle.validate.proofs.faults.first_unknown.Goals.{else-nodes-i-via-then-nodes-i+else-not-knows, else-nodes-i-via-else-nodes-i}
-
-pub loop-i-init : goal.loop-i-init
-loop-i-init c =
-    let count = c.args.index.now.count in
-    let e : count - 0 ≡ count = omega arith in
-    rw e
 
 pub returns-then-not-knows : goal.returns-then-not-knows
 unfolding found

@@ -2,16 +2,8 @@
 use mathlib.Core.Path.{◌∙◌, sym}
 use native.Mathlib.Omega.{arith}
 use Rattle.validate.specs.internal.TableWords.{cells_found}
-use Rattle.validate.proofs.lemmas.faults.Children.{sought_start, sought_head, sought_on, sought_end}
+use Rattle.validate.proofs.lemmas.faults.Children.{sought_head, sought_on, sought_end}
 use Rattle.validate.proofs.faults.head_names.Goals as goal
-
-pub returns-then-end-t : goal.returns-then-end-t
-returns-then-end-t c = λ ns f. absurd (omega (arith, c.word-end.ensures, f.0))
-
-pub loop-at-init : goal.loop-at-init
-loop-at-init c = let args = c.args in
-    let word = c.word-end in
-    λ ns f. sought_start args.nodes.now args.t word.result ns f (sym word.ensures)
 
 pub returns-then-word-eq-HEAD : goal.returns-then-word-eq-HEAD
 unfolding cells_found

@@ -7,10 +7,10 @@ use borrow.Author.Tests.{eq-eqb, ne_eqb}
 use Rattle.elements.specs.rules.Class as Class
 use Rattle.document.specs.rules.Document.{Node, node, Nodes, childless, child}
 use Rattle.document.specs.rules.Table.{count, count_all}
-use Rattle.document.specs.reference.Check.{Cells, any_number, exactly, head_cells, cells_in}
+use Rattle.document.specs.reference.Check.{any_number, exactly, head_cells, cells_in}
 use Rattle.document.specs.rules.Visits.{child_count}
 use Rattle.table.specs.Stored.{word_at}
-use Rattle.validate.specs.internal.TableWords.{Shape, Shapes, Family, Below, in_table, in_body, elsewhere}
+use Rattle.validate.specs.internal.TableWords.{Shape, Shapes, Family}
 
 -- The siblings from number i on that end at e: none, or one and those from its end on.
 pub record FirstSibling (words : List ℕ) (p i e : ℕ) (ms : Nodes) : Type 0 where
@@ -48,9 +48,6 @@ pub record HeadSought (words : List ℕ) (p i e : ℕ) (ns : Nodes) : Type 0 whe
   pub sought : cells_in left ≡ cells_in ns
 
 module _ (words : List ℕ) (p e : ℕ) (ns : Nodes) where
-  pub counted_start : Family words p ns → word_at words p 2 ≡ e → ChildrenCounted words p (p + 1) e 0 ns
-  counted_start f q = record { left = ns; shapes = f.1; ends = omega (arith, f.0); total = omega arith }
-
   pub counted_on : (i n : ℕ) → ChildrenCounted words p i e n ns → i < e → (i < word_at words i 2) × ChildrenCounted words p (word_at words i 2) e (n + 1) ns
   unfolding child_count
   counted_on i n c l =
@@ -63,9 +60,6 @@ module _ (words : List ℕ) (p e : ℕ) (ns : Nodes) where
   counted_end i n c l =
       let q : n + child_count childless ≡ child_count ns = rw (no_more c.left i e c.ends l) at c.total in
       omega arith
-
-  pub sought_start : Family words p ns → word_at words p 2 ≡ e → HeadSought words p (p + 1) e ns
-  sought_start f q = record { left = ns; shapes = f.1; ends = omega (arith, f.0); sought = refl }
 
   -- A head is found.
   pub sought_head : (i : ℕ) → HeadSought words p i e ns → i < e → word_at words i 0 ≡ Class.head
@@ -94,10 +88,3 @@ module _ (words : List ℕ) (p e : ℕ) (ns : Nodes) where
   pub sought_end : (i : ℕ) → HeadSought words p i e ns → e < suc i → cells_in ns ≡ any_number
   unfolding cells_in
   sought_end i c l = sym c.sought ∙ rw (no_more c.left i e c.ends l)
-
--- What binds the children of a body binds the body.
-pub up : (words : List ℕ) (i : ℕ) (c : Cells) → word_at words i 0 ≡ Class.body → Below words i c
-    → (word_at words i 1 < i) × Below words (word_at words i 1) c
-up words i c k (in_table ns t f) = absurd (omega arith)
-up words i c k (in_body b l r) = (l, r)
-up words i c k (elsewhere t b) = absurd (b k)

@@ -1,6 +1,6 @@
 -- `IdIndex::repeats` meets its contract.
-use mathlib.Core.Path.{◌≡◌, ◌∙◌, refl, sym, ap}
-use mathlib.Core.Bool.{true, false, true≢false}
+use mathlib.Core.Path.{◌≡◌, ◌∙◌, sym, ap}
+use mathlib.Core.Bool.{true, false}
 use native.Mathlib.Omega.{arith}
 use Rattle.document.specs.reference.Check.{holds_id}
 use Rattle.validate.specs.internal.TableWords.{key_at, entry_of_node}
@@ -18,20 +18,6 @@ returns-then-not-has_id c =
     let h : holds_id (entry_of_node now.table.nodes.now now.table.pool.now now.count) ≡ false =
     sym (any_block _ _ _) ∙ (sym c.has_id.ensures ∙ c.if-not-has_id.true) in
     (rw h, c.pass.ensures.0, λ e. c.pass.ensures.1)
-
-pub returns-then-known : goal.returns-then-known
-returns-then-known c =
-    let now = c.args.self.now in
-    let h : holds_id (entry_of_node now.table.nodes.now now.table.pool.now now.count) ≡ true =
-    sym (any_block _ _ _) ∙ (sym c.has_id.ensures ∙ c.if-not-has_id.false) in
-    (rw (h, ← c.key-id.ensures) (sym c.if-known.true ∙ c.known.ensures), refl, λ e. absurd (true≢false e))
-
-pub returns : goal.returns
-returns c =
-    let now = c.args.self.now in
-    let h : holds_id (entry_of_node now.table.nodes.now now.table.pool.now now.count) ≡ true =
-    sym (any_block _ _ _) ∙ (sym c.has_id.ensures ∙ c.if-not-has_id.false) in
-    (rw (h, ← c.key-id.ensures) (sym c.if-known.false ∙ c.known.ensures), refl, λ e. refl)
 
 pub invariant_of-self-clause-indexed : goal.invariant_of-self-clause-indexed
 invariant_of-self-clause-indexed c =
