@@ -1,4 +1,5 @@
 // A name's length and one or two of its bytes leave one word that it can be, and it is compared with that.
+// Tried: one `match name { b"part" => .., .. }` over all thirty leaves two hundred goals open, one for each way down its tree of tests.
 ghost use Rattle.std.specs.Prelude.{◌≡◌, cond, length};
 ghost use Rattle.elements.specs.rules.Bytes.{same};
 ghost use Rattle.elements.specs.rules.Class.{class_of};
