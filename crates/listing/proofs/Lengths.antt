@@ -1,19 +1,31 @@
 -- How long the lines are at most: a number below 2^32 has at most ten digits.
 use mathlib.Core.List.{List}
-use Prim.Native.Nat.{ℕ, zero, suc, ◌+◌, ◌*◌, ◌^◌, ◌≤◌, ◌<◌}
+use Prim.Native.Nat.{ℕ, zero, suc, ◌+◌, ◌*◌, ◌/◌, ◌^◌, ◌≤◌, ◌<◌}
+use native.Mathlib.Nat.{pow-suc}
 use native.Mathlib.Omega.{arith}
-use lib.Dec.{eqb}
+use lib.Dec.{eqb, ltb}
 use lib.ListN.{length, get_or, length-append}
-use Rattle.std.proofs.lemmas.Fmt.{length-decimal-le}
+use borrow.Author.Tests.{ltb-true, ltb-false}
 use Rattle.document.specs.rules.Record.{record_length}
-use Rattle.base.proofs.Booleans.{cond_case}
+use Rattle.base.proofs.Booleans.{bool_case, cond_case}
 use Rattle.elements.specs.rules.Bytes.{codes}
 use Rattle.base.specs.rules.Limits.{missing}
 use Rattle.listing.specs.Listing.{numeral, parent_word, node_line, line_of_node, node_lines, header_line, document_lines, refused_line}
-use Rattle.listing.proofs.Decimals.{numeral_decimal}
+use Rattle.listing.proofs.Decimals.{decimal_one, decimal_more}
+
+decimal_length : (k n : ℕ) → n < 10 ^ suc k → length (numeral n) ≤ suc k
+decimal_length zero n h = rw (decimal_one n (omega arith)) (omega arith)
+decimal_length (suc k) n h =
+    bool_case
+    (ltb n 10)
+    (λ e. rw (decimal_one n (ltb-true n 10 e)) (omega arith))
+    (λ e.
+    let below : n < 10 ^ suc k * 10 = rw (pow-suc 10 (suc k)) at h in
+    let shorter = decimal_length k (n / 10) (omega arith) in
+    rw (decimal_more n (ltb-false n 10 e), length-append) (omega arith))
 
 ten : (n : ℕ) → n < 2 ^ 32 → length (numeral n) ≤ 10
-ten n h = rw (numeral_decimal n (omega arith)) (length-decimal-le 10 n (omega arith) (omega arith) (omega arith))
+ten n h = decimal_length 9 n (omega arith)
 
 parent_length : (p : ℕ) → p < 2 ^ 32 → length (parent_word p) ≤ 10
 unfolding parent_word codes

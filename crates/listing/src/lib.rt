@@ -48,8 +48,13 @@ impl Output<'_> {
     fn decimal(&mut self, n: u32)
         ensures { Appends self.old (numeral n) self.new }
     {
-        let mut digits = itoa::Buffer::new();
-        self.bytes(digits.format(n).as_bytes());
+        // By hand: the kit's `itoa` does the same, and would be one crate more to rest on.
+        if n < 10 {
+            self.byte(b'0' + n as u8);
+            return;
+        }
+        self.decimal(n / 10);
+        self.byte(b'0' + (n % 10) as u8);
     }
 
     // A number and the byte that ends it.
