@@ -1,5 +1,6 @@
 -- The code's own types for those of the rules.
-use Rattle.std.specs.Prelude.{ℕ}
+use Rattle.std.specs.Prelude.{ℕ, ◌≡◌}
+use Rattle.elements.specs.rules.Characters.{character_of}
 use Rattle.syntax.specs.rules.Byte as Byte
 use Rattle.characters.specs.declared.class.Bracket.{Bracket}
 use Rattle.characters.specs.declared.class.Bracket.TheVariants.{Round, Square}
@@ -27,3 +28,7 @@ unfoldable pub alphabet_number : Alphabet → ℕ
 alphabet_number «Type» = 0
 alphabet_number Id = 1
 alphabet_number Uri = 2
+
+-- The alphabet has the characters of this sort.
+abbrev pub IsAlphabetOf : ℕ → Alphabet → Type 0
+IsAlphabetOf n a = (b : ℕ) → character_of (alphabet_number a) b ≡ character_of n b

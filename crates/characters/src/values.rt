@@ -11,6 +11,23 @@ pub enum Alphabet {
     Uri,
 }
 
+// The alphabet that a number stood for: 0 is a type's, 1 an id's, and any other a URI's.
+impl From<u8> for Alphabet {
+    ghost use Rattle.characters.specs.Codes.{IsAlphabetOf};
+
+    ghost from_gives = { IsAlphabetOf };
+
+    fn from(sort: u8) -> Alphabet {
+        if sort == 0 {
+            return Alphabet::Type;
+        }
+        if sort == 1 {
+            return Alphabet::Id;
+        }
+        Alphabet::Uri
+    }
+}
+
 #[tactic(auto, unfolding(elements::specs::rules::Characters::type_character, elements::specs::rules::Characters::is_letter, elements::specs::rules::Characters::is_digit))]
 fn type_character(b: u8) -> bool
     ensures { result ≡ type_character b }
