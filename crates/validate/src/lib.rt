@@ -21,7 +21,7 @@ use lent::Table;
 // A step that finds no fault, in a byte.
 const OK: u8 = base::number::OK as u8;
 
-// 20, or a fault 15 to 18 with the number of the first node that has it, or 0 at node 0.
+// 20, or a fault 15 to 18 with the number of the first node that has it, or 0 at node 0: the numbers that `structural_check` answers to C.
 #[derive(Clone, Copy)]
 pub struct Checked {
     pub number: u32,
