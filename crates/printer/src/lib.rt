@@ -10,10 +10,10 @@ ghost use Rattle.document.specs.reference.Printing.{printing};
 ghost use Rattle.printer.specs.Prints.{Prints};
 
 use base::number;
-use spell::Table;
+use spell::spelled;
 use table::RECORD;
 
-// "Printing returns number and length." They stay numbers: `printed` of structural/specs/Demands.antt names both, and C has them as two words.
+// "Printing returns number and length."
 #[derive(Clone, Copy)]
 pub struct Printed {
     pub number: u32,
@@ -39,19 +39,17 @@ pub fn print(
     }
     let words = RECORD * (node_count as usize);
     let bytes = pool_count as usize;
-    let table = Table {
-        nodes: &nodes[..words],
-        pool: &pool[..bytes],
-    };
+    let table = &nodes[..words];
+    let strings = &pool[..bytes];
     let mut nothing = [0u8; 1];
-    let length = table.spelled(&mut nothing);
+    let length = spelled(table, strings, &mut nothing);
     if out.len() < length {
         return Printed {
             number: number::OUTPUT_SHORT,
             length: length as u32,
         };
     }
-    table.spelled(out);
+    spelled(table, strings, out);
     Printed {
         number: number::OK,
         length: length as u32,

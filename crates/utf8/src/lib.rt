@@ -15,11 +15,10 @@ pub struct LineColumn {
 
 // The leading one bits of a byte: two to four in the first byte of a multi-byte sequence, as many as
 // the sequence has bytes.
-#[tactic(auto, unfolding(crate::specs::reference::Sequence::leading_ones))]
 fn leading_ones(b: u8) -> u32
     ensures { result ≡ leading_ones b }
 {
-    b.leading_ones()
+    u8::leading_zeros(!b)
 }
 
 // The lowest second byte after a first byte: what is lower would make an overlong form.

@@ -18,7 +18,7 @@ use draft::is_table;
 use faults::check_table;
 use lent::Table;
 
-// 20, or a fault 15 to 18 with the number of the first node that has it, or 0 at node 0.
+// 20, or a fault 15 to 18 with the number of the first node that has it, or 0 at node 0: the numbers that `structural_check` answers to C.
 #[derive(Clone, Copy)]
 pub struct Checked {
     pub number: u32,

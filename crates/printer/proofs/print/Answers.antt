@@ -11,8 +11,8 @@ pub slice_bounds-table-end : goal.slice_bounds-table-end
 slice_bounds-table-end c = sym (length-take-le _ _
     (words_within _ _ _ _ c.args.out.now _ c.is_draft.ensures (c.if-not-is_draft.false)))
 
-pub slice_bounds-table-end-2 : goal.slice_bounds-table-end-2
-slice_bounds-table-end-2 c = sym (length-take-le _ _
+pub slice_bounds-strings-end : goal.slice_bounds-strings-end
+slice_bounds-strings-end c = sym (length-take-le _ _
     (bytes_within _ _ _ _ c.args.out.now _ c.is_draft.ensures (c.if-not-is_draft.false)))
 
 pub returns-then-out-length : goal.returns-then-out-length

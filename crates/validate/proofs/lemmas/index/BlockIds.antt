@@ -9,6 +9,7 @@ use lib.Dec.{eqb, leb}
 use lib.ListN.{length, get_or}
 use lib.Pointwise.{pointwise, bytes_decides}
 use borrow.Author.Tests.{lt-leb, ne_eqb, eqb-true}
+use Rattle.std.proofs.lemmas.Bool.{and_parts}
 use Rattle.base.proofs.Booleans.{bool_case, and_false}
 use Rattle.elements.specs.rules.Bytes.{same}
 use Rattle.elements.specs.rules.Class.{is_block}
@@ -27,10 +28,6 @@ unfolding word_at
 kind_read words i =
     let e : record_length * i ≡ record_length * i + 0 = omega arith in
     ap (λ (n : ℕ). get_or words n 0) e
-
-pub and_both : (a b : Bool) → a && b ≡ true → (a ≡ true) × (b ≡ true)
-and_both true b e = (refl, e)
-and_both false b e = (e, cc)
 
 -- What `==` of two strings answers is what the test of the definitions does.
 pub equal_same : {answer : Bool} (s t : List ℕ) → answer ≡ pointwise eqb s t → answer ≡ same s t
@@ -127,7 +124,7 @@ module _ (words bytes : List ℕ) where
   pub repeated_here : (count i : ℕ) → i < count → repeats_at words bytes i ≡ true → found_repeated_id (ids_before words bytes Block i) (rest count i) ≡ at_node i
   unfolding found_repeated_id
   repeated_here count i l e =
-      let b = and_both (holds_id (entry_of_node words bytes i)) (is_among (key_at words bytes i) (ids_before words bytes Block i)) e in
+      let b = and_parts (holds_id (entry_of_node words bytes i)) (is_among (key_at words bytes i) (ids_before words bytes Block i)) e in
       rw (rest_cons count i l, b.0, b.1)
 
   pub repeated_on : (count i : ℕ) → i < count → repeats_at words bytes i ≡ false

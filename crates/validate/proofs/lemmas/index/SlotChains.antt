@@ -10,6 +10,7 @@ use lib.Dec.{eqb}
 use lib.ListN.{length, drop, drop_of_length-le, get_or, set, length-set, replicate, length-replicate, get_or-replicate}
 use lib.Seq.{drop-cons, get_or-set_same, get_or-set_other}
 use borrow.Author.Tests.{eq-eqb, eqb-true, eqb-false}
+use Rattle.std.proofs.lemmas.Bool.{and_parts}
 use Rattle.base.proofs.Booleans.{bool_case, cond_case, not_T_false}
 use Rattle.elements.specs.rules.Bytes.{same}
 use Rattle.elements.proofs.Same.{same_equal}
@@ -17,7 +18,7 @@ use Rattle.document.specs.reference.Check.{holds_id, is_among}
 use Rattle.validate.specs.declared.index.Target.{Target}
 use Rattle.validate.specs.internal.TableWords.{key_at, entry_of_node, ids_before}
 use Rattle.validate.specs.internal.IdIndex.{mixed, slot_of, last_in, Indexed}
-use Rattle.validate.proofs.lemmas.index.BlockIds.{and_both, id_wanted}
+use Rattle.validate.proofs.lemmas.index.BlockIds.{id_wanted}
 
 pub slot_below : (id : List ℕ) → slot_of id < 4096
 unfolding slot_of
@@ -65,7 +66,7 @@ module _ (words bytes : List ℕ) where
 
     passed : (n : ℕ) → in_slot (slot_of id) n ≡ false → is_among id (ids_before words bytes target n) ≡ is_among id (ids_before words bytes target (suc n))
     unfolding is_among ids_before
-    passed n e = bool_case (id_wanted words bytes target n) (λ h. rw (h, other_slot n e (and_both _ _ h).1)) (λ h. rw h)
+    passed n e = bool_case (id_wanted words bytes target n) (λ h. rw (h, other_slot n e (and_parts _ _ h).1)) (λ h. rw h)
 
     last_among : (n : ℕ) → is_among id (ids_before words bytes target (last_in words bytes (slot_of id) n)) ≡ is_among id (ids_before words bytes target n)
     unfolding last_in
@@ -92,14 +93,14 @@ module _ (words bytes : List ℕ) where
       pub left_next : (j : ℕ) → 0 < j → LeftInSlot n j
           → is_among id (ids_before words bytes target (j - 1)) ≡ is_among id (ids_before words bytes target j) → LeftInSlot n (get_or nexts (j - 1) 0)
       left_next j l y e =
-          let (h, s) = and_both _ _ (y.in_slot_lem l) in
+          let (h, s) = and_parts _ _ (y.in_slot_lem l) in
           let lt : j - 1 < n = omega (arith, y.within) in
           let q : slot_of (key_at words bytes (j - 1)) ≡ slot_of id = eqb-true _ _ s in
           rw (x.before_in (j - 1) lt h, q) (left_at n (j - 1) (omega arith) (e ∙ y.among))
 
       pub next_below : (j : ℕ) → 0 < j → LeftInSlot n j → get_or nexts (j - 1) 0 < j
       next_below j l y =
-          let (h, s) = and_both _ _ (y.in_slot_lem l) in
+          let (h, s) = and_parts _ _ (y.in_slot_lem l) in
           let lt : j - 1 < n = omega (arith, y.within) in
           rw (x.before_in (j - 1) lt h) (omega (arith, last_le (slot_of (key_at words bytes (j - 1))) (j - 1)))
 
