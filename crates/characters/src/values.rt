@@ -18,13 +18,11 @@ impl From<u8> for Alphabet {
     ghost from_gives = { IsAlphabetOf };
 
     fn from(sort: u8) -> Alphabet {
-        if sort == 0 {
-            return Alphabet::Type;
+        match sort {
+            0 => Alphabet::Type,
+            1 => Alphabet::Id,
+            _ => Alphabet::Uri,
         }
-        if sort == 1 {
-            return Alphabet::Id;
-        }
-        Alphabet::Uri
     }
 }
 

@@ -15,10 +15,8 @@ fn follows(text: &[u8], i: usize, word: &[u8]) -> bool
     ensures { result ≡ stands text.now i word.now }
 {
     let mut same = true;
-    let mut k = 0;
-    while k < word.len() {
-        same = same & (text[i + k] == word[k]);
-        k += 1;
+    for k in 0..word.len() {
+        same &= text[i + k] == word[k];
     }
     same
 }

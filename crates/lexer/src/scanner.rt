@@ -82,6 +82,7 @@ pub fn scan(text: &[u8], room: usize) -> Result<(), Fault>
     let limit = room.min(NESTED_LEVELS);
     let mut open = OpenBrackets::new();
     let mut i: usize = 0;
+    // no count: a step is as long as what stands there
     while i < text.len() {
         match byte_class(text[i]) {
             // nearly every byte is of one of these two classes

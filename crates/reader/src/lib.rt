@@ -114,7 +114,8 @@ fn first_groups(spelling: Spelling, text: &[u8]) -> Result<(), GroupFault>
     Ok(())
 }
 
-// Judges a text that passed the first groups, in its spelling.
+// Judges a text that passed the first groups, in its spelling. The spelling is told here and not handed on as a closure, of which `read` would have to require
+// both clauses below.
 fn judge(spelling: Spelling, text: &[u8], tape: &mut Tape) -> Judged
     requires { length text.now ≤ most_bytes }
     ensures judges_text { JudgesText (spelled spelling) text.now (judged result) }
@@ -185,7 +186,7 @@ fn read(
     answer_at(text, number::OK, 0, counts.nodes, counts.pool)
 }
 
-// Reads a text in the nested spelling.
+// Reads a text in the nested spelling. C and Rust call either spelling by its name, and lend the three slices one by one.
 pub fn read_nested(text: &[u8], nodes: &mut [u32], places: &mut [u32], pool: &mut [u8]) -> Answer
     ensures { Reads nested text.now (record { nodes = nodes.entry.now; places = places.old; pool = pool.old }) result
         (record { nodes = nodes.exit.now; places = places.new; pool = pool.new }) }

@@ -19,7 +19,7 @@ pub extern "C" fn structural_read_nested(
     structural::structural_read_nested(text, nodes, places, pool, answer)
 }
 
-// read_imperative in the same way.
+// read_imperative in the same way: C has two names for them.
 #[unsafe(no_mangle)]
 pub extern "C" fn structural_read_imperative(
     text: &[u8],

@@ -22,6 +22,7 @@ fn leading_ones(b: u8) -> u32
 }
 
 // The lowest second byte after a first byte: what is lower would make an overlong form.
+// It stays apart from the highest, with which it shares no row.
 fn second_low(first: u8) -> u8
     ensures { result ≡ cond (eqb first 0xE0) 0xA0 (cond (eqb first 0xF0) 0x90 0x80) }
 {
@@ -130,6 +131,7 @@ pub fn valid_up_to(text: &[u8]) -> usize
     ensures { result ≡ valid_up_to text.now }
 {
     let mut i = 0;
+    // no count: a step is as long as what was seen
     while i < text.len() {
         if ascii_at::<16>(text, i) {
             i += 16;

@@ -117,6 +117,7 @@ fn child_count(nodes: &[u32], i: usize) -> usize
     }
     let mut at = i + 1;
     let mut n: usize = 0;
+    // no counted index: a sibling begins where the one before ends
     while at < end {
         let next = word(nodes, at, END);
         if next <= at {
