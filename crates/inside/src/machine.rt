@@ -1,6 +1,7 @@
 // What may stand inside an element, read from left to right (document 01, "Elements").
 // How far an element is read is a number: up to `MOST_PARAMETERS`, the parameters from that place of its row on may still come; at `AFTER_ID` or `AFTER_TYPE`,
 // one of `id?/type?` has come, and the other may; from `HOLDING` on it holds children, the first of the significance that is added to that.
+// State, kind and class stay numbers: `step` and `may_end` are public, and `InNumbers` and `state_of` of specs/Machine.antt, which they promise, are of numbers.
 ghost use Rattle.std.specs.Prelude.{◌-◌, ◌≤◌, ◌≡◌, Some, None, cond, not, true, ◌&&◌, [], ◌∷◌, eqb, drop};
 ghost use Rattle.base.specs.rules.Numbers as Number;
 ghost use Rattle.elements.specs.rules.Class as Class;

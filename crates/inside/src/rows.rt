@@ -28,6 +28,7 @@ impl Parameter {
 }
 
 // In a row's number a required parameter is its class, an optional one this and its class, and `id?/type?` this.
+// The rows hold numbers, and `parameter_at` gives the enum, so that `row_of` is a table of two words a kind in the program's constants.
 const MAY: u8 = 64;
 
 const ID_TYPE: u8 = 255;
