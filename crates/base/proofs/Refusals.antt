@@ -1,5 +1,4 @@
 -- A refusal's number is not 0.
-use Prim.Native.Nat.{ℕ}
 use mathlib.Core.Path.{◌≡◌}
 use native.Mathlib.Omega.{arith}
 use Rattle.base.specs.Refusals.{number}

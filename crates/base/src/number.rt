@@ -1,4 +1,5 @@
 // The numbers answered, under the names of specs/rules/Numbers.antt (document 01, "Numbers answered").
+// They stay numbers beside the enum `Refusal`: the public answers and the functions for C hold a number, and `OK` is no refusal.
 pub const OK: u32 = 0;
 
 pub const TEXT_TOO_LONG: u32 = 1;

@@ -10,6 +10,7 @@ use super::store::{store_all, store_byte};
 const GREATEST_WORD: usize = u32::MAX as usize;
 
 // The sum of two numbers where it fits a word of 32 bits, and else 0.
+// It stays 0 and no Option: `put_byte` and `put_bytes`, which are public, promise `word_sum` of specs/Adds.antt.
 pub fn word_sum(a: usize, n: usize) -> usize
     ensures { result ≡ word_sum a n }
 {

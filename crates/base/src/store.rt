@@ -1,13 +1,6 @@
 // Bytes stored at an index, as many as there are places for.
-ghost use Rattle.std.specs.Prelude.{◌≡◌, min, length, set};
+ghost use Rattle.std.specs.Prelude.{◌≡◌, set};
 ghost use Rattle.std.proofs.lemmas.List.Edits.{sets};
-
-// The lesser of two numbers.
-pub fn lesser(a: usize, b: usize) -> usize
-    ensures { result ≡ min a b }
-{
-    a.min(b)
-}
 
 // One byte, where there is such a place.
 pub fn store_byte(out: &mut [u8], at: usize, b: u8)

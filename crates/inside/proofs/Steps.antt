@@ -1,20 +1,23 @@
 -- The steps of `Inside` by what the code tests on each way, with the states as numbers.
+use Rattle.std.specs.Prelude.{Option, Some, None}
 use Prim.Native.Nat.{ℕ, ◌+◌, ◌-◌, ◌<◌, ◌≤◌}
 use mathlib.Core.Path.{◌≡◌, ◌∙◌, refl, sym, ap}
 use mathlib.Core.Logic.{⊎_elim}
-use mathlib.Core.Bool.{Bool, true, false, cond}
+use mathlib.Core.Bool.{Bool, true, false, cond, true≢false}
 use mathlib.Core.List.{List, [], ◌∷◌}
 use native.Mathlib.Nat.{eq-or-lt_of_le}
 use native.Mathlib.Omega.{arith}
-use lib.Dec.{eqb, ltb}
+use lib.Dec.{eqb}
 use lib.ListN.{drop}
 use lib.Seq.{drop-drop}
-use borrow.Author.Tests.{lt-ltb, le-ltb, ltb-true, ltb-false, eq-eqb, ne_eqb, eqb-true, eqb-false}
+use borrow.Author.Tests.{lt-ltb, le-ltb, eq-eqb, ne_eqb}
 use Rattle.elements.specs.rules.Class as Class
-use Rattle.elements.specs.rules.Rules.{Slot, must, may, id_type, Content, alternatives_of, rule_of}
+use Rattle.elements.specs.rules.Rules.{Slot, may, id_type, Content, alternatives_of, rule_of}
 use Rattle.elements.specs.rules.Inside.{expecting, holding, Step, go, bad, first_child_step, next_parameter, start, none_required, may_be_empty, ended}
 use Rattle.inside.specs.Machine.{alternative_of, state_of, step_of, fault_of, with_child, after_place, next_state, InNumbers}
-use Rattle.inside.specs.internal.Table.{led, begins_required}
+use Rattle.inside.specs.declared.rows.Parameter.{Parameter}
+use Rattle.inside.specs.declared.rows.Parameter.TheVariants.{Required, Optional, IdType}
+use Rattle.inside.specs.internal.Table.{led, is_required, begins_required}
 use Rattle.inside.proofs.Table.{past_four}
 
 -- An element begins in the state 0.
@@ -61,96 +64,86 @@ StepsTo t c ps i s n = (next_parameter ps t c ≡ s) × (after_place i ps c ≡ 
 pub led_on : {r s s' : Step} {m n n' : ℕ} → (r ≡ s) × (m ≡ n) → (r ≡ s') × (m ≡ n') → (s ≡ s') × (n ≡ n')
 led_on here there = (sym here.0 ∙ there.0, sym here.1 ∙ there.1)
 
--- The parameter at a place, as its number says.
-module _ (ps : List Slot) (place x : ℕ) (e : drop place ps ≡ led x (drop (place + 1) ps)) where
-  pub no_parameter_left : x ≡ 0 → drop place ps ≡ []
+-- The parameter at a place.
+module _ (ps : List Slot) (place : ℕ) where
+  abbrev Led : Option Parameter → Type 0
+  Led x = drop place ps ≡ led x (drop (place + 1) ps)
+
+  pub no_parameter_left : Led None → drop place ps ≡ []
   unfolding led
-  no_parameter_left z = e ∙ rw z
+  no_parameter_left e = e
 
-  required : (x ≡ 0 → ⊥) → x < 64 → drop place ps ≡ must x ∷ drop (place + 1) ps
-  unfolding led
-  required z l = e ∙ rw (ne_eqb x 0 z, lt-ltb x 64 l)
+  pub required_first : (x : Parameter) → is_required x ≡ true → Led (Some x) → none_required (drop place ps) ≡ false
+  unfolding led none_required
+  required_first (Required n) r e = rw e
+  required_first (Optional n) r e = absurd (true≢false (sym r))
+  required_first IdType r e = absurd (true≢false (sym r))
 
-  either : x ≡ 255 → drop place ps ≡ id_type ∷ []
-  unfolding led
-  either z = e ∙ rw z
+  pub not_required : (x : Parameter) → is_required x ≡ false → Led (Some x) → none_required (drop place ps) ≡ none_required (drop (place + 1) ps)
+  unfolding led none_required
+  not_required (Required n) r e = absurd (true≢false r)
+  not_required (Optional n) r e = rw e
+  not_required IdType r e = let here : drop place ps ≡ id_type ∷ [] = e in rw (← drop-drop 1 place ps, here)
 
-  optional : 64 ≤ x → (x ≡ 255 → ⊥) → drop place ps ≡ may (x - 64) ∷ drop (place + 1) ps
-  unfolding led
-  optional l z = e ∙ rw (ne_eqb x 0 (λ w. omega arith), le-ltb x 64 l, ne_eqb x 255 z)
-
-  pub required_first : (x ≡ 0 → ⊥) → x < 64 → none_required (drop place ps) ≡ false
-  unfolding none_required
-  required_first z l = rw (required z l)
-
-  pub not_required : 64 ≤ x → none_required (drop place ps) ≡ none_required (drop (place + 1) ps)
-  unfolding none_required
-  not_required l = by (eqb x 255) refl
-    where
-      by : (b : Bool) → eqb x 255 ≡ b → none_required (drop place ps) ≡ none_required (drop (place + 1) ps)
-      by true z =
-          let here : drop place ps ≡ id_type ∷ [] = either (eqb-true x 255 z) in
-          rw (← drop-drop 1 place ps, here)
-      by false z = rw (optional l (eqb-false x 255 z))
-
-  pub begins_with : (x ≡ 0 → ⊥) → ltb x 64 ≡ begins_required (drop place ps)
-  unfolding begins_required
-  begins_with z = by (ltb x 64) (eqb x 255) refl refl
-    where
-      by : (a b : Bool) → ltb x 64 ≡ a → eqb x 255 ≡ b → a ≡ begins_required (drop place ps)
-      by true b l e = rw (required z (ltb-true x 64 l))
-      by false true l e = rw (either (eqb-true x 255 e))
-      by false false l e = rw (optional (ltb-false x 64 l) (eqb-false x 255 e))
+  pub begins_with : (x : Parameter) → Led (Some x) → is_required x ≡ begins_required (drop place ps)
+  unfolding led begins_required
+  begins_with (Required n) e = rw e
+  begins_with (Optional n) e = rw e
+  begins_with IdType e = rw e
 
   module _ (t : Content) (c : ℕ) where
-    pub first_child : x ≡ 0 → StepsTo t c (drop place ps) place (first_child_step t c) (with_child c)
-    unfolding next_parameter after_place
-    first_child z = rw (no_parameter_left z) (refl, refl)
+    pub first_child : Led None → StepsTo t c (drop place ps) place (first_child_step t c) (with_child c)
+    unfolding led next_parameter after_place
+    first_child e = rw e (refl, refl)
 
-    pub absent : (x ≡ 0 → ⊥) → x < 64 → (c ≡ x → ⊥) → next_parameter (drop place ps) t c ≡ bad 9
-    unfolding next_parameter
-    absent z l n = rw (required z l, ne_eqb c x n)
+    module _ (n : ℕ) where
+      pub absent : Led (Some (Required n)) → (c ≡ n → ⊥) → next_parameter (drop place ps) t c ≡ bad 9
+      unfolding led next_parameter
+      absent e other = rw (e, ne_eqb c n other)
 
-    pub required_taken : (x ≡ 0 → ⊥) → x < 64 → c ≡ x → StepsTo t c (drop place ps) place (go (expecting (drop (place + 1) ps))) (place + 1)
-    unfolding next_parameter after_place
-    required_taken z l n = rw (required z l, eq-eqb c x n) (refl, refl)
+      pub required_taken : Led (Some (Required n)) → c ≡ n → StepsTo t c (drop place ps) place (go (expecting (drop (place + 1) ps))) (place + 1)
+      unfolding led next_parameter after_place
+      required_taken e same = rw (e, eq-eqb c n same) (refl, refl)
+
+      pub optional_taken : Led (Some (Optional n)) → c ≡ n → StepsTo t c (drop place ps) place (go (expecting (drop (place + 1) ps))) (place + 1)
+      unfolding led next_parameter after_place
+      optional_taken e same = rw (e, eq-eqb c n same) (refl, refl)
+
+      pub passed : Led (Some (Optional n)) → (c ≡ n → ⊥)
+          → StepsTo t c (drop place ps) place (next_parameter (drop (place + 1) ps) t c) (after_place (place + 1) (drop (place + 1) ps) c)
+      unfolding led next_parameter after_place
+      passed e other = rw (e, ne_eqb c n other) (refl, refl)
 
     -- of `id?/type?`, by the state that the class leads to
-    either_step : (k n : ℕ) (i y : Bool) → n ≡ cond i 5 (cond y 6 0)
-        → ((n ≡ 0 → ⊥) → go (state_of k n) ≡ cond i (go (expecting (may Class.type ∷ []))) (cond y (go (expecting (may Class.id ∷ []))) (first_child_step t c)))
-        × (n ≡ 0 → cond i (go (expecting (may Class.type ∷ []))) (cond y (go (expecting (may Class.id ∷ []))) (first_child_step t c)) ≡ first_child_step t c)
+    abbrev led_to : Bool → Bool → Option ℕ
+    led_to i y = cond i (Some 5) (cond y (Some 6) None)
+
+    either_step : (k n : ℕ) (i y : Bool) → Some n ≡ led_to i y
+        → (go (state_of k n) ≡ cond i (go (expecting (may Class.type ∷ []))) (cond y (go (expecting (may Class.id ∷ []))) (first_child_step t c)))
+        × (cond i 5 (cond y 6 (with_child c)) ≡ n)
     unfolding state_of
-    either_step k n true y h = ((λ z. rw h), (λ z. absurd (omega arith)))
-    either_step k n false true h = ((λ z. rw h), (λ z. absurd (omega arith)))
-    either_step k n false false h = ((λ z. absurd (z h)), (λ z. refl))
+    either_step k n true y h = let five : n ≡ 5 = cc in (rw five, sym five)
+    either_step k n false true h = let six : n ≡ 6 = cc in (rw six, sym six)
+    either_step k n false false h = cc
 
-    either_number : (n : ℕ) (i y : Bool) → n ≡ cond i 5 (cond y 6 0)
-        → ((n ≡ 0 → ⊥) → cond i 5 (cond y 6 (with_child c)) ≡ n) × (n ≡ 0 → cond i 5 (cond y 6 (with_child c)) ≡ with_child c)
-    either_number n true y h = ((λ z. sym h), (λ z. absurd (omega arith)))
-    either_number n false true h = ((λ z. sym h), (λ z. absurd (omega arith)))
-    either_number n false false h = ((λ z. absurd (z h)), (λ z. refl))
+    neither_step : (i y : Bool) → None ≡ led_to i y
+        → (cond i (go (expecting (may Class.type ∷ []))) (cond y (go (expecting (may Class.id ∷ []))) (first_child_step t c)) ≡ first_child_step t c)
+        × (cond i 5 (cond y 6 (with_child c)) ≡ with_child c)
+    neither_step true y h = cc
+    neither_step false true h = cc
+    neither_step false false h = (refl, refl)
 
-    pub either_taken : (k n : ℕ) → n ≡ cond (eqb c Class.id) 5 (cond (eqb c Class.type) 6 0) → x ≡ 255 → (n ≡ 0 → ⊥)
+    pub either_taken : (k n : ℕ) → Led (Some IdType) → Some n ≡ led_to (eqb c Class.id) (eqb c Class.type)
         → StepsTo t c (drop place ps) place (go (state_of k n)) n
-    unfolding next_parameter after_place
-    either_taken k n h z some =
-        rw (either z)
-        (sym ((either_step k n (eqb c Class.id) (eqb c Class.type) h).0 some), (either_number n (eqb c Class.id) (eqb c Class.type) h).0 some)
+    unfolding led next_parameter after_place
+    either_taken k n e h =
+        let (step, number) = either_step k n (eqb c Class.id) (eqb c Class.type) h in
+        rw e (sym step, number)
 
-    pub neither : (n : ℕ) → n ≡ cond (eqb c Class.id) 5 (cond (eqb c Class.type) 6 0) → x ≡ 255 → n ≡ 0
+    pub neither : Led (Some IdType) → None ≡ led_to (eqb c Class.id) (eqb c Class.type)
         → StepsTo t c (drop place ps) place (first_child_step t c) (with_child c)
-    unfolding next_parameter after_place
-    neither n h z none =
-        rw (either z) ((either_step 0 n (eqb c Class.id) (eqb c Class.type) h).1 none, (either_number n (eqb c Class.id) (eqb c Class.type) h).1 none)
-
-    pub optional_taken : 64 ≤ x → (x ≡ 255 → ⊥) → c ≡ x - 64 → StepsTo t c (drop place ps) place (go (expecting (drop (place + 1) ps))) (place + 1)
-    unfolding next_parameter after_place
-    optional_taken l z n = rw (optional l z, eq-eqb c (x - 64) n) (refl, refl)
-
-    pub passed : 64 ≤ x → (x ≡ 255 → ⊥) → (c ≡ x - 64 → ⊥)
-        → StepsTo t c (drop place ps) place (next_parameter (drop (place + 1) ps) t c) (after_place (place + 1) (drop (place + 1) ps) c)
-    unfolding next_parameter after_place
-    passed l z n = rw (optional l z, ne_eqb c (x - 64) n) (refl, refl)
+    unfolding led next_parameter after_place
+    neither e h = rw e (neither_step (eqb c Class.id) (eqb c Class.type) h)
 
 pub none_required_end : {ps : List Slot} → ps ≡ [] → none_required ps ≡ true
 unfolding none_required

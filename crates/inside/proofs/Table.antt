@@ -14,7 +14,7 @@ use Rattle.elements.specs.rules.Bytes.{among}
 use Rattle.elements.specs.rules.Class as Class
 use Rattle.elements.specs.rules.Rules.{Slot, must, may, id_type, alternatives_of, Rule, rules, rule_in, rule_of}
 use Rattle.elements.specs.rules.Inside.{some_has, allows, is_include, may_be_empty}
-use Rattle.inside.specs.internal.Table.{led, packed, code, bits}
+use Rattle.inside.specs.internal.Table.{led, coded, packed, code, bits}
 use Rattle.elements.proofs.Same.{each_among}
 use Rattle.elements.proofs.EachRow.{empty, each_kind}
 use Rattle.elements.proofs.Alternatives.{one_has}
@@ -102,8 +102,8 @@ stands x (may n ∷ ps) = eqb x (64 + n) && ltb x 255
 stands x (id_type ∷ []) = eqb x 255
 stands x (id_type ∷ (p ∷ ps)) = false
 
-led_stands : (x : ℕ) (ps : List Slot) → T (stands x ps) → ps ≡ led x (drop 1 ps)
-unfolding led stands
+led_stands : (x : ℕ) (ps : List Slot) → T (stands x ps) → ps ≡ led (coded x) (drop 1 ps)
+unfolding led coded stands
 led_stands x [] t = rw (eqb→eq x 0 t)
 led_stands x (must n ∷ ps) t =
     let (same, rest) = both (eqb x n) (leb 1 x && ltb x 64) t in
@@ -127,11 +127,11 @@ abbrev row_stands : Rule → Bool
 row_stands r = below (slot_stands r) 4
 
 pub slot_at : (k i : ℕ) → i < 4
-    → drop i (rule_of k).parameters ≡ led (packed (rule_of k).parameters / 2 ^ (8 * i) % 256) (drop (i + 1) (rule_of k).parameters)
+    → drop i (rule_of k).parameters ≡ led (coded (packed (rule_of k).parameters / 2 ^ (8 * i) % 256)) (drop (i + 1) (rule_of k).parameters)
 unfolding packed code stands rules
 slot_at k i h =
     led_stands _ _ (each_below (slot_stands (rule_of k)) 4 i h (each_kind row_stands tt k tt))
-    ∙ ap (led (packed (rule_of k).parameters / 2 ^ (8 * i) % 256)) (drop-drop 1 i (rule_of k).parameters)
+    ∙ ap (led (coded (packed (rule_of k).parameters / 2 ^ (8 * i) % 256))) (drop-drop 1 i (rule_of k).parameters)
 
 -- The bits of a row's number are the classes that may stand in it.
 abbrev class_alike : Rule → ℕ → Bool

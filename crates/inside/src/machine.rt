@@ -1,7 +1,8 @@
 // What may stand inside an element, read from left to right (document 01, "Elements").
 // How far an element is read is a number: up to `MOST_PARAMETERS`, the parameters from that place of its row on may still come; at `AFTER_ID` or `AFTER_TYPE`,
 // one of `id?/type?` has come, and the other may; from `HOLDING` on it holds children, the first of the significance that is added to that.
-ghost use Rattle.std.specs.Prelude.{◌-◌, ◌≤◌, ◌≡◌, cond, not, true, ◌&&◌, [], ◌∷◌, eqb, drop};
+// State, kind and class stay numbers: `step` and `may_end` are public, and `InNumbers` and `state_of` of specs/Machine.antt, which they promise, are of numbers.
+ghost use Rattle.std.specs.Prelude.{◌-◌, ◌≤◌, ◌≡◌, Some, None, cond, not, true, ◌&&◌, [], ◌∷◌, eqb, drop};
 ghost use Rattle.base.specs.rules.Numbers as Number;
 ghost use Rattle.elements.specs.rules.Class as Class;
 ghost use Rattle.elements.specs.rules.Rules.{may, alternatives_of, rule_of};
@@ -10,7 +11,7 @@ ghost use Rattle.base.specs.Refusals.{number};
 ghost use Rattle.inside.specs.Machine.{fault_number, state_number, after_id, after_type, holds_from, alternative_of, state_of, with_child, after_place, after_last, next_state, InNumbers};
 ghost use Rattle.inside.specs.internal.Table.{begins_required};
 
-use super::rows::{ID_TYPE, MAY, MOST_PARAMETERS, allowed, slot};
+use super::rows::{MOST_PARAMETERS, Parameter, allowed, parameter_at};
 use base::Refusal;
 use kind::{Keyword, Kind};
 
@@ -25,13 +26,11 @@ const ID: u8 = Keyword::ID.number;
 
 const TYPE: u8 = Keyword::TYPE.number;
 
+#[tactic(auto, using(std::proofs::lemmas::Bool::Decides::nat_tests), unfolding(elements::specs::rules::Inside::is_include))]
 fn is_include(class: u8) -> bool
     ensures { result ≡ is_include class }
 {
-    if class == Keyword::INCLUDE.number {
-        return true;
-    }
-    class == Keyword::IMPORT.number
+    class == Keyword::INCLUDE.number || class == Keyword::IMPORT.number
 }
 
 // The fault of a class that may not stand in a kind: include and import may stand in none.
@@ -73,17 +72,15 @@ fn next_child(kind: u8, state: u8, class: u8) -> Result<u8, Refusal>
     Ok(state)
 }
 
-// The state after one of `id?/type?`; 0 is neither.
-fn id_type(class: u8) -> u8
-    ensures { result ≡ cond (eqb class Class.id) after_id (cond (eqb class Class.type) after_type 0) }
+// The state after one of `id?/type?`, if the class is one of them.
+fn id_type(class: u8) -> Option<u8>
+    ensures { result ≡ cond (eqb class Class.id) (Some after_id) (cond (eqb class Class.type) (Some after_type) None) }
 {
-    if class == ID {
-        return AFTER_ID;
+    match class {
+        ID => Some(AFTER_ID),
+        TYPE => Some(AFTER_TYPE),
+        _ => None,
     }
-    if class == TYPE {
-        return AFTER_TYPE;
-    }
-    0
 }
 
 // The one of `id?/type?` that may still come, or the first child.
@@ -101,29 +98,27 @@ fn next_parameter(kind: u8, state: u8, class: u8) -> Result<u8, Refusal>
     ensures { InNumbers kind (next_parameter (drop state (rule_of kind).parameters) (rule_of kind).content class)
         (after_place state (drop state (rule_of kind).parameters) class) (fault_number result) (state_number result) }
 {
-    let mut place = state;
-    while place < MOST_PARAMETERS {
-        let parameter = slot(kind, place);
-        if parameter == 0 {
-            return first_child(kind, class);
-        }
-        if parameter < MAY {
-            if class != parameter {
-                return Err(Refusal::Absent);
+    for place in state..MOST_PARAMETERS {
+        match parameter_at(kind, place) {
+            None => return first_child(kind, class),
+            Some(Parameter::Required(required)) => {
+                if class != required {
+                    return Err(Refusal::Absent);
+                }
+                return Ok(place + 1);
             }
-            return Ok(place + 1);
-        }
-        if parameter == ID_TYPE {
-            let next = id_type(class);
-            if next == 0 {
-                return first_child(kind, class);
+            Some(Parameter::Optional(optional)) => {
+                if class == optional {
+                    return Ok(place + 1);
+                }
             }
-            return Ok(next);
+            Some(Parameter::IdType) => {
+                return match id_type(class) {
+                    Some(next) => Ok(next),
+                    None => first_child(kind, class),
+                };
+            }
         }
-        if class == parameter - MAY {
-            return Ok(place + 1);
-        }
-        place += 1;
     }
     first_child(kind, class)
 }
@@ -132,16 +127,12 @@ fn next_parameter(kind: u8, state: u8, class: u8) -> Result<u8, Refusal>
 fn none_required(kind: u8, state: u8) -> bool
     ensures { result ≡ none_required (drop state (rule_of kind).parameters) }
 {
-    let mut place = state;
-    while place < MOST_PARAMETERS {
-        let parameter = slot(kind, place);
-        if parameter == 0 {
-            return true;
+    for place in state..MOST_PARAMETERS {
+        match parameter_at(kind, place) {
+            None => return true,
+            Some(parameter) if parameter.is_required() => return false,
+            Some(_) => {}
         }
-        if parameter < MAY {
-            return false;
-        }
-        place += 1;
     }
     true
 }
@@ -150,21 +141,17 @@ fn none_required(kind: u8, state: u8) -> bool
 fn first_required(kind: u8) -> bool
     ensures { result ≡ begins_required (rule_of kind).parameters }
 {
-    let first = slot(kind, 0);
-    if first == 0 {
-        return false;
+    match parameter_at(kind, 0) {
+        Some(parameter) => parameter.is_required(),
+        None => false,
     }
-    first < MAY
 }
 
 // Whether a child of a class may stand first in a kind.
 fn takes_first(kind: u8, class: u8) -> bool
     ensures { result ≡ not (begins_required (rule_of kind).parameters) && allows (rule_of kind).content class }
 {
-    if first_required(kind) {
-        return false;
-    }
-    allowed(kind, class)
+    !first_required(kind) && allowed(kind, class)
 }
 
 // Whether a class is that of a child without significance, as most are, which is taken: it may stand in the kind, and no required parameter is still to come.

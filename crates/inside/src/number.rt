@@ -1,4 +1,5 @@
 // The numbers of the kinds as constants that a `match` takes.
+// Tried: `match` on a `Kind` in `row_of`. Its arms give the proof no field `is`, by which each row is computed, and the proof did not close.
 use kind::Kind;
 
 pub const DOCUMENT: u8 = Kind::DOCUMENT.number;

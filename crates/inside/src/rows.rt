@@ -3,7 +3,7 @@
 ghost use Rattle.std.specs.Prelude.{◌+◌, ◌≡◌, drop};
 ghost use Rattle.elements.specs.rules.Rules.{rule_of};
 ghost use Rattle.elements.specs.rules.Inside.{allows};
-ghost use Rattle.inside.specs.internal.Table.{led, packed, bits};
+ghost use Rattle.inside.specs.internal.Table.{is_required, led, packed, bits};
 
 use super::number;
 use kind::Keyword;
@@ -11,11 +11,27 @@ use kind::Keyword;
 // The parameters of a row are at most so many.
 pub const MOST_PARAMETERS: u8 = 4;
 
-// A required parameter is its class, and an optional one this and its class.
-pub const MAY: u8 = 64;
+// A parameter, in its place in the order: required or optional, of a class, or `id?/type?`, "either order".
+#[derive(Clone, Copy, Debug, PartialEq, Eq)]
+pub enum Parameter {
+    Required(u8),
+    Optional(u8),
+    IdType,
+}
 
-// `id?/type?`, "either order"
-pub const ID_TYPE: u8 = 255;
+impl Parameter {
+    pub fn is_required(self) -> bool
+        ensures { result ≡ is_required self }
+    {
+        matches!(self, Parameter::Required(_))
+    }
+}
+
+// In a row's number a required parameter is its class, an optional one this and its class, and `id?/type?` this.
+// The rows hold numbers, and `parameter_at` gives the enum, so that `row_of` is a table of two words a kind in the program's constants.
+const MAY: u8 = 64;
+
+const ID_TYPE: u8 = 255;
 
 // A row: its parameters, and the classes that may follow them.
 #[derive(Clone, Copy)]
@@ -103,15 +119,21 @@ fn row_of(kind: u8) -> Row
     }
 }
 
-// The parameter at a place of a kind's row.
-pub fn slot(kind: u8, place: u8) -> u8
+// The parameter at a place of a kind's row, where the row has one there.
+pub fn parameter_at(kind: u8, place: u8) -> Option<Parameter>
     ensures { drop place (rule_of kind).parameters ≡ led result (drop (place + 1) (rule_of kind).parameters) }
 {
     if MOST_PARAMETERS <= place {
-        return 0;
+        return None;
     }
     let row = row_of(kind);
-    ((row.0 >> (8 * (place as u32))) % 256) as u8
+    let code = ((row.0 >> (8 * (place as u32))) % 256) as u8;
+    match code {
+        0 => None,
+        1..MAY => Some(Parameter::Required(code)),
+        MAY..ID_TYPE => Some(Parameter::Optional(code - MAY)),
+        ID_TYPE => Some(Parameter::IdType),
+    }
 }
 
 // Whether a child of a class may stand in a kind.

@@ -7,12 +7,14 @@ ghost use Rattle.std.specs.Prelude.{◌≡◌};
 ghost use Rattle.elements.specs.rules.Class.{class_of, kind_of, significance};
 
 // An element's kind: "Kinds are numbered 1 to 25". Number 0 is no kind.
-#[derive(Clone, Copy)]
+// It stays a number with names, and no enum: document 01 names this form (docs/decisions/forms.md).
+#[derive(Clone, Copy, PartialEq, Eq)]
 pub struct Kind {
     pub number: u8,
 }
 
 // A name that leads a list which is no element: a parameter's value, include and import.
+// It has the form of `Kind`, as `class_of` promises one number for kinds and keywords alike.
 #[derive(Clone, Copy)]
 pub struct Keyword {
     pub number: u8,
@@ -70,6 +72,7 @@ impl Kind {
     pub const CELL: Kind = Kind { number: 25 };
 
     // The kind that a name leads.
+    // It stays 0 and no Option where there is none: so `kind_of` of the rules, which it promises, says it.
     pub fn of_name(name: &[u8]) -> Kind
         ensures { result.number ≡ kind_of name.now }
     {
@@ -82,23 +85,17 @@ impl Kind {
     }
 
     // "document 4, part 3, section 2, subsection 1, the other three 0"
+    #[tactic(auto, unfolding(elements::specs::rules::Class::significance))]
     pub fn significance(self) -> u8
         ensures { result ≡ significance self.number }
     {
-        let number = self.number;
-        if number == Kind::DOCUMENT.number {
-            return 4;
+        match self {
+            Kind::DOCUMENT => 4,
+            Kind::PART => 3,
+            Kind::SECTION => 2,
+            Kind::SUBSECTION => 1,
+            _ => 0,
         }
-        if number == Kind::PART.number {
-            return 3;
-        }
-        if number == Kind::SECTION.number {
-            return 2;
-        }
-        if number == Kind::SUBSECTION.number {
-            return 1;
-        }
-        0
     }
 }
 
@@ -117,6 +114,7 @@ impl Keyword {
 }
 
 // The class of a list led by a name: its kind's number, its keyword's, or 0.
+// It stays a number and no Option of an enum: so `class_of` of the rules, which it promises, says it.
 pub fn class_of(name: &[u8]) -> u8
     ensures { result ≡ class_of name.now }
 {

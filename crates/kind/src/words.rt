@@ -6,7 +6,7 @@ ghost use Rattle.elements.specs.rules.Class.{class_of};
 
 use super::{Keyword, Kind};
 
-// The class where the name is the word, else 0.
+// The class where the name is the word, else 0, which is no Option as `class_of` promises that 0.
 pub fn if_is(name: &[u8], word: &[u8], class: u8) -> u8
     ensures { result ≡ cond (same name.now word.now) class 0 }
 {

@@ -9,7 +9,7 @@ ghost use Rattle.printer.specs.internal.Raw.{Raw, RawTo};
 ghost use Rattle.printer.specs.internal.Inside.{value_inside, size_inside};
 
 use super::name::put_name;
-use base::{lesser, put_byte, put_bytes};
+use base::{put_byte, put_bytes};
 use kind::Keyword;
 use table::MISSING;
 
@@ -124,7 +124,7 @@ fn raw_rest(bytes: &[u8], from: usize) -> bool
         return false;
     }
     let last = end - 8;
-    raw_8(bytes, lesser(from, last)) & raw_8(bytes, last)
+    raw_8(bytes, from.min(last)) & raw_8(bytes, last)
 }
 
 // Past as many bytes as stand for themselves.

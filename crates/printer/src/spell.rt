@@ -15,7 +15,7 @@ ghost use Rattle.printer.specs.internal.Inside.{Valueless, inside_all, values_in
 
 use super::name::put_name;
 use super::put::{put_quoted, put_size, put_value};
-use base::{lesser, put_byte};
+use base::put_byte;
 use kind::{Keyword, Kind};
 use table::{
     END, HEIGHT, KEY, KEY_LENGTH, KIND, MISSING, TEXT, TYPE, TYPE_LENGTH, WIDTH, is_titled,
@@ -93,7 +93,7 @@ fn children(nodes: &[u32], pool: &[u8], from: usize, end: usize, out: &mut [u8],
             return k;
         }
         k = put_byte(out, k, b' ');
-        let start = lesser(k, out.len());
+        let start = k.min(out.len());
         let size = spell(nodes, pool, i, next, &mut out[start..]);
         k += size;
         i = next;

@@ -1,5 +1,4 @@
 -- `machine::next_parameter` meets its contract. The loop's invariant: what the specification says from the place on is what it says from the state's on.
-use Prim.Native.Nat.{◌-◌}
 use lib.ListN.{drop}
 use Rattle.elements.specs.rules.Rules.{rule_of}
 use Rattle.elements.specs.rules.Inside.{next_parameter}
@@ -11,6 +10,3 @@ abbrev pub invariant-loop-place : goal.invariant-loop-place
 invariant-loop-place l = StepsTo (rule_of l.kind).content l.class (drop l.place (rule_of l.kind).parameters) l.place
     (next_parameter (drop l.state (rule_of l.kind).parameters) (rule_of l.kind).content l.class)
     (after_place l.state (drop l.state (rule_of l.kind).parameters) l.class)
-
-abbrev pub decreases-loop-place : goal.decreases-loop-place
-decreases-loop-place l = 4 - l.place

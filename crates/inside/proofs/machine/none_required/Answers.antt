@@ -8,22 +8,17 @@ use Rattle.inside.proofs.machine.none_required.Goals as goal
 pub loop-place-init : goal.loop-place-init
 loop-place-init c = refl
 
-pub returns-then-parameter-eq0 : goal.returns-then-parameter-eq0
-returns-then-parameter-eq0 c = let end = no_parameter_left (rule_of c.args.kind).parameters
-    c.loop-place.place _ c.slot-parameter.ensures
-    c.if-parameter-eq0.true in
+pub returns-in-None : goal.returns-in-None
+returns-in-None c = let end = no_parameter_left (rule_of c.args.kind).parameters c.loop-place.place c.in-None.ensures in
     sym (none_required_end end) ∙ c.loop-place.invariant
 
-pub returns-then-parameter-lt-MAY : goal.returns-then-parameter-lt-MAY
-returns-then-parameter-lt-MAY c = sym (required_first (rule_of c.args.kind).parameters
-    c.loop-place.place _ c.slot-parameter.ensures
-    c.if-parameter-eq0.false
-    c.if-parameter-lt-MAY.true) ∙ c.loop-place.invariant
+pub returns-in-Some : goal.returns-in-Some
+returns-in-Some c = let required = sym c.is_required.ensures ∙ c.if-is_required.true in
+    sym (required_first (rule_of c.args.kind).parameters c.loop-place.place _ required c.in-Some.ensures) ∙ c.loop-place.invariant
 
 pub loop-place-preserved : goal.loop-place-preserved
-loop-place-preserved c = sym (not_required (rule_of c.args.kind).parameters
-    c.loop-place.place _ c.slot-parameter.ensures
-    c.if-parameter-lt-MAY.false) ∙ c.loop-place.invariant
+loop-place-preserved c = let other = sym c.is_required.ensures ∙ c.if-is_required.false in
+    sym (not_required (rule_of c.args.kind).parameters c.loop-place.place _ other c.in-Some.ensures) ∙ c.loop-place.invariant
 
 pub returns : goal.returns
 returns c = sym (none_required_end (past_four c.args.kind c.loop-place.place c.loop-place-test.false)) ∙ c.loop-place.invariant

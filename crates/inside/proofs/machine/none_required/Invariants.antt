@@ -1,5 +1,4 @@
 -- `machine::none_required` meets its contract. The loop's invariant: what the specification says from the place on is what it says from the first one on.
-use Prim.Native.Nat.{◌-◌}
 use mathlib.Core.Path.{◌≡◌}
 use lib.ListN.{drop}
 use Rattle.elements.specs.rules.Rules.{rule_of}
@@ -8,6 +7,3 @@ use Rattle.inside.proofs.machine.none_required.Given as goal
 
 abbrev pub invariant-loop-place : goal.invariant-loop-place
 invariant-loop-place l = none_required (drop l.place (rule_of l.kind).parameters) ≡ none_required (drop l.state (rule_of l.kind).parameters)
-
-abbrev pub decreases-loop-place : goal.decreases-loop-place
-decreases-loop-place l = 4 - l.place

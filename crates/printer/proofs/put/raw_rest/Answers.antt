@@ -14,13 +14,13 @@ pub returns-then-end-from-gt16 : goal.returns-then-end-from-gt16
 returns-then-end-from-gt16 c = λ e. absurd (true_T e)
 
 pub raw_8-requires : goal.raw_8-requires
-raw_8-requires c = omega (arith, c.lesser.ensures)
+raw_8-requires c = omega (arith, c.min.ensures)
 
 pub returns : goal.returns
 returns c = let bytes = c.args.bytes.now in
     let from = c.args.from in
     let near : length bytes ≤ from + 16 = omega arith in
     let last : length bytes - 8 + 8 ≡ length bytes = omega arith in
-    let lesser = c.lesser in
+    let min = c.min in
     let low = c.raw_8 in
-    raw_over bytes from lesser.result (length bytes - 8) c.requires near last lesser.ensures low.ensures c.raw_8-2.ensures
+    raw_over bytes from min.result (length bytes - 8) c.requires near last min.ensures low.ensures c.raw_8-2.ensures

@@ -35,10 +35,10 @@ children-returns-then-end-next t c = let args = c.args in
     loop.invariant.2 c.loop-i-test.true word.ensures (λ l g. omega (arith, c.if-end-next.true))
 
 pub children-slice_bounds-spell-count : goal.children-slice_bounds-spell-count
-children-slice_bounds-spell-count t c = omega (arith, c.lesser-start.ensures)
+children-slice_bounds-spell-count t c = omega (arith, c.min-start.ensures)
 
 pub children-slice_bounds-spell-start : goal.children-slice_bounds-spell-start
-children-slice_bounds-spell-start t c = omega (arith, c.lesser-start.ensures)
+children-slice_bounds-spell-start t c = omega (arith, c.min-start.ensures)
 
 pub children-overflow_add-k : goal.children-overflow_add-k
 children-overflow_add-k t c = omega (arith, sum_most _ _ c.put_byte-k.ensures.0, c.spell-size.ensures.0)
@@ -56,13 +56,13 @@ children-loop-i-preserved t c = let args = c.args in
     let word = c.word-next in
     let if1 = c.if-next-i in
     let put_byte = c.put_byte-k in
-    let lesser = c.lesser-start in
+    let min = c.min-start in
     let spell = c.spell-size in
     let step = upto_turn args.nodes.now args.pool.now args.from args.end args.at args.out.now loop.i loop.k word.result
-    put_byte.result lesser.result spell.result (put_byte.result + spell.result) loop.out put_byte.new.out spell.new.out
-    loop.invariant.2 loop-test.true word.ensures (adds_byte put_byte.ensures) lesser.ensures spell.ensures.1 (λ h. refl) in (
+    put_byte.result min.result spell.result (put_byte.result + spell.result) loop.out put_byte.new.out spell.new.out
+    loop.invariant.2 loop-test.true word.ensures (adds_byte put_byte.ensures) min.ensures spell.ensures.1 (λ h. refl) in (
       omega (arith, loop.invariant.0, if1.false),
-      same_len_mid lesser.result (length put_byte.new.out - lesser.result) put_byte.new.out
+      same_len_mid min.result (length put_byte.new.out - min.result) put_byte.new.out
           spell.new.out spell.auto.out ∙ put_byte.auto.out ∙ loop.invariant.1,
       step,
     )
