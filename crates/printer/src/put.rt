@@ -204,7 +204,7 @@ impl Output<'_> {
         self.byte(b'"');
     }
 
-    // The last five digits, with no leading zero. The kit's `itoa` writes them all, and no contract here says that a size has no more.
+    // The last five digits, with no leading zero. By hand: the kit's `itoa` writes them all, and would be one crate more to rest on.
     fn digits(&mut self, n: usize)
         ensures { Appends self.old (digits n) self.new }
     {

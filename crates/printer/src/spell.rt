@@ -21,7 +21,7 @@ use table::{
     key_class,
 };
 
-// A table: the words of its nodes, and the pool of their strings. `Table` of validate is private to that crate, and its invariants are of a table of whole records.
+// A table: the words of its nodes, and the pool of their strings. `Table` of validate is private to that crate, and holds whole records alone.
 #[derive(Clone, Copy)]
 pub struct NodeTable<'a> {
     pub nodes: &'a [u32],
