@@ -13,7 +13,7 @@ use base::number;
 use spell::spelled;
 use table::RECORD;
 
-// "Printing returns number and length."
+// "Printing returns number and length." They stay numbers: `printed` of structural/specs/Demands.antt names both, and C has them as two words.
 #[derive(Clone, Copy)]
 pub struct Printed {
     pub number: u32,

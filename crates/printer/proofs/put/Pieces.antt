@@ -9,11 +9,13 @@ use lib.Dec.{eqb, ltb}
 use lib.ListN.{length, get_or, take, drop}
 use lib.Seq.{take-suc, take_all}
 use borrow.Author.Tests.{eq-eqb, ne_eqb}
+use Rattle.std.proofs.Common.{Option, None, Some}
 use Rattle.elements.specs.rules.Bytes.{codes}
 use Rattle.elements.specs.rules.Class as Class
 use Rattle.base.specs.rules.Limits.{missing}
+use Rattle.document.specs.rules.Document.{size, empty, holds}
 use Rattle.document.specs.rules.Canonical.{value_before, size_before, hex_byte, unicode_before, byte_before, bytes_before, quoted_before, digit, digits, brackets_before, string_before, inside_before}
-use Rattle.printer.specs.internal.Inside.{trees_inside, value_inside, size_inside}
+use Rattle.printer.specs.internal.Inside.{trees_inside, value_inside, size_inside, size_of, size_shown}
 use Rattle.printer.specs.internal.Pieces.{letter_of, leading_of}
 use Rattle.printer.proofs.Appended.{bytes_append, string_append}
 
@@ -22,36 +24,36 @@ pick p q r s a b c d e = cond p a (cond q b (cond r c (cond s d e)))
 
 -- The byte of a string by the letter of its escape.
 module _ (x : List ℕ) where
-  lettered : (p q r s : Bool) (l : ℕ) → l ≡ pick p q r s 0x22 0x6E 0x72 0x74 0 → (l ≡ 0 → ⊥)
-      → pick p q r s (0x5C ∷ 0x22 ∷ []) (0x5C ∷ 0x6E ∷ []) (0x5C ∷ 0x72 ∷ []) (0x5C ∷ 0x74 ∷ []) x ≡ 0x5C ∷ l ∷ []
-  lettered true q r s l e h = rw e
-  lettered false true r s l e h = rw e
-  lettered false false true s l e h = rw e
-  lettered false false false true l e h = rw e
-  lettered false false false false l e h = absurd (h e)
+  lettered : (p q r s : Bool) (l : ℕ) → Some l ≡ pick p q r s (Some 0x22) (Some 0x6E) (Some 0x72) (Some 0x74) None
+      → 0x5C ∷ l ∷ [] ≡ pick {A = List ℕ} p q r s (0x5C ∷ 0x22 ∷ []) (0x5C ∷ 0x6E ∷ []) (0x5C ∷ 0x72 ∷ []) (0x5C ∷ 0x74 ∷ []) x
+  lettered true q r s l e = cc
+  lettered false true r s l e = cc
+  lettered false false true s l e = cc
+  lettered false false false true l e = cc
+  lettered false false false false l e = cc
 
-  unlettered : (p q r s : Bool) (l : ℕ) → l ≡ pick p q r s 0x22 0x6E 0x72 0x74 0 → l ≡ 0
-      → pick p q r s (0x5C ∷ 0x22 ∷ []) (0x5C ∷ 0x6E ∷ []) (0x5C ∷ 0x72 ∷ []) (0x5C ∷ 0x74 ∷ []) x ≡ x
-  unlettered true q r s l e h = absurd (omega arith)
-  unlettered false true r s l e h = absurd (omega arith)
-  unlettered false false true s l e h = absurd (omega arith)
-  unlettered false false false true l e h = absurd (omega arith)
-  unlettered false false false false l e h = refl
+  unlettered : (p q r s : Bool) → ◌≡◌ {A = Option ℕ} None (pick p q r s (Some 0x22) (Some 0x6E) (Some 0x72) (Some 0x74) None)
+      → pick {A = List ℕ} p q r s (0x5C ∷ 0x22 ∷ []) (0x5C ∷ 0x6E ∷ []) (0x5C ∷ 0x72 ∷ []) (0x5C ∷ 0x74 ∷ []) x ≡ x
+  unlettered true q r s e = cc
+  unlettered false true r s e = cc
+  unlettered false false true s e = cc
+  unlettered false false false true e = cc
+  unlettered false false false false e = refl
 
-module _ (b l : ℕ) (e : l ≡ letter_of b) where
-  pub byte_lettered : (l ≡ 0 → ⊥) → 0x5C ∷ l ∷ [] ≡ byte_before b []
+module _ (b : ℕ) where
+  pub byte_lettered : (l : ℕ) → Some l ≡ letter_of b → 0x5C ∷ l ∷ [] ≡ byte_before b []
   unfolding byte_before letter_of
-  byte_lettered h = sym (lettered _ (eqb b 0x22) (eqb b 0x0A) (eqb b 0x0D) (eqb b 0x09) l e h)
+  byte_lettered l e = lettered _ (eqb b 0x22) (eqb b 0x0A) (eqb b 0x0D) (eqb b 0x09) l e
 
-  pub byte_coded : l ≡ 0 → (t : Bool) → t ≡ (eqb b 0x5C || ltb b 0x20 || eqb b 0x7F) → t ≡ true → (x y : ℕ) → x ≡ hex_byte (b / 16) → y ≡ hex_byte (b % 16)
+  pub byte_coded : None ≡ letter_of b → (t : Bool) → t ≡ (eqb b 0x5C || ltb b 0x20 || eqb b 0x7F) → t ≡ true → (x y : ℕ) → x ≡ hex_byte (b / 16) → y ≡ hex_byte (b % 16)
       → 0x5C ∷ 0x75 ∷ 0x30 ∷ 0x30 ∷ x ∷ y ∷ [] ≡ byte_before b []
   unfolding byte_before letter_of unicode_before
   byte_coded h t f g x y p q =
-      sym (unlettered _ (eqb b 0x22) (eqb b 0x0A) (eqb b 0x0D) (eqb b 0x09) l e h ∙ rw (← f, g, p, q))
+      sym (unlettered _ (eqb b 0x22) (eqb b 0x0A) (eqb b 0x0D) (eqb b 0x09) h ∙ rw (← f, g, p, q))
 
-  pub byte_raw : l ≡ 0 → (t : Bool) → t ≡ (eqb b 0x5C || ltb b 0x20 || eqb b 0x7F) → t ≡ false → b ∷ [] ≡ byte_before b []
+  pub byte_raw : None ≡ letter_of b → (t : Bool) → t ≡ (eqb b 0x5C || ltb b 0x20 || eqb b 0x7F) → t ≡ false → b ∷ [] ≡ byte_before b []
   unfolding byte_before letter_of
-  byte_raw h t f g = sym (unlettered _ (eqb b 0x22) (eqb b 0x0A) (eqb b 0x0D) (eqb b 0x09) l e h ∙ rw (← f, g))
+  byte_raw h t f g = sym (unlettered _ (eqb b 0x22) (eqb b 0x0A) (eqb b 0x0D) (eqb b 0x09) h ∙ rw (← f, g))
 
 -- The bytes of a string, one after the other.
 pub bytes_both : (s t : List ℕ) → bytes_before (s ++ t) [] ≡ bytes_before s [] ++ bytes_before t []
@@ -119,6 +121,23 @@ pub value_parts : (c : ℕ) (s : List ℕ) → (length s ≡ 0 → ⊥)
 unfolding value_inside trees_inside value_before inside_before brackets_before
 value_parts c [] h = absurd (h refl)
 value_parts c (b ∷ s) h = ap (λ (l : List ℕ). 0x20 ∷ 0x5B ∷ (Class.name_of c ++ (0x20 ∷ l))) (sym (string_append c (b ∷ s) (0x5D ∷ [])))
+
+pub shown_none : [] ≡ size_shown None
+unfolding size_shown
+shown_none = refl
+
+pub shown_parts : (w h : ℕ)
+    → (0x20 ∷ 0x5B ∷ 0x73 ∷ 0x69 ∷ 0x7A ∷ 0x65 ∷ 0x20 ∷ []) ++ (digits w ++ ((0x20 ∷ []) ++ (digits h ++ (0x5D ∷ [])))) ≡ size_shown (Some (w, h))
+unfolding size_shown trees_inside inside_before brackets_before Class.name_of Class.name_in Class.names Class.as_name codes
+shown_parts w h = refl
+
+pub shown_inside : (w h : ℕ) → size_shown (size_of w h) ≡ size_inside w h
+unfolding size_shown size_of size_inside trees_inside size_before inside_before
+shown_inside w h = go (eqb w missing)
+  where
+    go : (b : Bool) → size_shown (cond b None (Some (w, h))) ≡ trees_inside (cond b empty (holds (size w h) empty))
+    go true = refl
+    go false = refl
 
 pub size_none : (w h : ℕ) → w ≡ missing → [] ≡ size_inside w h
 unfolding size_inside trees_inside size_before inside_before

@@ -1,8 +1,9 @@
 -- Bytes of a string that stand for themselves.
-use Prim.Native.Nat.{ℕ, suc, ◌+◌, ◌-◌, ◌<◌, ◌≤◌}
+use Prim.Native.Nat.{ℕ, ◌+◌, ◌-◌, ◌<◌, ◌≤◌}
 use mathlib.Core.Path.{◌≡◌, refl, sym, ap, ◌∙◌}
 use mathlib.Core.Bool.{Bool, true, false, not, ◌&&◌}
 use mathlib.Core.List.{List, [], ◌∷◌, ◌++◌}
+use native.Mathlib.Numerals.{add-one}
 use native.Mathlib.Omega.{arith}
 use lib.Dec.{eqb, ltb}
 use lib.ListN.{length, get_or, take, drop, length-drop}
@@ -10,10 +11,15 @@ use lib.Seq.{take-suc, take-add, drop-cons, drop-drop, get_or-drop}
 use borrow.Author.Tests.{ltb-true, le-ltb, ne_eqb}
 use Rattle.base.proofs.Booleans.{both, true_T, T_true, not-true}
 use Rattle.document.specs.rules.Canonical.{byte_before, bytes_before}
-use Rattle.base.specs.Adds.{Adds}
 use Rattle.printer.specs.internal.Raw.{Raw, RawTo}
-use Rattle.base.proofs.Adding.{adds_as, adds_join}
+use Rattle.printer.specs.declared.put.Output.{Output}
+use Rattle.printer.specs.internal.Appends.{Appends}
+use Rattle.printer.proofs.put.Appending.{appends_as, appends_join}
 use Rattle.printer.proofs.put.Pieces.{bytes_both}
+
+pub raw_none : Raw []
+unfolding Raw bytes_before
+raw_none = refl
 
 raw_both : (s t : List ℕ) → Raw s → Raw t → Raw (s ++ t)
 unfolding Raw
@@ -39,11 +45,11 @@ module _ (s : List ℕ) (i : ℕ) where
 
   -- One byte more of a block, by the tests of the bytes before it and of the byte.
   pub raw_more : (n : ℕ) {p q : Bool} → i + n < length s → (p ≡ true → Raw (take n (drop i s))) → (q ≡ true → Raw (get_or s (i + n) 0 ∷ []))
-      → p && q ≡ true → Raw (take (suc n) (drop i s))
+      → p && q ≡ true → Raw (take (n + 1) (drop i s))
   raw_more n {p} {q} h a b e =
       let (f, g) = both p q (true_T e) in
       let inside : n < length (drop i s) = simp length-drop (omega arith) in
-      rw (take-suc (drop i s) n 0 inside, get_or-drop i s n 0) (raw_both (take n (drop i s)) (get_or s (i + n) 0 ∷ []) (a (T_true p f)) (b (T_true q g)))
+      rw (add-one n, take-suc (drop i s) n 0 inside, get_or-drop i s n 0) (raw_both (take n (drop i s)) (get_or s (i + n) 0 ∷ []) (a (T_true p f)) (b (T_true q g)))
 
 module _ (s : List ℕ) (from : ℕ) where
   pub raw_start : from ≤ length s → RawTo s from from
@@ -90,6 +96,6 @@ module _ (s : List ℕ) (from : ℕ) where
       ∙ ap (λ (l : List ℕ). bytes_before l []) (sym (ap (λ (n : ℕ). take n s) size ∙ take-add from (to - from) s))
 
   -- Such bytes are written as they are, behind the bytes before them.
-  pub adds_raw : (to : ℕ) {at m r : ℕ} {out mid later : List ℕ} → RawTo s from to → Adds (bytes_before (take from s) []) at out m mid
-      → Adds (take (to - from) (drop from s)) m mid r later → Adds (bytes_before (take to s) []) at out r later
-  adds_raw to a p q = adds_as (raw_written to a) (adds_join p q)
+  pub appends_raw : (to : ℕ) {a b c : Output} → RawTo s from to → Appends a (bytes_before (take from s) []) b
+      → Appends b (take (to - from) (drop from s)) c → Appends a (bytes_before (take to s) []) c
+  appends_raw to r p q = appends_as (raw_written to r) (appends_join p q)

@@ -1,9 +1,9 @@
 -- The parts of an element's spelling: definitions that serve the contracts of private functions.
-use Rattle.std.specs.Prelude.{ℕ, ◌≡◌, Bool, true, false, List, [], ◌++◌}
+use Rattle.std.specs.Prelude.{ℕ, ◌≡◌, Bool, true, false, Option, None, Some, cond, eqb, List, [], ◌++◌}
 use Rattle.elements.specs.rules.Class as Class
 use Rattle.base.specs.rules.Limits.{missing}
 use Rattle.document.specs.rules.Record as Word
-use Rattle.document.specs.rules.Document.{Trees, empty, Nodes, childless, child}
+use Rattle.document.specs.rules.Document.{size, Trees, empty, holds, Nodes, childless, child}
 use Rattle.document.specs.rules.Canonical.{layout_all, value_before, size_before, key_class, inside_before}
 use Rattle.table.specs.Stored.{word_at}
 
@@ -19,6 +19,14 @@ value_inside c s = trees_inside (value_before c s empty)
 
 unfoldable pub size_inside : ℕ → ℕ → List ℕ
 size_inside w h = trees_inside (size_before w h empty)
+
+-- Width and height, where the width is not missing; and the same inside an element.
+unfoldable pub size_of : ℕ → ℕ → Option (ℕ × ℕ)
+size_of w h = cond (eqb w missing) None (Some (w, h))
+
+unfoldable pub size_shown : Option (ℕ × ℕ) → List ℕ
+size_shown None = []
+size_shown (Some s) = trees_inside (holds (size s.0 s.1) empty)
 
 -- The values of an element: "id before type", with an image's size between target and type.
 unfoldable pub values_inside : ℕ → List ℕ → List ℕ → ℕ → ℕ → List ℕ

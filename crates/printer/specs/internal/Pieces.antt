@@ -1,13 +1,13 @@
 -- Numbers by which the code picks a piece: definitions that serve the contracts of private functions.
-use Rattle.std.specs.Prelude.{ℕ, cond, eqb, ltb}
+use Rattle.std.specs.Prelude.{ℕ, Option, None, Some, cond, eqb, ltb}
 
--- What follows the backslash in `\" \n \r \t`; 0 for any other byte.
-unfoldable pub letter_of : ℕ → ℕ
+-- What follows the backslash in `\" \n \r \t`; nothing for any other byte.
+unfoldable pub letter_of : ℕ → Option ℕ
 letter_of b =
-    cond (eqb b 0x22) 0x22
-    (cond (eqb b 0x0A) 0x6E
-    (cond (eqb b 0x0D) 0x72
-    (cond (eqb b 0x09) 0x74 0)))
+    cond (eqb b 0x22) (Some 0x22)
+    (cond (eqb b 0x0A) (Some 0x6E)
+    (cond (eqb b 0x0D) (Some 0x72)
+    (cond (eqb b 0x09) (Some 0x74) None)))
 
 -- How many of five digits a number does not have.
 unfoldable pub leading_of : ℕ → ℕ

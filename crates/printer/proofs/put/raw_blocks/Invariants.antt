@@ -1,11 +1,7 @@
--- `put::raw_blocks` meets its contract. The loop's invariant: the bytes from the first to i stand for themselves.
-use Prim.Native.Nat.{◌-◌}
-use lib.ListN.{length}
+-- The blocks before k stand for themselves.
+use Rattle.std.proofs.Common.{◌+◌, ◌*◌}
 use Rattle.printer.specs.internal.Raw.{RawTo}
 use Rattle.printer.proofs.put.raw_blocks.Given as goal
 
-abbrev pub invariant-loop-i : goal.invariant-loop-i
-invariant-loop-i l = RawTo l.bytes l.from l.i
-
-abbrev pub decreases-loop-i : goal.decreases-loop-i
-decreases-loop-i l = length l.bytes - l.i
+abbrev pub invariant-loop-k : goal.invariant-loop-k
+invariant-loop-k l = RawTo l.bytes l.from (l.from + 16 * l.k)
