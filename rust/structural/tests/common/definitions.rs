@@ -51,7 +51,8 @@ pub fn spelled() -> BTreeMap<u32, String> {
     named.map(|(class, name)| (classes[&in_capitals(class)], name.to_string())).collect()
 }
 
-/// The constants of a file of code that are numbers, `const NAME: u32 = NUMBER;`, or hold one, `{ number: NUMBER }`.
+/// The constants of a file of code that are numbers, `const NAME: u32 = NUMBER;`, or hold one, `{ number: NUMBER }`. One that
+/// is the number of a kind, `Kind::NAME.number as usize`, has it from there, and is left out.
 pub fn constants(name: &str) -> Names {
     string(name).lines().filter_map(constant).collect()
 }
@@ -60,6 +61,9 @@ fn constant(line: &str) -> Option<(String, u32)> {
     let line = line.trim_start();
     let (name, rest) = line.strip_prefix("pub ").unwrap_or(line).strip_prefix("const ")?.split_once(": ")?;
     let (sort, value) = rest.strip_suffix(';')?.split_once(" = ")?;
+    if value == format!("Kind::{name}.number as usize") {
+        return None;
+    }
     let number = match sort {
         "u8" | "u32" | "usize" => value,
         _ => value.split_once("{ number: ")?.1.strip_suffix(" }")?,
