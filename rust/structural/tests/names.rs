@@ -3,7 +3,7 @@
 
 mod common;
 
-use common::definitions::{constants, defined, header, kinds, prefixed, spelled, Names};
+use common::definitions::{constants, defined, header, kinds, prefixed, spelled, variants, Names};
 use common::definitions::{CLASSES, LIMITS, NUMBERS, RECORD};
 use structural::Kind;
 
@@ -29,6 +29,13 @@ fn one(name: &str, number: u32) -> Names {
 #[test]
 fn numbers_of_the_code() {
     assert_eq!(constants("crates/base/src/number.rt"), defined(NUMBERS));
+}
+
+/// The refusals, by which most code answers, are these numbers but 0, which is none.
+#[test]
+fn refusals_of_the_code() {
+    let (refusals, ok) = without("OK", defined(NUMBERS));
+    assert_eq!((variants("crates/base/src/refusal.rt", "Refusal"), 0), (refusals, ok));
 }
 
 /// What stands for a missing word is one of the records' constants.

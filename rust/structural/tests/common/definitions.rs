@@ -71,6 +71,27 @@ fn constant(line: &str) -> Option<(String, u32)> {
     Some((name.to_string(), number.replace('_', "").parse().unwrap_or_else(|_| panic!("no plain number: {line}"))))
 }
 
+/// The variants of an enum of a file of code: the first has its number behind it, `NAME = NUMBER`, and each other the next.
+pub fn variants(name: &str, of: &str) -> Names {
+    let text = string(name);
+    let (_, rest) = text.split_once(&format!("pub enum {of} {{")).unwrap_or_else(|| panic!("{name} has no enum {of}"));
+    let (body, _) = rest.split_once('}').unwrap_or_else(|| panic!("{of} has no end"));
+    let mut named = body.split(',').map(str::trim).filter(|variant| !variant.is_empty());
+    let first = named.next().and_then(|variant| variant.split_once(" = "));
+    let (first, number) = first.unwrap_or_else(|| panic!("{of} begins with no number"));
+    let number: u32 = number.parse().unwrap_or_else(|_| panic!("no plain number: {number}"));
+    (number..).zip(std::iter::once(first).chain(named)).map(|(number, variant)| (words_of(variant), number)).collect()
+}
+
+/// The name of a variant as that of a constant: `TextTooLong` is `TEXT_TOO_LONG`.
+fn words_of(variant: &str) -> String {
+    let parted = variant.char_indices().flat_map(|(i, c)| {
+        let before = (c.is_ascii_uppercase() && i > 0).then_some('_');
+        before.into_iter().chain([c.to_ascii_uppercase()])
+    });
+    parted.collect()
+}
+
 /// The constants of the header, without the prefix that all have.
 pub fn header() -> Names {
     let header = string("include/structural.h");
