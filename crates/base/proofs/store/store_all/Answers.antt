@@ -11,5 +11,5 @@ returns-then-out-at c = let args = c.args in
 
 pub returns : goal.returns
 returns c = let args = c.args in
-    room_copied args.out.now args.bytes.now args.at c.min-count.result (omega arith) c.min-count.ensures c.copy_from_slice.new.self
+    room_copied args.out.now args.bytes.now args.at c.lesser-count.result (omega arith) c.lesser-count.ensures c.copy_from_slice.new.self
     c.copy_from_slice.ensures.after
