@@ -1,5 +1,5 @@
 // Bytes stored at an index, as many as there are places for.
-ghost use Rattle.std.specs.Prelude.{◌≡◌, min, set};
+ghost use Rattle.std.specs.Prelude.{◌≡◌, min, length, set};
 ghost use Rattle.std.proofs.lemmas.List.Edits.{sets};
 
 // The lesser of two numbers.
@@ -7,6 +7,17 @@ pub fn lesser(a: usize, b: usize) -> usize
     ensures { result ≡ min a b }
 {
     a.min(b)
+}
+
+// Bytes into a slice of their length. The loop is compiled into one copy of memory, by C's `memcpy`. The library's copy would need C's
+// `memmove` beside it, as the compiler does not see that its slices are apart.
+fn copy(out: &mut [u8], bytes: &[u8])
+    requires { length out.old ≡ length bytes.now }
+    ensures { out.new ≡ bytes.now }
+{
+    for i in 0..bytes.len() {
+        out[i] = bytes[i];
+    }
 }
 
 // One byte, where there is such a place.
@@ -27,5 +38,5 @@ pub fn store_all(out: &mut [u8], at: usize, bytes: &[u8])
     }
     let count = lesser(bytes.len(), out.len() - at);
     let end = at + count;
-    out[at..end].copy_from_slice(&bytes[..count]);
+    copy(&mut out[at..end], &bytes[..count]);
 }
