@@ -9,8 +9,8 @@ pub fn lesser(a: usize, b: usize) -> usize
     a.min(b)
 }
 
-// Bytes into a slice of their length. The loop is compiled into one copy of memory, by C's `memcpy`. The library's copy would need C's
-// `memmove` beside it, as the compiler does not see that its slices are apart.
+// Bytes into a slice of their length. The loop is compiled in place, or into one copy by C's `memcpy`. The library's copy calls C's `memmove`,
+// which the archive would then ask for too.
 fn copy(out: &mut [u8], bytes: &[u8])
     requires { length out.old ≡ length bytes.now }
     ensures { out.new ≡ bytes.now }
