@@ -82,18 +82,18 @@ pub record Written (e : Entry) (n : ℕ) (a : Lent) (key type text : Span) (z : 
   pub places_are : z.places.now ≡ set a.places.now n e.place
   pub nodes_are : z.nodes.now
       ≡ sets a.nodes.now (record_length * n) (
-          e.class
-          ∷ e.parent
-          ∷ e.end
-          ∷ key.offset
-          ∷ key.length
-          ∷ type.offset
-          ∷ type.length
-          ∷ text.offset
-          ∷ text.length
-          ∷ e.width
-          ∷ e.height
-          ∷ [])
+      e.class
+      ∷ e.parent
+      ∷ e.end
+      ∷ key.offset
+      ∷ key.length
+      ∷ type.offset
+      ∷ type.length
+      ∷ text.offset
+      ∷ text.length
+      ∷ e.width
+      ∷ e.height
+      ∷ [])
 
 -- In a text within the limits there is room for the row of the next node. A row has three strings of the text at most: so no place of the pool passes a word.
 pub record RoomFor (s : List ℕ) (a : Filling) : Type 0 where

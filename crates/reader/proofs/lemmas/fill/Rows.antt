@@ -2,19 +2,18 @@
 use Prim.Native.Nat.{ℕ, zero, suc, ◌+◌, ◌*◌, ◌≤◌}
 use mathlib.Core.Path.{◌≡◌, refl, ap, ◌∙◌}
 use mathlib.Core.Bool.{false}
-use mathlib.Core.List.{List, [], ◌∷◌, ◌++◌}
+use mathlib.Core.List.{List, [], ◌++◌}
 use native.Mathlib.Nat.{add-zero, add-suc}
 use native.Mathlib.Numerals.{add-one}
 use native.Mathlib.Omega.{arith}
 use lib.Dec.{eqb}
-use lib.ListN.{length, set, length-set}
+use lib.ListN.{length, length-set}
 use lib.Seq.{sets, length-sets}
 use borrow.Author.Tests.{eq-eqb}
 use Rattle.base.proofs.Booleans.{cond_case}
 use Rattle.elements.specs.rules.Class as Class
 use Rattle.document.specs.rules.Table.{offset}
 use Rattle.base.specs.rules.Limits.{most_bytes}
-use Rattle.document.specs.rules.Record.{record_length}
 use Rattle.reader.specs.declared.tape.Entry.{Entry}
 use Rattle.reader.specs.declared.fill.Lent.{Lent}
 use Rattle.reader.specs.declared.fill.Span.{Span}

@@ -16,5 +16,5 @@ returns-then-e-clause-row c = let g = c.args in
 
 pub returns-clause-row : goal.returns-clause-row
 returns-clause-row c = let g = c.args in
-    rowed g.e.now g.node _ _ _ _ _ _ _ _ _ _ _ c.put-key.ensures.put c.put-typename.ensures.put (nothing_put _) c.write.ensures.written
+    rowed g.e.now g.node _ _ _ _ _ _ _ _ _ _ _ c.put-key.ensures.put c.put-typename.ensures.put (nothing_put _) c.write-2.ensures.written
     ∙ sym (element_rowed g.text.now g.e.now _ (ne_eqb _ 9 c.if-e.false))
