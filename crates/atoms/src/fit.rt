@@ -6,7 +6,7 @@ ghost use Rattle.atoms.specs.Atom.{atom_value, content_of, fits};
 
 use super::pieces::piece;
 use super::string::string_at;
-use characters::{Alphabet, character, is_ordinary};
+use characters::{Alphabet, is_ordinary};
 
 // The characters of types and ids are all ordinary bytes, so that the symbol goes on at each.
 fn word_fits(text: &[u8], place: usize, alphabet: Alphabet) -> bool
@@ -15,7 +15,7 @@ fn word_fits(text: &[u8], place: usize, alphabet: Alphabet) -> bool
 {
     for i in place..text.len() {
         let b = text[i];
-        if !character(alphabet, b) {
+        if !alphabet.has(b) {
             return !is_ordinary(b);
         }
     }
@@ -29,7 +29,7 @@ fn uri_fits(text: &[u8], place: usize) -> bool
     for i in place..text.len() {
         let b = text[i];
         let ordinary = is_ordinary(b);
-        if !character(Alphabet::Uri, b) {
+        if !Alphabet::Uri.has(b) {
             return !ordinary;
         }
         if !ordinary {
@@ -65,7 +65,7 @@ fn string_fits(text: &[u8], place: usize, alphabet: Alphabet) -> bool
         let Some(p) = piece(text, i) else {
             return true;
         };
-        if !character(alphabet, p.first) {
+        if !alphabet.has(p.first) {
             return string_at(text, place).is_err();
         }
         i = p.next;
@@ -74,11 +74,18 @@ fn string_fits(text: &[u8], place: usize, alphabet: Alphabet) -> bool
 }
 
 // Whether all that the symbol or string at a place stands for are characters of an alphabet.
-pub fn atom_fits(text: &[u8], place: usize, alphabet: Alphabet) -> bool
+pub fn atom_is_in(text: &[u8], place: usize, alphabet: Alphabet) -> bool
     ensures { result ≡ fits (alphabet_number alphabet) (atom_value (drop place text.now)) }
 {
     if text.get(place) == Some(&b'"') {
         return string_fits(text, place, alphabet);
     }
     symbol_fits(text, place, alphabet)
+}
+
+// The same by the number of an alphabet: 0 of a type, 1 of an id, any other of a URI.
+pub fn atom_fits(text: &[u8], place: usize, sort: u8) -> bool
+    ensures { result ≡ fits sort (atom_value (drop place text.now)) }
+{
+    atom_is_in(text, place, Alphabet::from(sort))
 }

@@ -9,6 +9,6 @@ mod run; // run.rt: runs of plain bytes, and bytes written as they stand
 mod stores; // stores.rt: what a symbol or string stands for, written out
 mod string; // string.rt: quoted strings
 
-pub use fit::atom_fits;
+pub use fit::{atom_fits, atom_is_in};
 pub use stores::put_atom;
 pub use string::{BadString, StringEnd, string_at};

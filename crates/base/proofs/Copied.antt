@@ -2,10 +2,11 @@
 use Prim.Native.Nat.{ℕ, ◌+◌, ◌-◌, ◌<◌, ◌≤◌, min}
 use mathlib.Core.Path.{◌≡◌, sym, ap, ◌∙◌}
 use mathlib.Core.List.{List, ◌++◌, append_assoc}
+use native.Mathlib.Numerals.{add-one}
 use native.Mathlib.Omega.{arith}
 use lib.Dec.{leb}
-use lib.ListN.{length, take, drop, take-append-drop, length-drop, drop_of_length-le}
-use lib.Seq.{sets, sets-eq, length-sets, length-take-le, drop-drop}
+use lib.ListN.{length, get_or, take, drop, set, take-append-drop, length-drop, drop_of_length-le}
+use lib.Seq.{sets, sets-eq, length-sets, length-take-le, take_all, take-suc, take-suc-set, drop-drop}
 use borrow.Author.Tests.{leb-true, leb-false}
 use Rattle.base.proofs.Booleans.{bool_case}
 use Rattle.base.proofs.Stores.{sets_append, sets_past}
@@ -26,6 +27,15 @@ block_copied out s part at from n h g e =
     let same : part ≡ take n (drop from s) = rw count at e in
     let size : length (take n (drop from s)) ≡ n = length-take-le n (drop from s) (omega (arith, length-drop from s)) in
     rw same (part_stored out (take n (drop from s)) at n size h)
+
+-- One byte more of a copy.
+pub copied_more : (bytes out : List ℕ) (i : ℕ) → i < length bytes → i < length out → take i out ≡ take i bytes
+    → take (i + 1) (set out i (get_or bytes i 0)) ≡ take (i + 1) bytes
+copied_more bytes out i h g e = rw (add-one i, take-suc-set out i (get_or bytes i 0), take-suc bytes i 0, e)
+
+-- All of it.
+pub copied_all : (bytes out : List ℕ) (i : ℕ) → length bytes ≤ i → length out ≡ length bytes → take i out ≡ take i bytes → out ≡ bytes
+copied_all bytes out i h l e = sym (take_all i out (omega arith)) ∙ e ∙ take_all i bytes h
 
 -- A run of stores is the copy of the bytes that there are places for.
 module _ (out s : List ℕ) (at n : ℕ) (h : at ≤ length out) (e : n ≡ min (length s) (length out - at)) where

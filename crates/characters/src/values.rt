@@ -47,14 +47,23 @@ fn uri_character(b: u8) -> bool
     matches!(b, 0x21..=0x7E)
 }
 
-// Whether a byte is a character of a value.
-#[tactic(auto, unfolding(elements::specs::rules::Characters::character_of, crate::specs::Codes::alphabet_number))]
-pub fn character(alphabet: Alphabet, b: u8) -> bool
-    ensures { result ≡ character_of (alphabet_number alphabet) b }
-{
-    match alphabet {
-        Alphabet::Type => type_character(b),
-        Alphabet::Id => id_character(b),
-        Alphabet::Uri => uri_character(b),
+impl Alphabet {
+    // Whether a byte is one of its characters.
+    #[tactic(auto, unfolding(elements::specs::rules::Characters::character_of, crate::specs::Codes::alphabet_number))]
+    pub fn has(self, b: u8) -> bool
+        ensures { result ≡ character_of (alphabet_number self) b }
+    {
+        match self {
+            Alphabet::Type => type_character(b),
+            Alphabet::Id => id_character(b),
+            Alphabet::Uri => uri_character(b),
+        }
     }
+}
+
+// Whether a byte is a character of a value: of a type (0), of an id or the target of a link (1), else of a URI.
+pub fn character(sort: u8, b: u8) -> bool
+    ensures { result ≡ character_of sort b }
+{
+    Alphabet::from(sort).has(b)
 }

@@ -1,4 +1,4 @@
--- The scan byte by byte: what is left to scan gives the same answer at each step. For the code the open brackets stand in two arrays.
+-- The scan byte by byte: what is left to scan gives the same answer at each step. For the code the open brackets are a list, the outermost first.
 use Prim.Native.Nat.{ℕ, zero, suc, ◌+◌, ◌-◌, ◌≤◌, ◌<◌}
 use mathlib.Core.Path.{◌≡◌, refl, ap, sym, ◌∙◌}
 use mathlib.Core.Bool.{true, false}

@@ -1,6 +1,6 @@
 // The fill of node words, places and pool from the tape of a text that was judged (document 01, "The table").
 // It is one loop over the nodes: neither the grammar nor the order of the text is repeated here.
-ghost use Rattle.std.specs.Prelude.{◌≡◌, ◌+◌, ◌*◌, ◌≤◌, length};
+ghost use Rattle.std.specs.Prelude.{◌≡◌, ◌+◌, ◌*◌, ◌≤◌, ◌<◌, length};
 ghost use Rattle.std.proofs.lemmas.List.Edits.{sets};
 ghost use Rattle.base.specs.rules.Limits.{most_bytes, most_nodes, missing};
 ghost use Rattle.syntax.specs.rules.Expression.{Expr};
@@ -12,7 +12,7 @@ ghost use Rattle.document.specs.rules.Table.{table_of};
 ghost use Rattle.document.specs.rules.Table as Table;
 ghost use Rattle.reader.specs.internal.Counts.{node_count};
 ghost use Rattle.reader.specs.internal.Tape.{Located, taped, Tape as TapeOf};
-ghost use Rattle.reader.specs.internal.Filling.{filling, held_at, next_row, said_at, PutString, RoomFor, SameSlices};
+ghost use Rattle.reader.specs.internal.Filling.{filling, held_at, next_row, PutString, RoomFor, SameSlices, Written};
 
 use super::tape::{Entry, Tape};
 use atoms::put_atom;
@@ -64,15 +64,13 @@ impl Lent<'_> {
         }
     }
 
-    // The row of a node.
-    fn row(&mut self, text: &[u8], node: usize, e: Entry)
-        requires { RoomFor text.now (filling node self.old) }
-        ensures row { filling (node + 1) self.new ≡ next_row text.now e (filling node self.old) }
+    // Writes the place and the record of a node whose strings are put. (It is in place twice, since a text has constants where an element has words.)
+    #[inline(always)]
+    fn write(&mut self, node: usize, e: &Entry, key: Span, typename: Span, own: Span)
+        requires { (record_length * node + record_length ≤ length self.old.nodes.now) × (node < length self.old.places.now) }
+        ensures written { Written e.now node self.old key typename own self.new }
         ensures same { SameSlices self.old self.new }
     {
-        let key = self.put(text, e.key);
-        let typename = self.put(text, e.typename);
-        let own = self.put(text, said(e));
         self.places[node] = e.place;
         put_record(
             self.nodes,
@@ -92,17 +90,22 @@ impl Lent<'_> {
             },
         );
     }
-}
 
-// Where the text that a node has of its own stands: only a text has one.
-#[tactic(auto, unfolding(crate::specs::internal::Filling::said_at))]
-fn said(e: Entry) -> u32
-    ensures { result ≡ said_at e }
-{
-    if e.class == Kind::TEXT.number as u32 {
-        return e.place;
+    // The row of a node. A text has no string but its own, and no other node has one of its own.
+    fn row(&mut self, text: &[u8], node: usize, e: &Entry)
+        requires { RoomFor text.now (filling node self.old) }
+        ensures row { filling (node + 1) self.new ≡ next_row text.now e.now (filling node self.old) }
+        ensures same { SameSlices self.old self.new }
+    {
+        if e.class == Kind::TEXT.number as u32 {
+            let own = self.put(text, e.place);
+            self.write(node, e, NO_STRING, NO_STRING, own);
+            return;
+        }
+        let key = self.put(text, e.key);
+        let typename = self.put(text, e.typename);
+        self.write(node, e, key, typename, NO_STRING);
     }
-    0
 }
 
 // Fills the document whose `count` nodes are on the tape, where there is room for them.
@@ -128,6 +131,6 @@ pub fn fill(
         bytes: 0,
     };
     for node in 0..count {
-        lent.row(text, node, tape[node]);
+        lent.row(text, node, &tape[node]);
     }
 }

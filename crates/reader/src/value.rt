@@ -15,7 +15,7 @@ ghost use Rattle.reader.specs.internal.ParameterValue.{HoldsOne, ReadsNumber, No
 
 use super::tape::{Tape, note_key, note_size, note_type};
 use super::walk::{Element, Opening, Reached, Refused, Walked, closes};
-use atoms::atom_fits;
+use atoms::atom_is_in;
 use base::Refusal;
 use characters::Alphabet;
 use kind::{Keyword, Kind};
@@ -105,9 +105,9 @@ fn is_value(text: &[u8], place: usize, kind: u8, class: u8) -> bool
     ensures { non_empty (atom_value (drop place text.now)) && result ≡ is_value kind class (atom_value (drop place text.now)) }
 {
     match class {
-        ID => atom_fits(text, place, Alphabet::Id),
-        TYPE_NAME => atom_fits(text, place, Alphabet::Type),
-        TARGET => atom_fits(text, place, target_sort(kind)),
+        ID => atom_is_in(text, place, Alphabet::Id),
+        TYPE_NAME => atom_is_in(text, place, Alphabet::Type),
+        TARGET => atom_is_in(text, place, target_sort(kind)),
         _ => false,
     }
 }

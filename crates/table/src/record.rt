@@ -1,5 +1,5 @@
 // A record written into a node table.
-ghost use Rattle.std.specs.Prelude.{◌≡◌, ◌+◌, ◌*◌, ◌≤◌, length};
+ghost use Rattle.std.specs.Prelude.{◌≡◌, ◌+◌, ◌*◌, ◌≤◌, ◌++◌, length, drop};
 ghost use Rattle.std.proofs.lemmas.List.Edits.{sets};
 ghost use Rattle.document.specs.rules.Record.{record_length};
 ghost use Rattle.table.specs.Stored.{words_of};
@@ -22,13 +22,22 @@ pub struct Record {
     pub height: u32,
 }
 
+// The first words of a slice become those of a record. They are assigned as one array: a copy from a slice would be tested for overlap.
+fn put_words(nodes: &mut [u32], words: [u32; RECORD])
+    requires { record_length ≤ length nodes.old }
+    ensures { nodes.new ≡ words ++ drop record_length nodes.old }
+{
+    if let Some(row) = nodes.first_chunk_mut() {
+        *row = words;
+    }
+}
+
 // Writes the record of node `i`.
 pub fn put_record(nodes: &mut [u32], i: usize, r: Record)
     requires { record_length * i + record_length ≤ length nodes.old }
     ensures { nodes.new ≡ sets nodes.old (record_length * i) (words_of r) }
 {
-    let at = RECORD * i;
-    nodes[at..at + RECORD].copy_from_slice(&[
+    let words = [
         r.kind,
         r.parent,
         r.end,
@@ -40,5 +49,7 @@ pub fn put_record(nodes: &mut [u32], i: usize, r: Record)
         r.text_length,
         r.width,
         r.height,
-    ]);
+    ];
+    let at = RECORD * i;
+    put_words(&mut nodes[at..], words);
 }

@@ -10,7 +10,7 @@ ghost use Rattle.document.specs.rules.Canonical.{value_before, size_before};
 ghost use Rattle.validate.specs.internal.DraftWalk.{TakesValues, row_values};
 
 use super::record::Row;
-use characters::{Alphabet, character};
+use characters::Alphabet;
 use inside::step;
 use kind::{Keyword, Kind};
 use table::{HEIGHT, KEY, KEY_LENGTH, MISSING, TYPE, TYPE_LENGTH, WIDTH, key_class, part};
@@ -30,7 +30,7 @@ pub fn state_after(kind: u8, state: u8, class: u8) -> Option<u8>
 fn fits(bytes: &[u8], alphabet: Alphabet) -> bool
     ensures { result ≡ every (character_of (alphabet_number alphabet)) bytes.now }
 {
-    bytes.iter().all(|&b| character(alphabet, b))
+    bytes.iter().all(|&b| alphabet.has(b))
 }
 
 // The alphabet of a value of a class in an element of a kind.

@@ -18,6 +18,8 @@ use Rattle.syntax.specs.reference.Scan.{Quoted, closed, unclosed, bad_escape, pi
 use Rattle.syntax.specs.rules.Byte.{byte_class, is_ordinary, ordinary_class}
 use Rattle.std.specs.Prelude.{Some, None, Result, Ok, Err}
 use Rattle.std.specs.Result.{is_err}
+use Rattle.characters.specs.declared.values.Alphabet.{Alphabet}
+use Rattle.characters.specs.Codes.{alphabet_number, IsAlphabetOf}
 use Rattle.atoms.specs.declared.pieces.PieceSeen.{PieceSeen}
 use Rattle.atoms.specs.declared.string.StringEnd.{StringEnd}
 use Rattle.atoms.specs.declared.string.BadString.{BadString}
@@ -27,6 +29,12 @@ use Rattle.elements.proofs.Characters.{none_high}
 use Rattle.characters.proofs.Symbols.{run_turn, run_stop}
 use Rattle.atoms.proofs.PieceAt.{piece_few, piece_good, piece_none, read_on}
 use Rattle.atoms.proofs.Contents.{is_closed, piece_closed, no_piece, closed_string, content_inner, good_number, faulty_nothing}
+
+-- The bytes that fit an alphabet are those that fit its number.
+pub fits_same : (n : ℕ) (a : Alphabet) → IsAlphabetOf n a → (s : List ℕ) → fits (alphabet_number a) s ≡ fits n s
+unfolding fits
+fits_same n a e [] = refl
+fits_same n a e (b ∷ s) = rw (e b, fits_same n a e s)
 
 -- Bytes one after another fit where both do.
 pub fits_append : (n : ℕ) (v w : List ℕ) → fits n (v ++ w) ≡ fits n v && fits n w

@@ -59,14 +59,12 @@ with_row at kind parent end width height key type text a = record {
   pool = sets a.pool a.bytes (key ++ (type ++ text));
 }
 
--- Only a text has what stands at its place in the pool.
-unfoldable pub said_at : Entry → ℕ
-said_at e = cond (eqb e.class Class.text) e.place 0
-
--- The row of the next node of the text s from its entry.
+-- The row of the next node of the text s from its entry. A text has what stands at its place, and any other node the strings that its values hold.
 unfoldable pub next_row : List ℕ → Entry → Filling → Filling
 next_row s e a =
-    with_row e.place e.class e.parent e.end e.width e.height (held_at s e.key) (held_at s e.typename) (held_at s (said_at e)) a
+    cond (eqb e.class Class.text)
+    (with_row e.place e.class e.parent e.end e.width e.height [] [] (held_at s e.place) a)
+    (with_row e.place e.class e.parent e.end e.width e.height (held_at s e.key) (held_at s e.typename) [] a)
 
 -- The string s was put into the pool between a and z, and r says where.
 pub record PutString (s : List ℕ) (a z : Lent) (r : Span) : Type 0 where
@@ -76,6 +74,26 @@ pub record PutString (s : List ℕ) (a z : Lent) (r : Span) : Type 0 where
   pub pool_is : z.pool.now ≡ sets a.pool.now a.bytes s
   pub nodes_are : z.nodes.now ≡ a.nodes.now
   pub places_are : z.places.now ≡ a.places.now
+
+-- The place and the record of node n, with strings that are put, were written between a and z.
+pub record Written (e : Entry) (n : ℕ) (a : Lent) (key type text : Span) (z : Lent) : Type 0 where
+  pub bytes_are : z.bytes ≡ a.bytes
+  pub pool_is : z.pool.now ≡ a.pool.now
+  pub places_are : z.places.now ≡ set a.places.now n e.place
+  pub nodes_are : z.nodes.now
+      ≡ sets a.nodes.now (record_length * n) (
+      e.class
+      ∷ e.parent
+      ∷ e.end
+      ∷ key.offset
+      ∷ key.length
+      ∷ type.offset
+      ∷ type.length
+      ∷ text.offset
+      ∷ text.length
+      ∷ e.width
+      ∷ e.height
+      ∷ [])
 
 -- In a text within the limits there is room for the row of the next node. A row has three strings of the text at most: so no place of the pool passes a word.
 pub record RoomFor (s : List ℕ) (a : Filling) : Type 0 where

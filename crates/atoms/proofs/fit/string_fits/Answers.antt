@@ -14,11 +14,11 @@ pub returns-in_default : goal.returns-in_default
 returns-in_default c =
     string_stopped c.args.text.now c.args.place _ c.loop-i.i c.loop-i.invariant c.loop-i-test.true (c.in_default.ensures c.loop-i-test.true)
 
-pub returns-then-not-character : goal.returns-then-not-character
-returns-then-not-character c =
+pub returns-then-not-has : goal.returns-then-not-has
+returns-then-not-has c =
     c.is_err.ensures.value
     ∙ string_refused c.args.text.now c.args.place _ c.loop-i.i c.loop-i.invariant c.loop-i-test.true c.in-Some.p (c.in-Some.ensures c.loop-i-test.true)
-    _ c.character.ensures c.if-not-character.true c.string_at.result c.string_at.ensures
+    _ c.has.ensures c.if-not-has.true c.string_at.result c.string_at.ensures
 
 pub loop-i-smaller : goal.loop-i-smaller
 loop-i-smaller c =
@@ -30,7 +30,7 @@ loop-i-smaller c =
 pub loop-i-preserved : goal.loop-i-preserved
 loop-i-preserved c =
     string_turn c.args.text.now c.args.place _ c.loop-i.i c.loop-i.invariant c.loop-i-test.true c.in-Some.p (c.in-Some.ensures c.loop-i-test.true)
-    _ c.character.ensures c.if-not-character.false
+    _ c.has.ensures c.if-not-has.false
 
 pub returns : goal.returns
 returns c = string_past c.args.text.now c.args.place _ c.loop-i.i c.loop-i.invariant c.loop-i-test.false

@@ -8,10 +8,10 @@ use Rattle.atoms.specs.Atom.{fits}
 use Rattle.atoms.proofs.fit.CharactersFit.{symbol_done, symbol_turn, symbol_refused}
 use Rattle.atoms.proofs.fit.uri_fits.Goals as goal
 
-pub returns-then-not-character : goal.returns-then-not-character
+pub returns-then-not-has : goal.returns-then-not-has
 unfolding alphabet_number
-returns-then-not-character c =
-    ap not c.is_ordinary-ordinary.ensures ∙ symbol_refused _ _ c.loop-i.i c.loop-i-test.true (sym c.character.ensures ∙ c.if-not-character.true) ∙ c.loop-i.invariant
+returns-then-not-has c =
+    ap not c.is_ordinary-ordinary.ensures ∙ symbol_refused _ _ c.loop-i.i c.loop-i-test.true (sym c.has.ensures ∙ c.if-not-has.true) ∙ c.loop-i.invariant
 
 pub returns-then-not-ordinary : goal.returns-then-not-ordinary
 returns-then-not-ordinary c =
@@ -20,7 +20,7 @@ returns-then-not-ordinary c =
 pub loop-i-preserved : goal.loop-i-preserved
 unfolding alphabet_number
 loop-i-preserved c =
-    symbol_turn _ _ c.loop-i.i c.loop-i-test.true (sym c.is_ordinary-ordinary.ensures ∙ c.if-not-ordinary.false) (sym c.character.ensures ∙ c.if-not-character.false)
+    symbol_turn _ _ c.loop-i.i c.loop-i-test.true (sym c.is_ordinary-ordinary.ensures ∙ c.if-not-ordinary.false) (sym c.has.ensures ∙ c.if-not-has.false)
     ∙ c.loop-i.invariant
 
 pub returns : goal.returns

@@ -8,14 +8,14 @@ use Rattle.atoms.specs.Atom.{fits}
 use Rattle.atoms.proofs.fit.CharactersFit.{symbol_turn, symbol_refused, named_ordinary}
 use Rattle.atoms.proofs.fit.word_fits.Goals as goal
 
-pub returns-then-not-character : goal.returns-then-not-character
-returns-then-not-character c =
-    ap not c.is_ordinary.ensures ∙ symbol_refused _ _ c.loop-i.i c.loop-i-test.true (sym c.character.ensures ∙ c.if-not-character.true) ∙ c.loop-i.invariant
+pub returns-then-not-has : goal.returns-then-not-has
+returns-then-not-has c =
+    ap not c.is_ordinary.ensures ∙ symbol_refused _ _ c.loop-i.i c.loop-i-test.true (sym c.has.ensures ∙ c.if-not-has.true) ∙ c.loop-i.invariant
 
 pub loop-i-preserved : goal.loop-i-preserved
 loop-i-preserved c = let text = c.args.text.now in
     let loop = c.loop-i in
-    let stands = sym c.character.ensures ∙ c.if-not-character.false in
+    let stands = sym c.has.ensures ∙ c.if-not-has.false in
     symbol_turn text _ loop.i c.loop-i-test.true (named_ordinary (alphabet_number c.args.alphabet) (get_or text loop.i 0) c.requires stands) stands ∙ loop.invariant
 
 pub returns : goal.returns

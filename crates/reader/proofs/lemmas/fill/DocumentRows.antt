@@ -22,7 +22,7 @@ use Rattle.document.proofs.BlockExpressions.{EndsFine}
 use Rattle.reader.specs.internal.Counts.{node_count, node_count_of_list, node_count_in}
 use Rattle.reader.specs.declared.tape.Entry.{Entry}
 use Rattle.reader.specs.internal.Tape.{Tape, not_met, entry_at, entered, with_end, left, taped, taped_list, taped_all, Located, LocatedAll}
-use Rattle.reader.specs.internal.Filling.{Filling, held_at, with_row, said_at, next_row}
+use Rattle.reader.specs.internal.Filling.{Filling, held_at, with_row, next_row}
 use Rattle.reader.proofs.lemmas.fill.SingleValues.{EachFine, element_fine, read_each}
 use Rattle.reader.proofs.lemmas.fill.Rows.{rows_of, rows_grow, rows_add}
 use Rattle.reader.proofs.lemmas.tape.AfterWalk.{length_taped, length_all, length_entered}
@@ -95,23 +95,19 @@ module _ (T t : Tape) (n at c parent : ℕ) (es : Exprs) (l : n + suc (node_coun
       rw own_entry (record { key_is = v.key_is; type_is = v.type_is; width_is = v.width_is; height_is = v.height_is })
 
 -- The rows of those entries.
-none_held : (s : List ℕ) → held_at s 0 ≡ []
-unfolding held_at
-none_held s = refl
-
 text_row_lem : (s : List ℕ) (x : Entry) (a : Filling) (at parent end : ℕ) (b : List ℕ)
     → x ≡ record { place = at; class = Class.text; parent = parent; end = end; key = 0; typename = 0; width = missing; height = missing }
     → (0 < at) × (atom_value (drop at s) ≡ b) → next_row s x a ≡ with_row at Class.text parent end missing missing [] [] b a
-unfolding next_row said_at held_at
+unfolding next_row held_at
 text_row_lem s x a at parent end b e (p, v) = rw (e, ne_eqb at 0 (λ q. omega arith), v)
 
 element_row_lem : (s : List ℕ) (x : Entry) (a : Filling) (at c parent end : ℕ) (es : Exprs) → Class.is_element c ≡ true → Entered x at c parent end
     → HoldsValues s x es
     → next_row s x a
     ≡ with_row at c parent end (width_in (trees_of es)) (height_in (trees_of es)) (key_in (trees_of es)) (type_in (trees_of es)) [] a
-unfolding next_row said_at
+unfolding next_row
 element_row_lem s x a at c parent end es i e v =
-    rw (e.class_is, element_no_text c i, e.place_is, e.parent_is, e.end_is, v.key_is, v.type_is, v.width_is, v.height_is, none_held s)
+    rw (e.class_is, element_no_text c i, e.place_is, e.parent_is, e.end_is, v.key_is, v.type_is, v.width_is, v.height_is)
 
 module _ (s : List ℕ) (T : Tape) where
   one_row : (a : Filling) → rows_of s T 1 a ≡ next_row s (entry_at T a.node) a

@@ -1,21 +1,24 @@
 -- Rows written one after the other, each from its entry on the tape.
 use Prim.Native.Nat.{ℕ, zero, suc, ◌+◌, ◌*◌, ◌≤◌}
 use mathlib.Core.Path.{◌≡◌, refl, ap, ◌∙◌}
-use mathlib.Core.List.{List, [], ◌∷◌, ◌++◌}
+use mathlib.Core.Bool.{false}
+use mathlib.Core.List.{List, [], ◌++◌}
 use native.Mathlib.Nat.{add-zero, add-suc}
 use native.Mathlib.Numerals.{add-one}
 use native.Mathlib.Omega.{arith}
 use lib.Dec.{eqb}
-use lib.ListN.{length, set, length-set}
+use lib.ListN.{length, length-set}
 use lib.Seq.{sets, length-sets}
+use borrow.Author.Tests.{eq-eqb}
 use Rattle.base.proofs.Booleans.{cond_case}
+use Rattle.elements.specs.rules.Class as Class
+use Rattle.document.specs.rules.Table.{offset}
 use Rattle.base.specs.rules.Limits.{most_bytes}
-use Rattle.document.specs.rules.Record.{record_length}
 use Rattle.reader.specs.declared.tape.Entry.{Entry}
 use Rattle.reader.specs.declared.fill.Lent.{Lent}
 use Rattle.reader.specs.declared.fill.Span.{Span}
 use Rattle.reader.specs.internal.Tape.{Tape, entry_at}
-use Rattle.reader.specs.internal.Filling.{Filling, filling, held_at, with_row, said_at, next_row, PutString}
+use Rattle.reader.specs.internal.Filling.{Filling, filling, held_at, with_row, next_row, PutString, Written}
 use Rattle.reader.proofs.lemmas.fill.Stores.{sets_on}
 use Rattle.reader.proofs.lemmas.walk.QuotedStrings.{atom_within}
 
@@ -23,23 +26,25 @@ pub held_within : (s : List ℕ) (p : ℕ) → length (held_at s p) ≤ length s
 unfolding held_at
 held_within s p = cond_case (λ (v : List ℕ). length v ≤ length s) (eqb p 0) (λ c. omega arith) (λ c. atom_within s p)
 
+-- Nothing is put where there is no string.
+pub nothing_put : (a : Lent) → PutString [] a a (record { offset = 0; length = 0 })
+unfolding offset
+nothing_put a = record { offset_is = refl; length_is = refl; bytes_are = omega arith; pool_is = refl; nodes_are = refl; places_are = refl }
+
 -- A row is written once its three strings are put, its place and its record.
-pub rowed : (s : List ℕ) (e : Entry) (n : ℕ) (a b c d : Lent) (k t x : Span) (w p : List ℕ) → PutString (held_at s e.key) a b k
-    → PutString (held_at s e.typename) b c t → PutString (held_at s (said_at e)) c d x → p ≡ set d.places.now n e.place
-    → w ≡ sets d.nodes.now (record_length * n)
-    (e.class ∷ e.parent ∷ e.end ∷ k.offset ∷ k.length ∷ t.offset ∷ t.length ∷ x.offset ∷ x.length ∷ e.width ∷ e.height ∷ [])
-    → ◌≡◌ {A = Filling} (record { node = n + 1; bytes = d.bytes; words = w; places = p; pool = d.pool.now }) (next_row s e (filling n a))
-unfolding next_row with_row
-rowed s e n a b c d k t x w p pk pt px ep ew =
-    let key : List ℕ = held_at s e.key in
-    let type : List ℕ = held_at s e.typename in
-    let own : List ℕ = held_at s (said_at e) in
+pub rowed : (e : Entry) (n : ℕ) (key type own : List ℕ) (a b c d z : Lent) (k t x : Span) → PutString key a b k → PutString type b c t
+    → PutString own c d x → Written e n d k t x z
+    → filling (n + 1) z ≡ with_row e.place e.class e.parent e.end e.width e.height key type own (filling n a)
+unfolding with_row
+rowed e n key type own a b c d z k t x pk pt px w =
     let pool : d.pool.now ≡ sets a.pool.now a.bytes (key ++ (type ++ own)) =
     sets_on a.pool.now b.pool.now d.pool.now a.bytes b.bytes key (type ++ own) (key ++ (type ++ own)) pk.pool_is
     (sets_on b.pool.now c.pool.now d.pool.now b.bytes c.bytes type own (type ++ own) pt.pool_is px.pool_is pt.bytes_are refl) pk.bytes_are refl in
     rw (
-      ep,
-      ew,
+      w.bytes_are,
+      w.pool_is,
+      w.places_are,
+      w.nodes_are,
       pool,
       px.offset_is,
       px.length_is,
@@ -58,6 +63,17 @@ rowed s e n a b c d k t x w p pk pt px ep ew =
       pk.places_are,
     )
 
+-- It is the row of a text, and of any other node.
+pub text_rowed : (s : List ℕ) (e : Entry) (a : Filling) → e.class ≡ Class.text
+    → next_row s e a ≡ with_row e.place e.class e.parent e.end e.width e.height [] [] (held_at s e.place) a
+unfolding next_row
+text_rowed s e a f = rw (eq-eqb e.class Class.text f)
+
+pub element_rowed : (s : List ℕ) (e : Entry) (a : Filling) → eqb e.class Class.text ≡ false
+    → next_row s e a ≡ with_row e.place e.class e.parent e.end e.width e.height (held_at s e.key) (held_at s e.typename) [] a
+unfolding next_row
+element_rowed s e a f = rw f
+
 -- The first k rows.
 unfoldable pub rows_of : List ℕ → Tape → ℕ → Filling → Filling
 rows_of s t zero a = a
@@ -72,12 +88,20 @@ pub record Grown (s : List ℕ) (k : ℕ) (a z : Filling) : Type 0 where
 
 row_grows : (s : List ℕ) (e : Entry) (a : Filling) → Grown s 1 a (next_row s e a)
 unfolding next_row with_row
-row_grows s e a = record {
-  node_is = refl;
-  bytes_within = λ h. omega (arith, held_within s e.key, held_within s e.typename, held_within s (said_at e));
-  words_long = simp length-sets;
-  places_long = simp length-set;
-}
+row_grows s e a =
+    cond_case (λ (z : Filling). Grown s 1 a z) (eqb e.class Class.text)
+    (λ f. record {
+      node_is = refl;
+      bytes_within = λ h. omega (arith, held_within s e.place);
+      words_long = simp length-sets;
+      places_long = simp length-set;
+    })
+    (λ f. record {
+      node_is = refl;
+      bytes_within = λ h. omega (arith, held_within s e.key, held_within s e.typename);
+      words_long = simp length-sets;
+      places_long = simp length-set;
+    })
 
 pub rows_grow : (s : List ℕ) (t : Tape) (k : ℕ) (a : Filling) → Grown s k a (rows_of s t k a)
 unfolding rows_of

@@ -1,11 +1,11 @@
--- `record::put_record` meets its contract: the words copied are one run of stores.
+-- `record::put_record` meets its contract: the row assigned is one run of stores.
 use Prim.Native.Nat.{◌*◌}
 use mathlib.Core.Path.{refl}
 use native.Mathlib.Omega.{arith}
-use Rattle.base.proofs.Copied.{part_stored}
 use Rattle.document.specs.rules.Record.{record_length}
 use Rattle.table.specs.Stored.{words_of}
+use Rattle.table.proofs.Stores.{row_stored}
 use Rattle.table.proofs.record.put_record.Goals as goal
 
 pub returns : goal.returns
-returns c = rw c.copy_from_slice.ensures.after (part_stored c.args.nodes.now (words_of c.args.r) (record_length * c.args.i) 11 refl (omega arith))
+returns c = row_stored c.args.nodes.now (words_of c.args.r) _ (record_length * c.args.i) 11 refl (omega arith) c.put_words.ensures
