@@ -1,11 +1,11 @@
 // An index of the ids of blocks, so that faults 16 to 18 take no pass over the nodes for each id.
-ghost use Rattle.std.specs.Prelude.{◌≡◌, ◌&&◌, ◌+◌, ◌*◌, ◌<◌, ◌≤◌, Bool, false, length};
+ghost use Rattle.std.specs.Prelude.{◌≡◌, ◌&&◌, ◌+◌, ◌*◌, ◌<◌, ◌≤◌, Bool, false, true, length, MatchOption};
 ghost use Rattle.base.specs.rules.Limits.{most_nodes};
 ghost use Rattle.document.specs.rules.Record.{record_length};
 ghost use Rattle.document.specs.rules.Record as Word;
 ghost use Rattle.document.specs.reference.Check.{is_among, holds_id};
 ghost use Rattle.table.specs.Stored.{word_at};
-ghost use Rattle.validate.specs.internal.TableWords.{entry_of_node, wanted, repeats_at};
+ghost use Rattle.validate.specs.internal.TableWords.{key_at, entry_of_node, wanted, repeats_at};
 ghost use Rattle.validate.specs.internal.IdIndex.{slot_of, Indexed};
 
 use super::lent::Table;
@@ -61,11 +61,26 @@ fn slot(id: &[u8]) -> usize
     h % MOST_NODES
 }
 
+// The id of node `i`, where it is such a block and has one. It stands in place at its callers, so that no Option goes through memory.
+#[inline(always)]
+fn id_of<'a>(table: &Table<'a>, i: usize, target: Target) -> Option<&'a [u8]>
+    ensures { let words = table.now.nodes.now in
+        let bytes = table.now.pool.now in
+        let held = wanted target (word_at words i Word.kind) && holds_id (entry_of_node words bytes i) in
+        MatchOption result (held ≡ false) (λ id. (held ≡ true) × (id.now ≡ key_at words bytes i)) }
+{
+    if !target.takes(table.word(i, KIND)) {
+        return None;
+    }
+    let id = table.key(i);
+    if id.is_empty() { None } else { Some(id) }
+}
+
 // Whether node `i` is such a block, and has an id.
 fn has_id(table: &Table, i: usize, target: Target) -> bool
     ensures { result ≡ wanted target (word_at table.now.nodes.now i Word.kind) && holds_id (entry_of_node table.now.nodes.now table.now.pool.now i) }
 {
-    target.takes(table.word(i, KIND)) && !table.key(i).is_empty()
+    id_of(table, i, target).is_some()
 }
 
 impl<'a> IdIndex<'a> {
@@ -94,7 +109,9 @@ impl<'a> IdIndex<'a> {
         let mut j = self.heads[s] as usize;
         while 0 < j {
             let i = j - 1;
-            if has_id(&self.table, i, target) && id == self.table.key(i) {
+            if let Some(key) = id_of(&self.table, i, target)
+                && id == key
+            {
                 return true;
             }
             j = self.nexts[i] as usize;
