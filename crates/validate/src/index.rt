@@ -9,6 +9,7 @@ ghost use Rattle.validate.specs.internal.TableWords.{key_at, entry_of_node, want
 ghost use Rattle.validate.specs.internal.IdIndex.{slot_of, Indexed};
 
 use super::lent::Table;
+use super::record::Row;
 use base::limit::MOST_NODES;
 use kind::Kind;
 use table::KIND;
@@ -61,18 +62,20 @@ fn slot(id: &[u8]) -> usize
     h % MOST_NODES
 }
 
-// The id of node `i`, where it is such a block and has one. It stands in place at its callers, so that no Option goes through memory.
+// The id of node `i`, where it is such a block and has one: its record is looked for once, and its words are read with no test for each. It stands in
+// place at its callers, so that no Option goes through memory.
 #[inline(always)]
-fn id_of<'a>(table: &Table<'a>, i: usize, target: Target) -> Option<&'a [u8]>
+fn id_of<'a>(table: &'a Table<'a>, i: usize, target: Target) -> Option<&'a [u8]>
     ensures { let words = table.now.nodes.now in
         let bytes = table.now.pool.now in
         let held = wanted target (word_at words i Word.kind) && holds_id (entry_of_node words bytes i) in
         MatchOption result (held ≡ false) (λ id. (held ≡ true) × (id.now ≡ key_at words bytes i)) }
 {
-    if !target.takes(table.word(i, KIND)) {
+    let row = Row::of(table, i)?;
+    if !target.takes(row.words[KIND] as usize) {
         return None;
     }
-    let id = table.key(i);
+    let id = row.key();
     if id.is_empty() { None } else { Some(id) }
 }
 

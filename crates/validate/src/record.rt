@@ -6,7 +6,7 @@ use super::lent::Table;
 use kind::Kind;
 use table::{
     END, HEIGHT, KEY, KEY_LENGTH, KIND, MISSING, PARENT, RECORD, TEXT, TEXT_LENGTH, TYPE,
-    TYPE_LENGTH, WIDTH,
+    TYPE_LENGTH, WIDTH, part,
 };
 
 // What stands for a missing width or height, as a word.
@@ -29,6 +29,7 @@ pub struct Row<'a> {
 
 impl<'a> Row<'a> {
     ghost use Rattle.table.specs.Stored.{word_at};
+    ghost use Rattle.validate.specs.internal.TableWords.{key_at};
     ghost use Rattle.validate.specs.internal.DraftWalk.{Decided, DecidesEnd, NamesStringAt, strings_end, RecordAt, TextAlone, ElementAt, value_levels};
 
     // The record of node `i`, where the table has it.
@@ -46,6 +47,17 @@ impl<'a> Row<'a> {
             number: i,
             words,
         })
+    }
+
+    // Its id or target.
+    pub fn key(&self) -> &'a [u8]
+        ensures { result.now ≡ key_at self.now.table.now.nodes.now self.now.table.now.pool.now self.now.number }
+    {
+        part(
+            self.table.pool,
+            self.words[KEY] as usize,
+            self.words[KEY_LENGTH] as usize,
+        )
     }
 
     // Where the string ends that words `j` and `j + 1` name, if it stands at `p` in the pool.

@@ -1,23 +1,22 @@
 -- `index::id_of` meets its contract.
-use mathlib.Core.Path.{◌≡◌, ◌∙◌, sym}
-use mathlib.Core.Bool.{true, false}
-use lib.Dec.{eqb}
-use lib.ListN.{length}
-use Rattle.base.proofs.Booleans.{and_false}
-use Rattle.table.specs.Stored.{word_at}
-use Rattle.validate.specs.internal.TableWords.{key_at, wanted}
-use Rattle.validate.proofs.lemmas.index.BlockIds.{id_test}
+use mathlib.Core.Path.{◌∙◌, sym}
+use Rattle.validate.proofs.lemmas.index.RowIds.{none_past, none_other, none_empty, key_is, held_one}
 use Rattle.validate.proofs.index.id_of.Goals as goal
+
+pub returns-in_err-row : goal.returns-in_err-row
+returns-in_err-row c = rw c.from_residual.ensures (none_past c.args.table.now c.args.target c.args.i c.in_err-row.ensures)
+
+pub returns-then-not-takes : goal.returns-then-not-takes
+returns-then-not-takes c =
+    none_other c.args.table.now c.args.target c.args.i c.in_ok-row.row c.in_ok-row.ensures (sym c.takes.ensures ∙ c.if-not-takes.true)
 
 pub returns-then-is_empty : goal.returns-then-is_empty
 returns-then-is_empty c =
-    let table = c.args.table.now in
-    let e : eqb (length (key_at table.nodes.now table.pool.now c.args.i)) 0 ≡ true = rw c.key-id.ensures at (sym c.is_empty.ensures ∙ c.if-is_empty.true) in
-    id_test table.nodes.now table.pool.now c.args.target c.args.i ∙ rw (e, and_false _)
+    none_empty c.args.table.now c.args.target c.args.i c.in_ok-row.row c.in_ok-row.ensures _ c.key-id.ensures (sym c.is_empty.ensures ∙ c.if-is_empty.true)
 
 pub returns-else-is_empty : goal.returns-else-is_empty
-returns-else-is_empty c =
-    let table = c.args.table.now in
-    let t : wanted c.args.target (word_at table.nodes.now c.args.i 0) ≡ true = rw c.word.ensures at (sym c.takes.ensures ∙ c.if-not-takes.false) in
-    let e : eqb (length (key_at table.nodes.now table.pool.now c.args.i)) 0 ≡ false = rw c.key-id.ensures at (sym c.is_empty.ensures ∙ c.if-is_empty.false) in
-    (id_test table.nodes.now table.pool.now c.args.target c.args.i ∙ rw (t, e), c.key-id.ensures)
+returns-else-is_empty c = (
+  held_one c.args.table.now c.args.target c.args.i c.in_ok-row.row c.in_ok-row.ensures _ c.key-id.ensures (sym c.takes.ensures ∙ c.if-not-takes.false)
+      (sym c.is_empty.ensures ∙ c.if-is_empty.false),
+  key_is c.args.table.now c.args.target c.args.i c.in_ok-row.row c.in_ok-row.ensures _ c.key-id.ensures,
+)
