@@ -95,10 +95,10 @@ pub record Written (e : Entry) (n : ℕ) (a : Lent) (key type text : Span) (z : 
       ∷ e.height
       ∷ [])
 
--- In a text within the limits there is room for the row of the next node. A row has three strings of the text at most: so no place of the pool passes a word.
+-- In a text within the limits there is room for the row of the next node. A row has two strings of the text at most: so no place of the pool passes a word.
 pub record RoomFor (s : List ℕ) (a : Filling) : Type 0 where
   pub short : length s ≤ most_bytes
   pub few : a.node < most_nodes
   pub words_within : record_length * a.node + record_length ≤ length a.words
   pub places_within : a.node < length a.places
-  pub bytes_within : a.bytes ≤ 3 * most_bytes * a.node
+  pub bytes_within : a.bytes ≤ 2 * most_bytes * a.node

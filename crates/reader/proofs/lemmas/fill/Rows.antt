@@ -79,10 +79,10 @@ unfoldable pub rows_of : List ℕ → Tape → ℕ → Filling → Filling
 rows_of s t zero a = a
 rows_of s t (suc k) a = next_row s (entry_at t (rows_of s t k a).node) (rows_of s t k a)
 
--- A row is one node, and three strings of the text at most; and the memory is as long as it was.
+-- A row is one node, and two strings of the text at most; and the memory is as long as it was.
 pub record Grown (s : List ℕ) (k : ℕ) (a z : Filling) : Type 0 where
   pub node_is : z.node ≡ a.node + k
-  pub bytes_within : length s ≤ most_bytes → z.bytes ≤ a.bytes + 3 * most_bytes * k
+  pub bytes_within : length s ≤ most_bytes → z.bytes ≤ a.bytes + 2 * most_bytes * k
   pub words_long : length z.words ≡ length a.words
   pub places_long : length z.places ≡ length a.places
 
