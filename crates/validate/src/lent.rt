@@ -1,10 +1,9 @@
 // The words and the bytes of a table and its pool, whatever they say.
 ghost use Rattle.std.specs.Prelude.{◌≡◌, ◌*◌, ◌^◌, ◌<◌, ◌≤◌, length, MatchOption};
 ghost use Rattle.document.specs.rules.Record.{record_length};
-ghost use Rattle.table.specs.Stored.{word_at};
 ghost use Rattle.validate.specs.internal.TableWords.{key_at};
 
-use table::{KEY, RECORD, string, word};
+use table::{KEY, RECORD, string};
 
 // The words of `count` records, and the bytes of their strings.
 #[derive(Clone, Copy)]
@@ -43,13 +42,6 @@ impl<'a> Table<'a> {
             count,
             pool: &pool[..bytes],
         })
-    }
-
-    // Word `j` of the record of node `i`, and 0 past the end.
-    pub fn word(&self, i: usize, j: usize) -> usize
-        ensures { result ≡ word_at self.now.nodes.now i j }
-    {
-        word(self.nodes, i, j)
     }
 
     // The id or target of node `i`.
