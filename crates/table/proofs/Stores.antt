@@ -9,6 +9,7 @@ use Rattle.std.proofs.lemmas.List.{append-nil, take_all}
 use Rattle.base.proofs.Copied.{part_stored}
 
 -- One store after the other, at k and the places after it, counted from i.
+-- No proof of this repository uses it or its law now. They are kept since other crates can cite them.
 abbrev pub stores_from : List ℕ → ℕ → ℕ → List ℕ → List ℕ
 stores_from l i k [] = l
 stores_from l i k (x ∷ xs) = stores_from (set l (i + k) x) i (k + 1) xs
